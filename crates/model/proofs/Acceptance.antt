@@ -1,0 +1,181 @@
+-- The test for an accepted survey and its facts say the same, and what they give for the graph.
+-- Assumes nothing.
+use mathlib.Core.Path.{_≡_, refl, sym, ap, _∙_, subst}
+use mathlib.Core.Bool.{Bool, true, false, not, _&&_, _||_}
+use mathlib.Core.List.{List}
+use Prim.Native.Nat.{ℕ, zero, suc, _+_, _/_, _%_, _≤_, _<_}
+use borrow.Author.Tests.{le-ltb, ltb-false}
+use lib.Dec.{T, eqb, ltb, leb, eqb→eq, leb→le, le→leb, ltb→lt, lt→ltb, T-not, not-T}
+use lib.ListN.{length, getD}
+use Rattle.model.specs.Basics.{upTo, has, all, keep}
+use Rattle.model.specs.Survey.{Graph, neighboursOf, linked, ascending, isSurvey, badSize, accepted, IsSurvey, IsGraph, Accepted}
+use Rattle.model.proofs.Tests.{and-l, and-r, and-i, or-false, of-or-false, T-false, eq-T}
+use Rattle.model.proofs.Lists.{of-all, all-of, has-upTo, of-upTo, keep-same}
+use Rattle.model.proofs.Ascending.{ascending-keep}
+
+module _ (n : ℕ) (starts neighbours : List ℕ) where
+  -- what is asked of an entry x of node v
+  own : ℕ → ℕ → Bool
+  own v x = ltb x n && not (eqb x v) && has v (neighboursOf starts neighbours x)
+
+  pub survey-facts : T (isSurvey n starts neighbours) → IsSurvey n starts neighbours
+  unfolding isSurvey own
+  survey-facts t =
+      let G : Graph = neighboursOf starts neighbours in
+      let last = getD starts n 0 in
+      let A = eqb (getD starts 0 0) 0 in
+      let B = all (λ v. leb (getD starts v 0) (getD starts (v + 1) 0)) (upTo n) in
+      let C = eqb (last % 2) 0 in
+      let D = leb (last / 2) 16384 in
+      let E = leb last (length neighbours) in
+      let F = all (λ v. ascending (G v)) (upTo n) in
+      let H = all (λ v. all (λ x. own v x) (G v)) (upTo n) in
+      let t6 : T (A && B && C && D && E && F) = and-l (A && B && C && D && E && F) H t in
+      let t5 : T (A && B && C && D && E) = and-l (A && B && C && D && E) F t6 in
+      let t4 : T (A && B && C && D) = and-l (A && B && C && D) E t5 in
+      let t3 : T (A && B && C) = and-l (A && B && C) D t4 in
+      let t2 : T (A && B) = and-l (A && B) C t3 in
+      let entry : (v x : ℕ) → v < n → T (has x (G v)) → T (own v x) =
+      λ v x h m. of-all (λ x. own v x) (G v) (of-all (λ v. all (λ x. own v x) (G v)) (upTo n) (and-r (A && B && C && D && E && F) H t) v (has-upTo n v h)) x m in
+      record {
+        first = eqb→eq (getD starts 0 0) 0 (and-l A B t2);
+        rising = λ v h. leb→le (getD starts v 0) (getD starts (v + 1) 0)
+            (of-all (λ v. leb (getD starts v 0) (getD starts (v + 1) 0)) (upTo n) (and-r A B t2) v (has-upTo n v h));
+        even = eqb→eq (last % 2) 0 (and-r (A && B) C t3);
+        links = leb→le (last / 2) 16384 (and-r (A && B && C) D t4);
+        within = leb→le last (length neighbours) (and-r (A && B && C && D) E t5);
+        sorted = λ v h. of-all (λ v. ascending (G v)) (upTo n) (and-r (A && B && C && D && E) F t6) v (has-upTo n v h);
+        apart = λ v x h m e. T-not (eqb x v) (and-r (ltb x n) (not (eqb x v)) (and-l (ltb x n && not (eqb x v)) (has v (G x)) (entry v x h m))) (eq-T x v e);
+        graph = record {
+          below = λ v x h m. ltb→lt x n (and-l (ltb x n) (not (eqb x v)) (and-l (ltb x n && not (eqb x v)) (has v (G x)) (entry v x h m)));
+          symmetric = λ v x h m. and-r (ltb x n && not (eqb x v)) (has v (G x)) (entry v x h m);
+        };
+      }
+
+  pub survey-test : IsSurvey n starts neighbours → T (isSurvey n starts neighbours)
+  unfolding isSurvey own
+  survey-test s =
+      let G : Graph = neighboursOf starts neighbours in
+      let last = getD starts n 0 in
+      let A = eqb (getD starts 0 0) 0 in
+      let B = all (λ v. leb (getD starts v 0) (getD starts (v + 1) 0)) (upTo n) in
+      let C = eqb (last % 2) 0 in
+      let D = leb (last / 2) 16384 in
+      let E = leb last (length neighbours) in
+      let F = all (λ v. ascending (G v)) (upTo n) in
+      let H = all (λ v. all (λ x. own v x) (G v)) (upTo n) in
+      and-i (A && B && C && D && E && F) H
+      (and-i (A && B && C && D && E) F
+      (and-i (A && B && C && D) E
+      (and-i (A && B && C) D
+      (and-i (A && B) C
+      (and-i A B (eq-T (getD starts 0 0) 0 (s .first))
+      (all-of (λ v. leb (getD starts v 0) (getD starts (v + 1) 0)) (upTo n)
+      (λ v h. le→leb (getD starts v 0) (getD starts (v + 1) 0) (s .rising v (of-upTo n v h)))))
+      (eq-T (last % 2) 0 (s .even)))
+      (le→leb (last / 2) 16384 (s .links)))
+      (le→leb last (length neighbours) (s .within)))
+      (all-of (λ v. ascending (G v)) (upTo n) (λ v h. s .sorted v (of-upTo n v h))))
+      (all-of (λ v. all (λ x. own v x) (G v)) (upTo n) (λ v h.
+      all-of (λ x. own v x) (G v) (λ x m.
+      let b = of-upTo n v h in
+      and-i (ltb x n && not (eqb x v)) (has v (G x))
+      (and-i (ltb x n) (not (eqb x v)) (lt→ltb x n (s .graph .below v x b m)) (not-T (eqb x v) (λ e. s .apart v x b m (eqb→eq x v e))))
+      (s .graph .symmetric v x b m))))
+
+-- ---- the same for acceptance
+
+pub good-size : (n : ℕ) → 1 ≤ n → n ≤ 1024 → badSize n ≡ false
+unfolding badSize
+good-size n p q = or-false (ltb n 1) (ltb 1024 n) (le-ltb n 1 p) (le-ltb 1024 n q)
+
+pub size-bounds : (n : ℕ) → badSize n ≡ false → (1 ≤ n) × (n ≤ 1024)
+unfolding badSize
+size-bounds n e = let h = of-or-false (ltb n 1) (ltb 1024 n) e in (ltb-false n 1 (h .0), ltb-false 1024 n (h .1))
+
+pub accepted-facts : (n : ℕ) (starts neighbours : List ℕ) → T (accepted n starts neighbours) → Accepted n starts neighbours
+unfolding accepted
+accepted-facts n starts neighbours t =
+    let A = not (badSize n) in
+    let B = leb (n + 1) (length starts) in
+    let C = isSurvey n starts neighbours in
+    let b = size-bounds n (T-false (badSize n) (and-l A B (and-l (A && B) C t))) in
+    record {
+      some-node = b .0;
+      size = b .1;
+      room = leb→le (n + 1) (length starts) (and-r A B (and-l (A && B) C t));
+      lists = survey-facts n starts neighbours (and-r (A && B) C t);
+    }
+
+pub facts-accepted : (n : ℕ) (starts neighbours : List ℕ) → Accepted n starts neighbours → T (accepted n starts neighbours)
+unfolding accepted
+facts-accepted n starts neighbours f =
+    let A = not (badSize n) in
+    let B = leb (n + 1) (length starts) in
+    let C = isSurvey n starts neighbours in
+    and-i (A && B) C
+    (and-i A B (subst (λ (b : Bool). T (not b)) (sym (good-size n (f .some-node) (f .size))) tt) (le→leb (n + 1) (length starts) (f .room)))
+    (survey-test n starts neighbours (f .lists))
+
+-- ---- accepted lists are an undirected graph without loops on n nodes, whatever stands past the entries used
+
+module _ (n : ℕ) (G : Graph) where
+  -- what a link says
+  pub record Link (a b : ℕ) : Type 0 where
+    pub first : a < n
+    pub second : b < n
+    pub there : T (has b (G a))
+    pub back : T (has a (G b))
+
+  pub linked-is : (a b : ℕ) → T (linked n G a b) → Link a b
+  unfolding linked
+  linked-is a b t =
+      let A = ltb a n in
+      let B = ltb b n in
+      let C = has b (G a) in
+      let D = has a (G b) in
+      record {
+        first = ltb→lt a n (and-l A B (and-l (A && B) C (and-l (A && B && C) D t)));
+        second = ltb→lt b n (and-r A B (and-l (A && B) C (and-l (A && B && C) D t)));
+        there = and-r (A && B) C (and-l (A && B && C) D t);
+        back = and-r (A && B && C) D t;
+      }
+
+  pub is-linked : (a b : ℕ) → Link a b → T (linked n G a b)
+  unfolding linked
+  is-linked a b l =
+      let A = ltb a n in
+      let B = ltb b n in
+      let C = has b (G a) in
+      let D = has a (G b) in
+      and-i (A && B && C) D (and-i (A && B) C (and-i A B (lt→ltb a n (l .first)) (lt→ltb b n (l .second))) (l .there)) (l .back)
+
+  pub linked-has : (a b : ℕ) → T (linked n G a b) → T (has b (G a))
+  linked-has a b t = linked-is a b t .there
+
+  pub linked-ends : (a b : ℕ) → a < n → T (linked n G a b) → b < n
+  linked-ends a b h t = linked-is a b t .second
+
+  pub linked-sym : (a b : ℕ) → T (linked n G a b) → T (linked n G b a)
+  linked-sym a b t = let l = linked-is a b t in is-linked b a (record { first = l .second; second = l .first; there = l .back; back = l .there })
+
+  -- where neighbours lie below n and stand at each other, a neighbour is linked
+  pub linked-of : IsGraph n G → (a b : ℕ) → a < n → T (has b (G a)) → T (linked n G a b)
+  linked-of g a b h m = is-linked a b (record { first = h; second = g .below a b h m; there = m; back = g .symmetric a b h m })
+
+module _ (n : ℕ) (starts neighbours : List ℕ) (acc : Accepted n starts neighbours) where
+  abbrev pub graph : Graph
+  graph = neighboursOf starts neighbours
+
+  pub no-loop : (a : ℕ) → T (linked n (neighboursOf starts neighbours) a a) → ⊥
+  no-loop a t = let l = linked-is n (neighboursOf starts neighbours) a a t in acc .lists .apart a a (l .first) (l .there) refl
+
+  -- the neighbour count is the number of linked nodes
+  pub degree : (v : ℕ) → v < n → length (keep (linked n (neighboursOf starts neighbours) v) (upTo n)) ≡ length (neighboursOf starts neighbours v)
+  degree v h =
+      let G : Graph = neighboursOf starts neighbours in
+      ap length (
+        keep-same (linked n G v) (λ x. has x (G v)) (upTo n)
+            (λ x m. linked-has n G v x) (λ x m. linked-of n G (acc .lists .graph) v x h)
+        ∙ ascending-keep (G v) n (acc .lists .sorted v h) (λ x m. acc .lists .graph .below v x h m)
+      )

@@ -1,0 +1,214 @@
+-- The report table of a survey: none exactly where no chain joins the pair, and else at most two above the fewest links.
+-- Assumes nothing. Holds for every threshold s.
+use mathlib.Core.Path.{_≡_, refl, sym, ap, ap₂, _∙_, subst}
+use mathlib.Core.Logic.{_⊎_, inl, inr}
+use mathlib.Core.Bool.{Bool, true, false, not, _&&_, _||_}
+use mathlib.Core.List.{List, [], _∷_, foldr}
+use Prim.Native.Nat.{ℕ, zero, suc, _+_, _≤_, _<_, zero-le, suc-le-suc, min}
+use native.Mathlib.Nat.{zero-add, suc-add, le-refl, le-trans, le-antisymm, le-of-eq, min-le-left, min-le-right}
+use native.Mathlib.Omega.{arith}
+use native.Mathlib.Decide.{decLe}
+use lib.Dec.{T, eqb, eqb→eq, eqb-refl, not-T}
+use Rattle.model.specs.Basics.{none, if_then_else_, has}
+use Rattle.model.specs.Graph.{Edges, Chain, here, link, Fewest, fewest}
+use Rattle.model.specs.Survey.{Graph, linked, IsGraph}
+use Rattle.model.specs.Hubs.{isHigh, isLow, closed, hubs}
+use Rattle.model.specs.Tables.{table, entry, fullTable, lowLinks, lowTable, sum, via, reportTable}
+use Rattle.model.specs.Demand.{Allowed}
+use Rattle.model.proofs.Tests.{and-l, and-r, and-i, passes}
+use Rattle.model.proofs.Lists.{of-cons, has-head, has-tail}
+use Rattle.model.proofs.Chains.{append, turn, widen, inside, fewest-cases}
+use Rattle.model.proofs.Acceptance.{linked-of, linked-has, linked-ends, linked-sym}
+use Rattle.model.proofs.Entries.{entry-table}
+use Rattle.model.proofs.Covering.{hubs-cover, hubs-below}
+use Rattle.model.proofs.TableLaws.{full-is, full-joined, low-is, low-joined, low-widen}
+
+-- ---- the least of a list of candidates
+
+module _ (f : ℕ → ℕ) (base : ℕ) where
+  pub least : List ℕ → ℕ
+  least hs = foldr (λ h x. min (f h) x) base hs
+
+  least-base : (hs : List ℕ) → least hs ≤ base
+  unfolding least
+  least-base [] = le-refl base
+  least-base (h ∷ hs) = le-trans (min-le-right (f h) (least hs)) (least-base hs)
+
+  least-at : (hs : List ℕ) (h : ℕ) → T (has h hs) → least hs ≤ f h
+  unfolding least has
+  least-at [] h m = absurd m
+  least-at (x ∷ xs) h m = go (of-cons h x xs m) (λ r. least-at xs h r)
+    where
+      go : (h ≡ x) ⊎ T (has h xs) → (T (has h xs) → least xs ≤ f h) → min (f x) (least xs) ≤ f h
+      go (inl e) rec = subst (λ (z : ℕ). min (f x) (least xs) ≤ f z) (sym e) (min-le-left (f x) (least xs))
+      go (inr r) rec = le-trans (min-le-right (f x) (least xs)) (rec r)
+
+  pub least-cases : (hs : List ℕ) → (least hs ≡ base) ⊎ ((h : ℕ) × T (has h hs) × (least hs ≡ f h))
+  unfolding least
+  least-cases [] = inl refl
+  least-cases (x ∷ xs) = go (decLe (f x) (least xs)) (least-cases xs)
+    where
+      go : Dec (f x ≤ least xs) → (least xs ≡ base) ⊎ ((h : ℕ) × T (has h xs) × (least xs ≡ f h))
+          → (min (f x) (least xs) ≡ base) ⊎ ((h : ℕ) × T (has h (x ∷ xs)) × (min (f x) (least xs) ≡ f h))
+      go (yes l) r = inr (x, has-head x xs, omega arith)
+      go (no l) (inl e) = inl (omega arith)
+      go (no l) (inr r) = inr (r .0, has-tail (r .0) x xs (r .1), omega (arith, r .2))
+
+-- ---- a sum of two entries
+
+pub data Sum (x y z : ℕ) : Type 0 where
+  whole : (x ≡ none → ⊥) → (y ≡ none → ⊥) → z ≡ x + y → Sum x y z
+  part : z ≡ none → (x ≡ none) ⊎ (y ≡ none) → Sum x y z
+
+pub sum-is : (x y : ℕ) → Sum x y (sum x y)
+unfolding sum
+sum-is x y = go (eqb x none) refl (eqb y none) refl
+  where
+    unequal : (z : ℕ) → eqb z none ≡ false → z ≡ none → ⊥
+    unequal z e q = subst T (sym (ap (λ (w : ℕ). eqb w none) q) ∙ e) (eqb-refl none)
+
+    go : (b : Bool) → eqb x none ≡ b → (c : Bool) → eqb y none ≡ c → Sum x y (if b || c then none else x + y)
+    go true e c g = part refl (inl (eqb→eq x none (subst T (sym e) tt)))
+    go false e true g = part refl (inr (eqb→eq y none (subst T (sym g) tt)))
+    go false e false g = whole (unequal x e) (unequal y g) refl
+
+-- ---- a chain goes through low nodes only, or through a high one
+
+data Split (E : Edges) (high : ℕ → Bool) (k a b : ℕ) : Type 0 where
+  lows : T (not (high a)) → T (not (high b)) → Chain (λ u v. not (high u) && not (high v) && E u v) k a b → Split E high k a b
+  through : (w i j : ℕ) → T (high w) → Chain E i a w → Chain E j w b → i + j ≡ k → Split E high k a b
+
+split : (E : Edges) (high : ℕ → Bool) {k a b : ℕ} → Chain E k a b → Split E high k a b
+split E high {a = a} here = go (passes (high a))
+  where
+    go : T (high a) ⊎ (T (high a) → ⊥) → Split E high 0 a a
+    go (inl t) = through a 0 0 t here here refl
+    go (inr f) = lows (not-T (high a) f) (not-T (high a) f) here
+split E high {a = a} {b = c} (link {k = k} {b = b} t r) = go (passes (high a)) (split E high r)
+  where
+    go : T (high a) ⊎ (T (high a) → ⊥) → Split E high k b c → Split E high (suc k) a c
+    go (inl h) rest = through a 0 (suc k) h here (link t r) (zero-add (suc k))
+    go (inr f) (lows p q l) =
+        lows (not-T (high a) f) q (link (and-i (not (high a) && not (high b)) (E a b) (and-i (not (high a)) (not (high b)) (not-T (high a) f) p) t) l)
+    go (inr f) (through w i j h p q e) = through w (suc i) j h (link t p) q (suc-add i j ∙ ap suc e)
+
+-- ---- the survey's tables
+
+module _ (n s : ℕ) (G : Graph) (g : IsGraph n G) where
+  -- ---- the report
+
+  unfoldable pub routes : ℕ → ℕ → ℕ
+  routes a b = least (via n (fullTable n s G) a b) (entry n (lowTable n s G) a b) (hubs n s G)
+
+  pub report-entry : (a b : ℕ) → a < n → b < n → entry n (reportTable n s G) a b ≡ (if eqb a b then 0 else routes a b)
+  unfolding reportTable routes least
+  report-entry a b ha hb =
+      entry-table n (λ a b. if eqb a b then 0 else foldr (λ h x. min (via n (fullTable n s G) a b h) x) (entry n (lowTable n s G) a b) (hubs n s G)) a b ha hb
+
+  -- a chain of as many links as a route through a hub has
+  via-chain : (a b h : ℕ) → a < n → b < n → h < n → (via n (fullTable n s G) a b h ≡ none → ⊥) → Chain (linked n G) (via n (fullTable n s G) a b h) a b
+  unfolding via
+  via-chain a b h ha hb hh f = go (sum-is x y) f
+    where
+      x : ℕ
+      x = entry n (fullTable n s G) h a
+
+      y : ℕ
+      y = entry n (fullTable n s G) h b
+
+      go : {z : ℕ} → Sum x y z → (f : z ≡ none → ⊥) → Chain (linked n G) z a b
+      go (whole p q e) f = subst (λ (k : ℕ). Chain (linked n G) k a b) (sym e) (append (turn (linked-sym n G) (full-is n s G g h a hh ha p .1 .0)) (full-is n s G g h b hh hb q .1 .0))
+      go (part e p) f = absurd (f e)
+
+  -- a report that is not none is the number of links of some chain
+  pub report-chain : (a b : ℕ) → a < n → b < n → (entry n (reportTable n s G) a b ≡ none → ⊥) → Chain (linked n G) (entry n (reportTable n s G) a b) a b
+  unfolding routes
+  report-chain a b ha hb = go (eqb a b) refl (report-entry a b ha hb)
+    where
+      full : List ℕ
+      full = fullTable n s G
+
+      low : ℕ
+      low = entry n (lowTable n s G) a b
+
+      some-route : (routes a b ≡ none → ⊥) → Chain (linked n G) (routes a b) a b
+      some-route f = at (least-cases (via n full a b) low (hubs n s G))
+        where
+          at : (routes a b ≡ low) ⊎ ((h : ℕ) × T (has h (hubs n s G)) × (routes a b ≡ via n full a b h)) → Chain (linked n G) (routes a b) a b
+          at (inl e) = subst (λ (k : ℕ). Chain (linked n G) k a b) (sym e) (widen (low-widen n s G g) (low-is n s G g a b ha hb (λ q. f (e ∙ q)) .2 .0))
+          at (inr r) = subst (λ (k : ℕ). Chain (linked n G) k a b) (sym (r .2)) (via-chain a b (r .0) ha hb (hubs-below n G s (r .0) (r .1)) (λ q. f (r .2 ∙ q)))
+
+      go : (t : Bool) → eqb a b ≡ t → entry n (reportTable n s G) a b ≡ (if t then 0 else routes a b)
+          → (entry n (reportTable n s G) a b ≡ none → ⊥) → Chain (linked n G) (entry n (reportTable n s G) a b) a b
+      go true q e f = subst (λ (k : ℕ). Chain (linked n G) k a b) (sym e) (subst (λ (z : ℕ). Chain (linked n G) 0 a z) (eqb→eq a b (subst T (sym q) tt)) here)
+      go false q e f = subst (λ (k : ℕ). Chain (linked n G) k a b) (sym e) (some-route (λ z. f (e ∙ z)))
+
+  -- where a chain of k links joins the pair, the report is at most k + 2
+  pub report-near : (a b k : ℕ) → n ≤ 1024 → a < n → b < n → Chain (linked n G) k a b → entry n (reportTable n s G) a b ≤ k + 2
+  unfolding isLow lowLinks routes closed via
+  report-near a b k size ha hb c = go (eqb a b) (report-entry a b ha hb)
+    where
+      full : List ℕ
+      full = fullTable n s G
+
+      low : ℕ
+      low = entry n (lowTable n s G) a b
+
+      hs : List ℕ
+      hs = hubs n s G
+
+      -- from a hub that covers w to w: no link or one
+      spoke : (h w : ℕ) → h < n → T (has w (closed G h)) → (e : ℕ) × (e ≤ 1) × Chain (linked n G) e h w
+      spoke h w hh m = at (of-cons w h (G h) m)
+        where
+          at : (w ≡ h) ⊎ T (has w (G h)) → (e : ℕ) × (e ≤ 1) × Chain (linked n G) e h w
+          at (inl q) = (0, zero-le, subst (λ (z : ℕ). Chain (linked n G) 0 h z) (sym q) here)
+          at (inr t) = (1, le-refl 1, link (linked-of n G g h w hh t) here)
+
+      near : Split (linked n G) (isHigh s G) k a b → routes a b ≤ k + 2
+      near (lows p q l) =
+          le-trans (least-base (via n full a b) low hs) (le-trans (low-joined n s G g a b k ha hb p q l .1 .1 k l) (omega arith))
+      near (through w i j t p q e) =
+          let hw : w < n = inside (linked n G) n a (linked-ends n G) ha ha p in
+          let r = hubs-cover n G s w hw t in
+          let h = r .0 in
+          let sp = spoke h w (r .1) (r .3) in
+          let ca = append (sp .2) (turn (linked-sym n G) p) in
+          let cb = append (sp .2) q in
+          let fa = full-joined n s G g h a (sp .0 + i) (r .1) ha (r .2) ca in
+          let fb = full-joined n s G g h b (sp .0 + j) (r .1) hb (r .2) cb in
+          le-trans (least-at (via n full a b) low hs h (r .2)) (bound (sum-is (entry n full h a) (entry n full h b)) (sp .0) (sp .1) e (fa .1 .1 (sp .0 + i) ca, fa .0) (fb .1 .1 (sp .0 + j) cb, fb .0))
+        where
+          bound : {x y z : ℕ} → Sum x y z → (d : ℕ) → d ≤ 1 → i + j ≡ k → (x ≤ d + i) × (x < n) → (y ≤ d + j) × (y < n) → z ≤ k + 2
+          bound (whole p q e) d l f xs ys = omega arith
+          bound (part e (inl q)) d l f xs ys = absurd (omega arith)
+          bound (part e (inr q)) d l f xs ys = absurd (omega arith)
+
+      go : (t : Bool) → entry n (reportTable n s G) a b ≡ (if t then 0 else routes a b) → entry n (reportTable n s G) a b ≤ k + 2
+      go true e = subst (λ (x : ℕ). x ≤ k + 2) (sym e) zero-le
+      go false e = subst (λ (x : ℕ). x ≤ k + 2) (sym e) (near (split (linked n G) (isHigh s G) c))
+
+-- none exactly where no chain joins the pair; else at least the fewest links, and at most two more
+pub allowed : (n s : ℕ) (G : Graph) → IsGraph n G → n ≤ 1024 → (a b : ℕ) → a < n → b < n → Allowed (linked n G) a b (entry n (reportTable n s G) a b)
+allowed n s G g size a b ha hb = record {
+  no-route = (λ e k c. far k c e, λ f. at (passes (eqb r none)) f);
+  near = λ d m. (m .1 r (report-chain n s G g a b ha hb (λ e. far d (m .0) e)), report-near n s G g a b d size ha hb (m .0));
+}
+  where
+    r : ℕ
+    r = entry n (reportTable n s G) a b
+
+    -- a joined pair is less than n apart, so its report is far below none
+    far : (k : ℕ) → Chain (linked n G) k a b → r ≡ none → ⊥
+    far k c e = cases (fewest-cases (linked n G) n a (linked-ends n G) ha b)
+      where
+        d : ℕ
+        d = fewest (linked n G) n a b
+
+        cases : ((d < n) × Fewest (linked n G) a b d) ⊎ ((d ≡ none) × ((k : ℕ) → Chain (linked n G) k a b → ⊥)) → ⊥
+        cases (inl p) = let l = report-near n s G g a b d size ha hb (p .1 .0) in omega arith
+        cases (inr p) = p .1 k c
+
+    at : T (eqb r none) ⊎ (T (eqb r none) → ⊥) → ((k : ℕ) → Chain (linked n G) k a b → ⊥) → r ≡ none
+    at (inl t) f = eqb→eq r none t
+    at (inr t) f = absurd (f r (report-chain n s G g a b ha hb (λ e. t (subst (λ (z : ℕ). T (eqb r z)) e (eqb-refl r)))))

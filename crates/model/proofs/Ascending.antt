@@ -1,0 +1,97 @@
+-- Ascending lists: a list of numbers below n that ascends is what membership in it keeps of the numbers below n.
+-- Assumes nothing.
+use mathlib.Core.Path.{_≡_, refl, sym, ap, _∙_, subst}
+use mathlib.Core.Logic.{_⊎_, inl, inr}
+use mathlib.Core.Bool.{Bool, true, false, _&&_}
+use mathlib.Core.List.{List, [], _∷_}
+use Prim.Native.Nat.{ℕ, zero, suc, _+_, _≤_, _<_, zero-le}
+use native.Mathlib.Nat.{lt-trans}
+use native.Mathlib.Omega.{arith}
+use lib.Dec.{T, eqb, ltb, ltb→lt, lt→ltb}
+use Rattle.model.specs.Basics.{if_then_else_, from, upTo, has, keep}
+use Rattle.model.specs.Survey.{ascending}
+use Rattle.model.proofs.Tests.{and-l, and-r, and-i, T-true, no-false, eq-or}
+use Rattle.model.proofs.Lists.{has-head, has-tail, of-cons, of-keep, of-from, keep-same, keep-none}
+
+pub ascending-tail : (x : ℕ) (xs : List ℕ) → T (ascending (x ∷ xs)) → T (ascending xs)
+unfolding ascending
+ascending-tail x [] t = tt
+ascending-tail x (y ∷ ys) t = and-r (ltb x y) (ascending (y ∷ ys)) t
+
+-- the first is less than all others
+pub ascending-above : (x : ℕ) (xs : List ℕ) → T (ascending (x ∷ xs)) → (y : ℕ) → T (has y xs) → x < y
+unfolding ascending has
+ascending-above x [] t y h = absurd h
+ascending-above x (z ∷ zs) t y h = go (of-cons y z zs h) (λ r. ascending-above z zs (and-r (ltb x z) (ascending (z ∷ zs)) t) y r)
+  where
+    first : x < z
+    first = ltb→lt x z (and-l (ltb x z) (ascending (z ∷ zs)) t)
+
+    go : (y ≡ z) ⊎ T (has y zs) → (T (has y zs) → z < y) → x < y
+    go (inl e) rec = subst (λ (k : ℕ). x < k) (sym e) first
+    go (inr r) rec = lt-trans first (rec r)
+
+pub ascending-cons : (x : ℕ) (xs : List ℕ) → ((y : ℕ) → T (has y xs) → x < y) → T (ascending xs) → T (ascending (x ∷ xs))
+unfolding ascending
+ascending-cons x [] f t = tt
+ascending-cons x (y ∷ ys) f t = and-i (ltb x y) (ascending (y ∷ ys)) (lt→ltb x y (f y (has-head y ys))) t
+
+pub keep-from-ascending : (p : ℕ → Bool) (k m : ℕ) → T (ascending (keep p (from k m)))
+unfolding from keep ascending
+keep-from-ascending p k zero = tt
+keep-from-ascending p k (suc m) = go (p k) (keep-from-ascending p (suc k) m)
+  where
+    go : (b : Bool) → T (ascending (keep p (from (suc k) m))) → T (ascending (if b then k ∷ keep p (from (suc k) m) else keep p (from (suc k) m)))
+    go true t = ascending-cons k (keep p (from (suc k) m)) (λ y h. let i = of-from (suc k) m y (of-keep p (from (suc k) m) y h .0) in i .0) t
+    go false t = t
+
+pub keep-ascending : (p : ℕ → Bool) (n : ℕ) → T (ascending (keep p (upTo n)))
+unfolding upTo
+keep-ascending p n = keep-from-ascending p 0 n
+
+member-keep : (l : List ℕ) (k m : ℕ) → T (ascending l) → ((x : ℕ) → T (has x l) → (k ≤ x) × (x < k + m)) → keep (λ x. has x l) (from k m) ≡ l
+unfolding from has keep
+member-keep [] k zero t f = refl
+member-keep (y ∷ ys) k zero t f = let b = f y (has-head y ys) in absurd (omega arith)
+member-keep [] k (suc m) t f = keep-none (λ x. false) (from (suc k) m) (λ x h b. b)
+member-keep (y ∷ ys) k (suc m) t f = go (eq-or k y) (λ g. member-keep ys (suc k) m (ascending-tail y ys t) g) (λ g. member-keep (y ∷ ys) (suc k) m t g)
+  where
+    up : (x : ℕ) → T (has x ys) → y < x
+    up = ascending-above y ys t
+
+    rest : List ℕ
+    rest = keep (λ x. has x (y ∷ ys)) (from (suc k) m)
+
+    front : k ≡ y → T (has k (y ∷ ys))
+    front e = subst (λ (z : ℕ). T (has z (y ∷ ys))) (sym e) (has-head y ys)
+
+    above : (k ≡ y → ⊥) → (x : ℕ) → T (has x (y ∷ ys)) → (suc k ≤ x) × (x < suc k + m)
+    above d x h = at (of-cons x y ys h)
+      where
+        at : (x ≡ y) ⊎ T (has x ys) → (suc k ≤ x) × (x < suc k + m)
+        at (inl e) = let b = f y (has-head y ys) in omega arith
+        at (inr r) = let b = f y (has-head y ys) in let c = f x h in let u = up x r in omega arith
+
+    go : (k ≡ y) ⊎ (k ≡ y → ⊥)
+        → (((x : ℕ) → T (has x ys) → (suc k ≤ x) × (x < suc k + m)) → keep (λ x. has x ys) (from (suc k) m) ≡ ys)
+        → (((x : ℕ) → T (has x (y ∷ ys)) → (suc k ≤ x) × (x < suc k + m)) → rest ≡ y ∷ ys)
+        → (if has k (y ∷ ys) then k ∷ rest else rest) ≡ y ∷ ys
+    go (inl e) one two =
+        ap (λ (b : Bool). if b then k ∷ rest else rest) (T-true (has k (y ∷ ys)) (front e))
+        ∙ ap (λ (z : ℕ). z ∷ rest) e
+        ∙ ap (λ (l : List ℕ). y ∷ l) (
+          keep-same (λ x. has x (y ∷ ys)) (λ x. has x ys) (from (suc k) m)
+              (λ x h t. other x (of-from (suc k) m x h .0) (of-cons x y ys t)) (λ x h t. has-tail x y ys t)
+          ∙ one (λ x r. let c = f x (has-tail x y ys r) in let u = up x r in omega arith)
+        )
+      where
+        other : (x : ℕ) → suc k ≤ x → (x ≡ y) ⊎ T (has x ys) → T (has x ys)
+        other x h (inl q) = absurd (omega arith)
+        other x h (inr r) = r
+    go (inr d) one two =
+        ap (λ (b : Bool). if b then k ∷ rest else rest) (no-false (has k (y ∷ ys)) (λ t. let b = above d k t in absurd (omega arith)))
+        ∙ two (above d)
+
+pub ascending-keep : (l : List ℕ) (n : ℕ) → T (ascending l) → ((x : ℕ) → T (has x l) → x < n) → keep (λ x. has x l) (upTo n) ≡ l
+unfolding upTo
+ascending-keep l n t f = member-keep l 0 n t (λ x h. (zero-le, let b = f x h in omega arith))

@@ -1,0 +1,200 @@
+-- `fewest` is the least number of links in a chain, for any graph whose links lead from nodes below n to nodes below n.
+-- Assumes nothing.
+use mathlib.Core.Path.{_≡_, refl, sym, ap, subst, _∙_}
+use mathlib.Core.Logic.{_⊎_, inl, inr}
+use mathlib.Core.Bool.{Bool, true, false, _||_}
+use mathlib.Core.List.{List, [], _∷_}
+use Prim.Native.Nat.{ℕ, zero, suc, _+_, _≤_, _<_, suc-le-suc, zero-le}
+use native.Mathlib.Nat.{zero-add, suc-add, le-step, le-refl, le-antisymm, lt-of-not-le}
+use native.Mathlib.Omega.{arith}
+use lib.Dec.{T}
+use lib.ListN.{length}
+use Rattle.model.specs.Basics.{none, from, upTo, has, any, keep, firstOf}
+use Rattle.model.specs.Graph.{Edges, Chain, here, link, Fewest, reach, fewest}
+use Rattle.model.proofs.Tests.{or-l, or-r, or-e}
+use Rattle.model.proofs.Lists.{has-head, of-single, any-of, of-any, has-keep, of-keep, has-upTo, of-upTo, First, found, nothing, first-below, keep-grows, keep-length, length-upTo, length-pos}
+
+module _ {E : Edges} where
+  -- a link more at the end
+  pub snoc : {k a b c : ℕ} → Chain E k a b → T (E b c) → Chain E (suc k) a c
+  snoc here t = link t here
+  snoc (link s r) t = link s (snoc r t)
+
+  -- the last link taken off
+  unsnoc : {k a b c : ℕ} → T (E a b) → Chain E k b c → (u : ℕ) × Chain E k a u × T (E u c)
+  unsnoc {a = a} t here = (a, here, t)
+  unsnoc t (link s r) = let i = unsnoc s r in (i .0, link t (i .1), i .2)
+
+  pub split-last : {k a c : ℕ} → Chain E (suc k) a c → (u : ℕ) × Chain E k a u × T (E u c)
+  split-last (link t r) = unsnoc t r
+
+  pub chain-zero : {a b : ℕ} → Chain E zero a b → a ≡ b
+  chain-zero here = refl
+
+  -- a chain has no link, or a first one
+  pub split-first : {k a b : ℕ} → Chain E k a b → (a ≡ b) ⊎ ((i x : ℕ) × (k ≡ suc i) × T (E a x) × Chain E i x b)
+  split-first here = inl refl
+  split-first (link {k = i} {b = x} t r) = inr (i, x, refl, t, r)
+
+  pub append : {j k a b c : ℕ} → Chain E j a b → Chain E k b c → Chain E (j + k) a c
+  append {k = k} {a = a} {c = c} here q = subst (λ (i : ℕ). Chain E i a c) (sym (zero-add k)) q
+  append {k = k} {a = a} {c = c} (link {k = j} t p) q = subst (λ (i : ℕ). Chain E i a c) (sym (suc-add j k)) (link t (append p q))
+
+  pub turn : ((u v : ℕ) → T (E u v) → T (E v u)) → {k a b : ℕ} → Chain E k a b → Chain E k b a
+  turn f here = here
+  turn f (link t r) = snoc (turn f r) (f _ _ t)
+
+  pub widen : {F : Edges} → ((u v : ℕ) → T (E u v) → T (F u v)) → {k a b : ℕ} → Chain E k a b → Chain F k a b
+  widen f here = here
+  widen f (link t r) = link (f _ _ t) (widen f r)
+
+module _ (E : Edges) (n a : ℕ) where
+  -- a node is reached with k + 1 links if it is with k, or is linked to one that is
+  grown : (k v : ℕ) → T (has v (reach E n a (suc k))) → (v < n) × (T (has v (reach E n a k)) ⊎ ((u : ℕ) × T (has u (reach E n a k)) × T (E u v)))
+  unfolding reach
+  grown k v h =
+      let r = reach E n a k in
+      let i = of-keep (λ v. has v r || any (λ u. E u v) r) (upTo n) v h in
+      (of-upTo n v (i .0), at (or-e (has v r) (any (λ u. E u v) r) (i .1)))
+    where
+      at : T (has v (reach E n a k)) ⊎ T (any (λ u. E u v) (reach E n a k)) → T (has v (reach E n a k)) ⊎ ((u : ℕ) × T (has u (reach E n a k)) × T (E u v))
+      at (inl s) = inl s
+      at (inr s) = inr (of-any (λ u. E u v) (reach E n a k) s)
+
+  stay : (k v : ℕ) → v < n → T (has v (reach E n a k)) → T (has v (reach E n a (suc k)))
+  unfolding reach
+  stay k v b h =
+      let r = reach E n a k in
+      has-keep (λ v. has v r || any (λ u. E u v) r) (upTo n) v (has-upTo n v b) (or-l (has v r) (any (λ u. E u v) r) h)
+
+  step : (k u v : ℕ) → v < n → T (has u (reach E n a k)) → T (E u v) → T (has v (reach E n a (suc k)))
+  unfolding reach
+  step k u v b h t =
+      let r = reach E n a k in
+      has-keep (λ v. has v r || any (λ u. E u v) r) (upTo n) v (has-upTo n v b)
+      (or-r (has v r) (any (λ u. E u v) r) (any-of (λ u. E u v) r u h t))
+
+  -- what is reached with k links is joined by a chain of k or fewer
+  sound : (k v : ℕ) → T (has v (reach E n a k)) → (j : ℕ) × (j ≤ k) × Chain E j a v
+  unfolding reach
+  sound zero v h = (0, zero-le, subst (λ (z : ℕ). Chain E 0 a z) (sym (of-single v a h)) here)
+  sound (suc k) v h = at (grown k v h .1) (λ u s. sound k u s)
+    where
+      at : T (has v (reach E n a k)) ⊎ ((u : ℕ) × T (has u (reach E n a k)) × T (E u v))
+          → ((u : ℕ) → T (has u (reach E n a k)) → (j : ℕ) × (j ≤ k) × Chain E j a u) → (j : ℕ) × (j ≤ suc k) × Chain E j a v
+      at (inl s) rec = let i = rec v s in (i .0, le-step (i .1), i .2)
+      at (inr s) rec = let i = rec (s .0) (s .1) in (suc (i .0), suc-le-suc (i .1), snoc (i .2) (s .2))
+
+  module _ (ends : (u v : ℕ) → u < n → T (E u v) → v < n) (start : a < n) where
+    pub inside : {k b v : ℕ} → b < n → Chain E k b v → v < n
+    inside h here = h
+    inside h (link t r) = inside (ends _ _ h t) r
+
+    -- and the other way round
+    complete : (k v : ℕ) → Chain E k a v → T (has v (reach E n a k))
+    unfolding reach
+    complete zero v c = subst (λ (z : ℕ). T (has z (a ∷ []))) (chain-zero c) (has-head a [])
+    complete (suc k) v c =
+        let s = split-last c in
+        step k (s .0) v (inside start c) (complete k (s .0) (s .1)) (s .2)
+
+    starts : (k : ℕ) → T (has a (reach E n a k))
+    unfolding reach
+    starts zero = has-head a []
+    starts (suc k) = stay k a start (starts k)
+
+    -- once a layer adds nothing, no later one does
+    stable : (j : ℕ) → ((v : ℕ) → T (has v (reach E n a (suc j))) → T (has v (reach E n a j)))
+        → (k v : ℕ) → T (has v (reach E n a k)) → T (has v (reach E n a j))
+    unfolding reach
+    stable j f zero v h = subst (λ (z : ℕ). T (has z (reach E n a j))) (sym (of-single v a h)) (starts j)
+    stable j f (suc k) v h = at (grown k v h) (λ u s. stable j f k u s)
+      where
+        at : (v < n) × (T (has v (reach E n a k)) ⊎ ((u : ℕ) × T (has u (reach E n a k)) × T (E u v)))
+            → ((u : ℕ) → T (has u (reach E n a k)) → T (has u (reach E n a j))) → T (has v (reach E n a j))
+        at g rec = case (g .1)
+          where
+            case : T (has v (reach E n a k)) ⊎ ((u : ℕ) × T (has u (reach E n a k)) × T (E u v)) → T (has v (reach E n a j))
+            case (inl s) = rec v s
+            case (inr s) = f v (step j (s .0) v (g .0) (rec (s .0) (s .1)) (s .2))
+
+    count : ℕ → ℕ
+    count k = length (keep (λ v. has v (reach E n a k)) (upTo n))
+
+    Stable : ℕ → Type 0
+    Stable j = (v : ℕ) → T (has v (reach E n a (suc j))) → T (has v (reach E n a j))
+
+    -- each layer adds a node until one adds nothing
+    layers : (k : ℕ) → ((j : ℕ) × (j < k) × Stable j) ⊎ (k < count k)
+    unfolding count Stable
+    layers zero = inr (length-pos a (keep (λ v. has v (reach E n a 0)) (upTo n)) (has-keep (λ v. has v (reach E n a 0)) (upTo n) a (has-upTo n a start) (starts 0)))
+    layers (suc k) = at (layers k) (keep-grows (λ v. has v (reach E n a k)) (λ v. has v (reach E n a (suc k))) (upTo n) (λ v b h. stay k v (of-upTo n v b) h))
+      where
+        at : ((j : ℕ) × (j < k) × Stable j) ⊎ (k < count k)
+            → ((v : ℕ) → T (has v (upTo n)) → T (has v (reach E n a (suc k))) → T (has v (reach E n a k))) ⊎ (count k < count (suc k))
+            → ((j : ℕ) × (j < suc k) × Stable j) ⊎ (suc k < count (suc k))
+        at (inl s) g = inl (s .0, le-step (s .1), s .2)
+        at (inr c) (inl f) = inl (k, le-refl (suc k), λ v h. f v (has-upTo n v (grown k v h .0)) h)
+        at (inr c) (inr g) = inr (omega arith)
+
+    -- so a layer below n adds nothing
+    settled : (j : ℕ) × (j < n) × Stable j
+    unfolding count
+    settled = at (layers n)
+      where
+        at : ((j : ℕ) × (j < n) × Stable j) ⊎ (n < count n) → (j : ℕ) × (j < n) × Stable j
+        at (inl s) = s
+        at (inr c) = absurd (omega (arith, keep-length (λ v. has v (reach E n a n)) (upTo n), length-upTo n))
+
+    -- what the search for b finds, and what it misses
+    pub fewest-cases : (b : ℕ) → ((fewest E n a b < n) × Fewest E a b (fewest E n a b)) ⊎ ((fewest E n a b ≡ none) × ((k : ℕ) → Chain E k a b → ⊥))
+    unfolding fewest Stable
+    fewest-cases b = at (first-below p none n)
+      where
+        p : ℕ → Bool
+        p k = has b (reach E n a k)
+
+        at : First p none 0 n (firstOf p none (upTo n))
+            → ((firstOf p none (upTo n) < n) × Fewest E a b (firstOf p none (upTo n))) ⊎ ((firstOf p none (upTo n) ≡ none) × ((k : ℕ) → Chain E k a b → ⊥))
+        at (found lo hi t least) =
+            let r = firstOf p none (upTo n) in
+            let s = sound r b t in
+            let low : (k : ℕ) → Chain E k a b → r ≤ k = λ k c. fit k (λ h. least k zero-le h (complete k b c)) in
+            let e : s .0 ≡ r = le-antisymm (s .1) (low (s .0) (s .2)) in
+            inl (omega arith, (subst (λ (k : ℕ). Chain E k a b) e (s .2), low))
+          where
+            fit : (k : ℕ) → (k < firstOf p none (upTo n) → ⊥) → firstOf p none (upTo n) ≤ k
+            fit k f = omega arith
+        at (nothing e least) =
+            let s = settled in
+            inr (e, λ k c. least (s .0) zero-le (omega arith) (stable (s .0) (s .2) k b (complete k b c)))
+
+-- The same as four facts: what a number other than none says, what none says, and the two converses.
+module _ (E : Edges) (n a : ℕ) (ends : (u v : ℕ) → u < n → T (E u v) → v < n) (start : a < n) where
+  pub fewest-is : (b : ℕ) → (fewest E n a b ≡ none → ⊥) → Fewest E a b (fewest E n a b)
+  fewest-is b h = at (fewest-cases E n a ends start b)
+    where
+      at : ((fewest E n a b < n) × Fewest E a b (fewest E n a b)) ⊎ ((fewest E n a b ≡ none) × ((k : ℕ) → Chain E k a b → ⊥)) → Fewest E a b (fewest E n a b)
+      at (inl s) = s .1
+      at (inr s) = absurd (h (s .0))
+
+  pub fewest-none : n ≤ none → (b : ℕ) → fewest E n a b ≡ none → (k : ℕ) → Chain E k a b → ⊥
+  fewest-none m b e = at (fewest-cases E n a ends start b)
+    where
+      at : ((fewest E n a b < n) × Fewest E a b (fewest E n a b)) ⊎ ((fewest E n a b ≡ none) × ((k : ℕ) → Chain E k a b → ⊥)) → (k : ℕ) → Chain E k a b → ⊥
+      at (inl s) = absurd (omega arith)
+      at (inr s) = s .1
+
+  pub fewest-of : (b d : ℕ) → Fewest E a b d → fewest E n a b ≡ d
+  fewest-of b d f = at (fewest-cases E n a ends start b)
+    where
+      at : ((fewest E n a b < n) × Fewest E a b (fewest E n a b)) ⊎ ((fewest E n a b ≡ none) × ((k : ℕ) → Chain E k a b → ⊥)) → fewest E n a b ≡ d
+      at (inl s) = le-antisymm (s .1 .1 d (f .0)) (f .1 (fewest E n a b) (s .1 .0))
+      at (inr s) = absurd (s .1 d (f .0))
+
+  pub fewest-missing : (b : ℕ) → ((k : ℕ) → Chain E k a b → ⊥) → fewest E n a b ≡ none
+  fewest-missing b f = at (fewest-cases E n a ends start b)
+    where
+      at : ((fewest E n a b < n) × Fewest E a b (fewest E n a b)) ⊎ ((fewest E n a b ≡ none) × ((k : ℕ) → Chain E k a b → ⊥)) → fewest E n a b ≡ none
+      at (inl s) = absurd (f (fewest E n a b) (s .1 .0))
+      at (inr s) = s .0

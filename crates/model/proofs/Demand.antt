@@ -1,0 +1,219 @@
+-- Demand 3 for the calls themselves, refusals and all: an accepted survey, and tables built from it.
+-- Assumes nothing.
+use mathlib.Core.Path.{_≡_, refl, sym, ap, _∙_, subst}
+use mathlib.Core.Logic.{_⊎_, inl, inr}
+use mathlib.Core.Bool.{Bool, true, false, not, _||_}
+use mathlib.Core.List.{List, _++_}
+use Prim.Native.Nat.{ℕ, suc, _+_, _-_, _*_, _≤_, _<_}
+use native.Mathlib.Numerals.{add-one}
+use native.Mathlib.Omega.{arith}
+use borrow.Author.Tests.{le-ltb, lt-leb, leb-false}
+use lib.Dec.{T, ltb, leb}
+use lib.ListN.{length, replicate, take, length-append, length-replicate}
+use lib.Seq.{take-at}
+use Rattle.model.specs.declared.Route.the-variants.{NoRoute}
+use Rattle.model.specs.declared.Answer.{Answer}
+use Rattle.model.specs.Answers.{Outcome, refused, answered}
+use Rattle.model.specs.Basics.{none, if_then_else_, over}
+use Rattle.model.specs.Graph.{Edges, Walked}
+use Rattle.model.specs.Survey.{Graph, neighboursOf, linked, badSize, isSurvey, Accepted}
+use Rattle.model.specs.Threshold.{threshold}
+use Rattle.model.specs.Hubs.{hubs, hubList}
+use Rattle.model.specs.Tables.{entry, table, fullTable, lowTable, reportTable, AreBuilt, AreBuiltWith}
+use Rattle.model.specs.Pair.{answer, taken, pairBy, pair}
+use Rattle.model.specs.TwoOrFour.{tested}
+use Rattle.model.specs.Building.{Building, built, building}
+use Rattle.model.specs.Asking.{asking}
+use Rattle.model.specs.Walking.{Walking, refuseWalk, walkOf, walking}
+use Rattle.model.specs.Testing.{testing}
+use Rattle.model.specs.Demand.{Allowed, AllowedAnswer, IsWalk, WalkSound, WalkAnswers, VerdictRight}
+use Rattle.model.proofs.Tests.{or-false, of-or-false, T-true, true-T, picked}
+use Rattle.model.proofs.Acceptance.{survey-test, survey-facts, good-size, size-bounds}
+use Rattle.model.proofs.Entries.{front-length, length-table}
+use Rattle.model.proofs.Covering.{hubs-length}
+use Rattle.model.proofs.Allowance.{allowed}
+use Rattle.model.proofs.Walks.{Given-out, refusal, no-way, walked, walk-given-out}
+use Rattle.model.proofs.BuiltWalks.{report-at, pair-built, walk-built, taken-right}
+use Rattle.model.proofs.Verdicts.{verdict-right}
+
+passed : (b : Bool) → T b → not b ≡ false
+passed true t = refl
+passed false t = absurd t
+
+not-refused : (b : Bool) → not b ≡ false → T b
+not-refused true e = tt
+not-refused false e = subst T e tt
+
+never : {A B : Type 0} {k : ℕ} {x : A} → refused k ≡ answered x → B
+never {k = k} {x = x} e = let z : _≡_ {A = ℕ} 0 1 = cc in absurd (omega arith)
+
+-- ---- lists that tables were built into have room for them
+
+module _ (n s : ℕ) (G : Graph) (full low report : List ℕ) (own : AreBuilt n s G full low report) where
+  pub full-room : n * n ≤ length full
+  unfolding fullTable
+  full-room = front-length (n * n) full (fullTable n s G) (own .full-front) (length-table n _)
+
+  pub low-room : n * n ≤ length low
+  unfolding lowTable
+  low-room = front-length (n * n) low (lowTable n s G) (own .low-front) (length-table n _)
+
+  pub report-room : n * n ≤ length report
+  unfolding reportTable
+  report-room = front-length (n * n) report (reportTable n s G) (own .report-front) (length-table n _)
+
+-- ---- building leaves the tables and the hub list built from the survey
+
+pub hub-list-length : (n s : ℕ) (G : Graph) → length (hubList n s G) ≡ n
+unfolding hubList
+hub-list-length n s G =
+    length-append (hubs n s G) (replicate (n - length (hubs n s G)) none)
+    ∙ omega (arith, length-replicate (n - length (hubs n s G)) none, hubs-length n G s)
+
+pub built-right : (n s : ℕ) (G : Graph) (full low report list : List ℕ)
+    → AreBuiltWith n s G (built n s G full low report list .full) (built n s G full low report list .low)
+    (built n s G full low report list .report) (built n s G full low report list .hubs)
+unfolding built over fullTable lowTable reportTable
+built-right n s G full low report list = record {
+  tables = record {
+    full-front = take-at (fullTable n s G) _ (n * n) (length-table n _);
+    low-front = take-at (lowTable n s G) _ (n * n) (length-table n _);
+    report-front = take-at (reportTable n s G) _ (n * n) (length-table n _);
+  };
+  hubs-front = take-at (hubList n s G) _ n (hub-list-length n s G);
+}
+
+-- ---- a walk given out, from any tables
+
+given-out-sound : (E : Edges) (a b w : ℕ) {r : Walking} → Given-out E a b w r → WalkSound E a b r
+given-out-sound E a b w (refusal k) x e f = never e
+given-out-sound E a b w no-way x e f = let q : answer none NoRoute ≡ x = cc in absurd (f (sym (ap (λ (y : Answer). y .report) q)))
+given-out-sound E a b w (walked y l g m room) x e f =
+    let q : y ≡ x = cc in
+    let c : length l ≡ x .report + 1 = m ∙ ap (λ (z : Answer). suc (z .report)) q ∙ sym (add-one (x .report)) in
+    let t : take (x .report + 1) (l ++ replicate (w - length l) none) ≡ l = take-at l (replicate (w - length l) none) (x .report + 1) c in
+    record { links = subst (λ (k : List ℕ). Walked E k a b) (sym t) g; count = ap length t ∙ c }
+
+-- whatever is lent, a walk given out is a chain of the survey's links, of exactly the reported length
+pub walking-sound : (n : ℕ) (starts neighbours full low report : List ℕ) (a b w : ℕ)
+    → WalkSound (linked n (neighboursOf starts neighbours)) a b (walking n starts neighbours full low report a b w)
+unfolding walking refuseWalk pair
+walking-sound n starts neighbours full low report a b w =
+    picked P (badSize n) _ _ (λ _. refuses) (λ size.
+    picked P (ltb (length starts) (n + 1) || ltb (length full) (n * n) || ltb (length low) (n * n) || ltb (length report) (n * n)) _ _ (λ _. refuses) (λ room.
+    picked P (not (isSurvey n starts neighbours)) _ _ (λ _. refuses) (λ lists.
+    picked P (leb n a || leb n b) _ _ (λ _. refuses) (λ below.
+    let h = of-or-false (leb n a) (leb n b) below in
+    let g = survey-facts n starts neighbours (not-refused (isSurvey n starts neighbours) lists) .graph in
+    given-out-sound (linked n G) a b w
+    (walk-given-out n (threshold n) G g full low a b (leb-false n a (h .0)) (leb-false n b (h .1)) (taken n full a b) report w)))))
+  where
+    G : Graph
+    G = neighboursOf starts neighbours
+
+    P : Walking → Type 0
+    P r = WalkSound (linked n G) a b r
+
+    refuses : {k : ℕ} → P (record { answer = refused k; walk = replicate w none })
+    refuses x e f = never e
+
+-- ---- an accepted survey
+
+module _ (n : ℕ) (starts neighbours : List ℕ) (acc : Accepted n starts neighbours) where
+  abbrev pub G : Graph
+  G = neighboursOf starts neighbours
+
+  is-survey : not (isSurvey n starts neighbours) ≡ false
+  is-survey = passed (isSurvey n starts neighbours) (survey-test n starts neighbours (acc .lists))
+
+  -- the test is not refused, and its verdict is right
+  pub testing-answers : testing n starts neighbours ≡ answered (tested n (threshold n) G)
+  unfolding testing
+  testing-answers = rw (good-size n (acc .some-node) (acc .size), le-ltb (length starts) (n + 1) (acc .room), is-survey) refl
+
+  pub testing-right : VerdictRight n (linked n G) (tested n (threshold n) G .verdict)
+  testing-right = verdict-right n (threshold n) G (acc .lists .graph) (acc .size)
+
+  -- building into lists that are long enough
+  pub building-answers : (full low report list : List ℕ) → n * n ≤ length full → n * n ≤ length low → n * n ≤ length report → n ≤ length list
+      → building n starts neighbours full low report list ≡ built n (threshold n) G full low report list
+  unfolding building
+  building-answers full low report list hf hl hr hh =
+      let A = ltb (length starts) (n + 1) in
+      let B = ltb (length full) (n * n) in
+      let C = ltb (length low) (n * n) in
+      let D = ltb (length report) (n * n) in
+      rw (
+        good-size n (acc .some-node) (acc .size),
+        or-false (A || B || C || D) (ltb (length list) n)
+            (or-false (A || B || C) D
+            (or-false (A || B) C (or-false A B (le-ltb (length starts) (n + 1) (acc .room)) (le-ltb (length full) (n * n) hf)) (le-ltb (length low) (n * n) hl))
+            (le-ltb (length report) (n * n) hr))
+            (le-ltb (length list) n hh),
+        is-survey,
+      ) refl
+
+  module _ (full low report : List ℕ) (own : AreBuilt n (threshold n) (neighboursOf starts neighbours) full low report) (a b : ℕ) (ha : a < n) (hb : b < n) where
+    below : (leb n a || leb n b) ≡ false
+    below = or-false (leb n a) (leb n b) (lt-leb n a ha) (lt-leb n b hb)
+
+    fits : ltb (length full) (n * n) ≡ false
+    fits = le-ltb (length full) (n * n) (full-room n (threshold n) G full low report own)
+
+    fits-low : ltb (length low) (n * n) ≡ false
+    fits-low = le-ltb (length low) (n * n) (low-room n (threshold n) G full low report own)
+
+    fits-report : ltb (length report) (n * n) ≡ false
+    fits-report = le-ltb (length report) (n * n) (report-room n (threshold n) G full low report own)
+
+    asks : asking n full low report a b ≡ pair n full low report a b
+    unfolding asking
+    asks =
+        let B = ltb (length full) (n * n) in
+        let C = ltb (length low) (n * n) in
+        let D = ltb (length report) (n * n) in
+        rw (good-size n (acc .some-node) (acc .size), or-false (B || C) D (or-false B C fits fits-low) fits-report, below) refl
+
+    -- asking is not refused, and answers the entry of Report
+    pub asking-answers : (x : Answer) × (asking n full low report a b ≡ answered x) × (x .report ≡ entry n (reportTable n (threshold n) G) a b)
+    unfolding pair
+    asking-answers =
+        let g = acc .lists .graph in
+        let i = pair-built n (threshold n) G g (acc .size) full low report own a b ha hb (taken n full a b)
+        (taken-right n (threshold n) G g (acc .size) full low report own a b ha hb) in
+        (answer (entry n report a b) (i .0), asks ∙ i .1, report-at n (threshold n) G g (acc .size) full low report own a b ha hb)
+
+    -- the report is none exactly where no chain joins the pair, else from the fewest links to two more
+    pub asking-right : AllowedAnswer (linked n G) a b (asking n full low report a b)
+    asking-right = let i = asking-answers in record {
+      value = i .0;
+      given = i .1;
+      allowed = subst (λ (r : ℕ). Allowed (linked n G) a b r) (sym (i .2)) (allowed n (threshold n) G (acc .lists .graph) (acc .size) a b ha hb);
+    }
+
+    walks : (w : ℕ) → walking n starts neighbours full low report a b w ≡ walkOf w n (threshold n) G full low a b (pair n full low report a b)
+    unfolding walking
+    walks w =
+        let A = ltb (length starts) (n + 1) in
+        let B = ltb (length full) (n * n) in
+        let C = ltb (length low) (n * n) in
+        let D = ltb (length report) (n * n) in
+        rw (
+          good-size n (acc .some-node) (acc .size),
+          or-false (A || B || C) D (or-false (A || B) C (or-false A B (le-ltb (length starts) (n + 1) (acc .room)) fits) fits-low) fits-report,
+          is-survey,
+          below,
+        ) refl
+
+    -- and writing the walk answers as asking does, if the walk list has report + 1 entries or there is no route
+    pub walking-right : (w : ℕ) → WalkAnswers w (asking n full low report a b) (walking n starts neighbours full low report a b w)
+    unfolding pair
+    walking-right w x e room =
+        let g = acc .lists .graph in
+        let p = taken-right n (threshold n) G g (acc .size) full low report own a b ha hb in
+        let i = pair-built n (threshold n) G g (acc .size) full low report own a b ha hb (taken n full a b) p in
+        let q : answer (entry n report a b) (i .0) ≡ x = cc (asks, i .1) in
+        ap (λ (r : Walking). r .answer) (walks w)
+        ∙ walk-built n (threshold n) G g (acc .size) full low report own a b ha hb (taken n full a b) p w
+        (subst (λ (y : Answer). (y .report ≡ none) ⊎ (y .report < w)) (sym q) room)
+        ∙ sym asks ∙ e

@@ -1,0 +1,73 @@
+-- A table has n * n entries, and entry (a, b) of `table n f` is f a b.
+-- Assumes nothing.
+use mathlib.Core.Path.{_≡_, refl, sym, ap, _∙_, subst}
+use mathlib.Core.List.{List, [], _∷_, _++_, map}
+use Prim.Native.Nat.{ℕ, zero, suc, _+_, _*_, _≤_, _<_}
+use native.Mathlib.Nat.{add-zero, zero-add, add-suc, suc-add, suc-mul, zero-mul, mul-le-mul-right, le-of-suc-le-suc, not-suc-le-zero}
+use native.Mathlib.Omega.{arith}
+use lib.ListN.{length, getD, take, length-take, length-append, length-map, List·getD-append}
+use lib.Seq.{getD-append-add, getD-take}
+use Rattle.model.specs.Basics.{from, upTo, gather}
+use Rattle.model.specs.Tables.{table, entry}
+use Rattle.model.proofs.Lists.{length-upTo}
+
+getD-from : (g : ℕ → ℕ) (k m i d : ℕ) → i < m → getD (map g (from k m)) i d ≡ g (k + i)
+unfolding from
+getD-from g k zero i d h = absurd (not-suc-le-zero h)
+getD-from g k (suc m) zero d h = ap g (sym (add-zero k))
+getD-from g k (suc m) (suc i) d h = getD-from g (suc k) m i d (le-of-suc-le-suc h) ∙ ap g (suc-add k i ∙ sym (add-suc k i))
+
+getD-row : (g : ℕ → ℕ) (n i d : ℕ) → i < n → getD (map g (upTo n)) i d ≡ g i
+unfolding upTo
+getD-row g n i d h = getD-from g 0 n i d h ∙ ap g (zero-add i)
+
+length-row : (g : ℕ → ℕ) (n : ℕ) → length (map g (upTo n)) ≡ n
+length-row g n = length-map (upTo n) g ∙ length-upTo n
+
+module _ (n : ℕ) (f : ℕ → ℕ → ℕ) where
+  rows : ℕ → ℕ → List ℕ
+  rows k m = gather (λ a. map (f a) (upTo n)) (from k m)
+
+  length-rows : (k m : ℕ) → length (rows k m) ≡ m * n
+  unfolding rows from gather
+  length-rows k zero = sym (zero-mul n)
+  length-rows k (suc m) = length-append (map (f k) (upTo n)) (rows (suc k) m) ∙ omega (arith, length-row (f k) n, length-rows (suc k) m, suc-mul m n)
+
+  getD-rows : (k m i j : ℕ) → i < m → j < n → getD (rows k m) (i * n + j) 0 ≡ f (k + i) j
+  unfolding rows from gather
+  getD-rows k zero i j hi hj = absurd (not-suc-le-zero hi)
+  getD-rows k (suc m) zero j hi hj =
+      let row = map (f k) (upTo n) in
+      let e : zero * n + j ≡ j = omega (arith, zero-mul n) in
+      let b : j < length row = omega (arith, length-row (f k) n) in
+      ap (λ (x : ℕ). getD (row ++ rows (suc k) m) x 0) e
+      ∙ List·getD-append row (rows (suc k) m) 0 j b
+      ∙ getD-row (f k) n j 0 hj
+      ∙ ap (λ (x : ℕ). f x j) (sym (add-zero k))
+  getD-rows k (suc m) (suc i) j hi hj =
+      let row = map (f k) (upTo n) in
+      let e : suc i * n + j ≡ length row + (i * n + j) = omega (arith, suc-mul i n, length-row (f k) n) in
+      ap (λ (x : ℕ). getD (row ++ rows (suc k) m) x 0) e
+      ∙ getD-append-add row (rows (suc k) m) (i * n + j) 0
+      ∙ getD-rows (suc k) m i j (le-of-suc-le-suc hi) hj
+      ∙ ap (λ (x : ℕ). f x j) (suc-add k i ∙ sym (add-suc k i))
+
+  pub length-table : length (table n f) ≡ n * n
+  unfolding table upTo rows
+  length-table = length-rows 0 n
+
+  pub entry-table : (a b : ℕ) → a < n → b < n → entry n (table n f) a b ≡ f a b
+  unfolding table upTo rows entry
+  entry-table a b ha hb = getD-rows 0 n a b ha hb ∙ ap (λ (x : ℕ). f x b) (zero-add a)
+
+-- entries of a longer list whose front is a table
+pub entry-front : (n : ℕ) (t u : List ℕ) → take (n * n) t ≡ u → (a b : ℕ) → a < n → b < n → entry n t a b ≡ entry n u a b
+unfolding entry
+entry-front n t u e a b ha hb =
+    sym (getD-take (n * n) t (a * n + b) 0 inside) ∙ ap (λ (l : List ℕ). getD l (a * n + b) 0) e
+  where
+    inside : a * n + b < n * n
+    inside = omega (arith, suc-mul a n, mul-le-mul-right n ha)
+
+pub front-length : (k : ℕ) (t u : List ℕ) → take k t ≡ u → length u ≡ k → k ≤ length t
+front-length k t u e l = omega (arith, length-take k t, ap length e, l)

@@ -1,0 +1,14 @@
+pub mod Tests
+pub mod Lists
+pub mod Ascending
+pub mod Chains
+pub mod Threshold
+pub mod Acceptance
+pub mod Entries
+pub mod Covering
+pub mod TableLaws
+pub mod Allowance
+pub mod Walks
+pub mod BuiltWalks
+pub mod Verdicts
+pub mod Demand

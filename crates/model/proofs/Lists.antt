@@ -1,0 +1,349 @@
+-- Laws of the small functions on lists of specs/Basics.antt.
+-- Assumes nothing.
+use mathlib.Core.Path.{_≡_, refl, sym, ap, ap₂, _∙_, subst}
+use mathlib.Core.Logic.{_⊎_, inl, inr}
+use mathlib.Core.Bool.{Bool, true, false, not, _&&_, _||_}
+use mathlib.Core.List.{List, [], _∷_, _++_, append-assoc, append-nil}
+use Prim.Native.Nat.{ℕ, zero, suc, _+_, _≤_, _<_, suc-le-suc, zero-le}
+use native.Mathlib.Nat.{le-step, le-refl, le-of-suc-le-suc, add-zero, add-suc, suc-add, zero-add}
+use native.Mathlib.Omega.{arith}
+use lib.Dec.{T, eqb, eqb→eq, eqb-refl}
+use lib.ListN.{length, length-append}
+use Rattle.model.specs.Basics.{if_then_else_, from, upTo, has, any, all, keep, firstOf, gather}
+use Rattle.model.proofs.Tests.{and-l, and-r, and-i, or-l, or-r, or-e, passes, T-true, no-false, false-no, eq-or, eq-T, isnt}
+
+-- ---- membership
+
+pub has-head : (x : ℕ) (ys : List ℕ) → T (has x (x ∷ ys))
+unfolding has
+has-head x ys = or-l (eqb x x) (has x ys) (eqb-refl x)
+
+pub has-tail : (x y : ℕ) (ys : List ℕ) → T (has x ys) → T (has x (y ∷ ys))
+unfolding has
+has-tail x y ys t = or-r (eqb x y) (has x ys) t
+
+pub of-cons : (x y : ℕ) (ys : List ℕ) → T (has x (y ∷ ys)) → (x ≡ y) ⊎ T (has x ys)
+unfolding has
+of-cons x y ys t = go (or-e (eqb x y) (has x ys) t)
+  where
+    go : T (eqb x y) ⊎ T (has x ys) → (x ≡ y) ⊎ T (has x ys)
+    go (inl e) = inl (eqb→eq x y e)
+    go (inr r) = inr r
+
+pub of-single : (x y : ℕ) → T (has x (y ∷ [])) → x ≡ y
+unfolding has
+of-single x y t = go (of-cons x y [] t)
+  where
+    go : (x ≡ y) ⊎ T (has x []) → x ≡ y
+    go (inl e) = e
+    go (inr r) = absurd r
+
+-- ---- any, all, keep
+
+pub any-of : (p : ℕ → Bool) (l : List ℕ) (x : ℕ) → T (has x l) → T (p x) → T (any p l)
+unfolding has any
+any-of p [] x h t = h
+any-of p (y ∷ ys) x h t = go (of-cons x y ys h) (λ r. any-of p ys x r t)
+  where
+    go : (x ≡ y) ⊎ T (has x ys) → (T (has x ys) → T (any p ys)) → T (p y || any p ys)
+    go (inl e) rec = or-l (p y) (any p ys) (subst (λ (z : ℕ). T (p z)) e t)
+    go (inr r) rec = or-r (p y) (any p ys) (rec r)
+
+pub of-any : (p : ℕ → Bool) (l : List ℕ) → T (any p l) → (x : ℕ) × T (has x l) × T (p x)
+unfolding any
+of-any p [] t = absurd t
+of-any p (y ∷ ys) t = go (or-e (p y) (any p ys) t) (λ r. of-any p ys r)
+  where
+    go : T (p y) ⊎ T (any p ys) → (T (any p ys) → (x : ℕ) × T (has x ys) × T (p x)) → (x : ℕ) × T (has x (y ∷ ys)) × T (p x)
+    go (inl s) rec = (y, has-head y ys, s)
+    go (inr r) rec = let h = rec r in (h .0, has-tail (h .0) y ys (h .1), h .2)
+
+pub of-all : (p : ℕ → Bool) (l : List ℕ) → T (all p l) → (x : ℕ) → T (has x l) → T (p x)
+unfolding all has
+of-all p [] t x h = absurd h
+of-all p (y ∷ ys) t x h = go (of-cons x y ys h) (λ r. of-all p ys (and-r (p y) (all p ys) t) x r)
+  where
+    go : (x ≡ y) ⊎ T (has x ys) → (T (has x ys) → T (p x)) → T (p x)
+    go (inl e) rec = subst (λ (z : ℕ). T (p z)) (sym e) (and-l (p y) (all p ys) t)
+    go (inr r) rec = rec r
+
+pub all-of : (p : ℕ → Bool) (l : List ℕ) → ((x : ℕ) → T (has x l) → T (p x)) → T (all p l)
+unfolding all
+all-of p [] f = tt
+all-of p (y ∷ ys) f = and-i (p y) (all p ys) (f y (has-head y ys)) (all-of p ys (λ x h. f x (has-tail x y ys h)))
+
+pub has-keep : (p : ℕ → Bool) (l : List ℕ) (x : ℕ) → T (has x l) → T (p x) → T (has x (keep p l))
+unfolding has keep
+has-keep p [] x h t = h
+has-keep p (y ∷ ys) x h t = go (p y) refl (of-cons x y ys h) (λ r. has-keep p ys x r t)
+  where
+    go : (b : Bool) → p y ≡ b → (x ≡ y) ⊎ T (has x ys) → (T (has x ys) → T (has x (keep p ys)))
+        → T (has x (if b then y ∷ keep p ys else keep p ys))
+    go true e (inl q) rec = subst (λ (z : ℕ). T (has x (z ∷ keep p ys))) q (has-head x (keep p ys))
+    go true e (inr r) rec = has-tail x y (keep p ys) (rec r)
+    go false e (inl q) rec = absurd (subst T e (subst (λ (z : ℕ). T (p z)) q t))
+    go false e (inr r) rec = rec r
+
+pub of-keep : (p : ℕ → Bool) (l : List ℕ) (x : ℕ) → T (has x (keep p l)) → T (has x l) × T (p x)
+unfolding has keep
+of-keep p [] x h = absurd h
+of-keep p (y ∷ ys) x h = go (p y) refl h (λ r. of-keep p ys x r)
+  where
+    go : (b : Bool) → p y ≡ b → T (has x (if b then y ∷ keep p ys else keep p ys))
+        → (T (has x (keep p ys)) → T (has x ys) × T (p x)) → T (has x (y ∷ ys)) × T (p x)
+    go true e h rec = at (of-cons x y (keep p ys) h)
+      where
+        at : (x ≡ y) ⊎ T (has x (keep p ys)) → T (has x (y ∷ ys)) × T (p x)
+        at (inl q) = (subst (λ (z : ℕ). T (has x (z ∷ ys))) q (has-head x ys), subst (λ (z : ℕ). T (p z)) (sym q) (subst T (sym e) tt))
+        at (inr r) = let i = rec r in (has-tail x y ys (i .0), i .1)
+    go false e h rec = let i = rec h in (has-tail x y ys (i .0), i .1)
+
+-- ---- the numbers below n
+
+pub has-from : (k m x : ℕ) → k ≤ x → x < k + m → T (has x (from k m))
+unfolding from
+has-from k zero x lo hi = absurd (omega arith)
+has-from k (suc m) x lo hi = go (passes (eqb x k)) (λ l. has-from (suc k) m x l (omega arith))
+  where
+    go : T (eqb x k) ⊎ (T (eqb x k) → ⊥) → (suc k ≤ x → T (has x (from (suc k) m))) → T (has x (k ∷ from (suc k) m))
+    go (inl e) rec = subst (λ (z : ℕ). T (has x (z ∷ from (suc k) m))) (eqb→eq x k e) (has-head x (from (suc k) m))
+    go (inr d) rec =
+        let ne : x ≡ k → ⊥ = λ e. d (subst (λ (z : ℕ). T (eqb x z)) e (eqb-refl x)) in
+        has-tail x k (from (suc k) m) (rec (omega arith))
+
+pub of-from : (k m x : ℕ) → T (has x (from k m)) → (k ≤ x) × (x < k + m)
+unfolding from has
+of-from k zero x h = absurd h
+of-from k (suc m) x h = go (of-cons x k (from (suc k) m) h) (λ r. of-from (suc k) m x r)
+  where
+    go : (x ≡ k) ⊎ T (has x (from (suc k) m)) → (T (has x (from (suc k) m)) → (suc k ≤ x) × (x < suc k + m)) → (k ≤ x) × (x < k + suc m)
+    go (inl e) rec = omega arith
+    go (inr r) rec = let i = rec r in omega arith
+
+pub has-upTo : (n x : ℕ) → x < n → T (has x (upTo n))
+unfolding upTo
+has-upTo n x h = has-from 0 n x zero-le (omega arith)
+
+pub of-upTo : (n x : ℕ) → T (has x (upTo n)) → x < n
+unfolding upTo
+of-upTo n x h = let i = of-from 0 n x h in omega arith
+
+-- ---- the first number that passes a test
+
+-- r is the first of k, .., k + m - 1 that passes; or d, where none does
+pub data First (p : ℕ → Bool) (d k m r : ℕ) : Type 0 where
+  found : k ≤ r → r < k + m → T (p r) → ((y : ℕ) → k ≤ y → y < r → T (p y) → ⊥) → First p d k m r
+  nothing : r ≡ d → ((y : ℕ) → k ≤ y → y < k + m → T (p y) → ⊥) → First p d k m r
+
+pub first-from : (p : ℕ → Bool) (d k m : ℕ) → First p d k m (firstOf p d (from k m))
+unfolding from firstOf
+first-from p d k zero = nothing refl (λ y lo hi t. omega arith)
+first-from p d k (suc m) = go (p k) refl (first-from p d (suc k) m)
+  where
+    step : (f : T (p k) → ⊥) (y : ℕ) → k ≤ y → T (p y) → suc k ≤ y
+    step f y lo t = let ne : k ≡ y → ⊥ = λ e. f (subst (λ (z : ℕ). T (p z)) (sym e) t) in omega arith
+
+    rest : {r : ℕ} → (T (p k) → ⊥) → First p d (suc k) m r → First p d k (suc m) r
+    rest f (found lo hi t least) = found (omega arith) (omega arith) t (λ y l h s. least y (step f y l s) h s)
+    rest f (nothing e least) = nothing e (λ y l h s. least y (step f y l s) (omega arith) s)
+
+    go : (b : Bool) → p k ≡ b → First p d (suc k) m (firstOf p d (from (suc k) m))
+        → First p d k (suc m) (if b then k else firstOf p d (from (suc k) m))
+    go true e r = found (le-refl k) (omega arith) (subst T (sym e) tt) (λ y lo hi t. omega arith)
+    go false e r = rest (λ t. subst T e t) r
+
+pub first-below : (p : ℕ → Bool) (d n : ℕ) → First p d 0 n (firstOf p d (upTo n))
+unfolding upTo
+first-below p d n = first-from p d 0 n
+
+-- ---- counting what is kept
+
+-- where p implies q on the list, q keeps no fewer
+pub keep-mono : (p q : ℕ → Bool) (l : List ℕ) → ((x : ℕ) → T (has x l) → T (p x) → T (q x)) → length (keep p l) ≤ length (keep q l)
+unfolding keep
+keep-mono p q [] f = zero-le
+keep-mono p q (y ∷ ys) f = go (p y) refl (q y) refl (keep-mono p q ys (λ x h. f x (has-tail x y ys h)))
+  where
+    go : (b : Bool) → p y ≡ b → (c : Bool) → q y ≡ c → length (keep p ys) ≤ length (keep q ys)
+        → length (if b then y ∷ keep p ys else keep p ys) ≤ length (if c then y ∷ keep q ys else keep q ys)
+    go true e true g h = suc-le-suc h
+    go true e false g h = absurd (subst T g (f y (has-head y ys) (subst T (sym e) tt)))
+    go false e true g h = le-step h
+    go false e false g h = h
+
+-- and either it keeps more, or q implies p too
+pub keep-grows : (p q : ℕ → Bool) (l : List ℕ) → ((x : ℕ) → T (has x l) → T (p x) → T (q x))
+    → ((x : ℕ) → T (has x l) → T (q x) → T (p x)) ⊎ (length (keep p l) < length (keep q l))
+unfolding keep has
+keep-grows p q [] f = inl (λ x h t. absurd h)
+keep-grows p q (y ∷ ys) f =
+    go (p y) refl (q y) refl (keep-mono p q ys (λ x h. f x (has-tail x y ys h))) (keep-grows p q ys (λ x h. f x (has-tail x y ys h)))
+  where
+    both : (T (q y) → T (p y)) → ((x : ℕ) → T (has x ys) → T (q x) → T (p x)) → (x : ℕ) → T (has x (y ∷ ys)) → T (q x) → T (p x)
+    both h f x m t = at (of-cons x y ys m)
+      where
+        at : (x ≡ y) ⊎ T (has x ys) → T (p x)
+        at (inl e) = subst (λ (z : ℕ). T (p z)) (sym e) (h (subst (λ (z : ℕ). T (q z)) e t))
+        at (inr r) = f x r t
+
+    go : (b : Bool) → p y ≡ b → (c : Bool) → q y ≡ c → length (keep p ys) ≤ length (keep q ys)
+        → ((x : ℕ) → T (has x ys) → T (q x) → T (p x)) ⊎ (length (keep p ys) < length (keep q ys))
+        → ((x : ℕ) → T (has x (y ∷ ys)) → T (q x) → T (p x))
+        ⊎ (length (if b then y ∷ keep p ys else keep p ys) < length (if c then y ∷ keep q ys else keep q ys))
+    go true e true g le (inl r) = inl (both (λ t. subst T (sym e) tt) r)
+    go true e true g le (inr r) = inr (suc-le-suc r)
+    go true e false g le r = absurd (subst T g (f y (has-head y ys) (subst T (sym e) tt)))
+    go false e true g le r = inr (suc-le-suc le)
+    go false e false g le (inl r) = inl (both (λ t. absurd (subst T g t)) r)
+    go false e false g le (inr r) = inr r
+
+pub keep-length : (p : ℕ → Bool) (l : List ℕ) → length (keep p l) ≤ length l
+unfolding keep
+keep-length p [] = zero-le
+keep-length p (y ∷ ys) = go (p y) (keep-length p ys)
+  where
+    go : (b : Bool) → length (keep p ys) ≤ length ys → length (if b then y ∷ keep p ys else keep p ys) ≤ suc (length ys)
+    go true h = suc-le-suc h
+    go false h = le-step h
+
+pub length-from : (k m : ℕ) → length (from k m) ≡ m
+unfolding from
+length-from k zero = refl
+length-from k (suc m) = ap suc (length-from (suc k) m)
+
+pub length-upTo : (n : ℕ) → length (upTo n) ≡ n
+unfolding upTo
+length-upTo n = length-from 0 n
+
+-- a list that has an element is not empty
+pub length-pos : (x : ℕ) (l : List ℕ) → T (has x l) → 0 < length l
+unfolding has
+length-pos x [] h = absurd h
+length-pos x (y ∷ ys) h = suc-le-suc zero-le
+
+-- what a test keeps and what it leaves make the list
+pub keep-split : (p : ℕ → Bool) (l : List ℕ) → length (keep p l) + length (keep (λ x. not (p x)) l) ≡ length l
+unfolding keep
+keep-split p [] = refl
+keep-split p (y ∷ ys) = go (p y) (keep-split p ys)
+  where
+    go : (b : Bool) → length (keep p ys) + length (keep (λ x. not (p x)) ys) ≡ length ys
+        → length (if b then y ∷ keep p ys else keep p ys) + length (if not b then y ∷ keep (λ x. not (p x)) ys else keep (λ x. not (p x)) ys) ≡ suc (length ys)
+    go true h = omega arith
+    go false h = omega arith
+
+-- a number that passes, with none before it, is the one found
+pub first-is : (p : ℕ → Bool) (d n r : ℕ) → r < n → T (p r) → ((y : ℕ) → y < r → T (p y) → ⊥) → firstOf p d (upTo n) ≡ r
+first-is p d n r b t f = at (first-below p d n)
+  where
+    at : {x : ℕ} → First p d 0 n x → x ≡ r
+    at {x} (found lo hi s least) =
+        let l : r < x → ⊥ = λ h. least r zero-le h t in
+        let g : x < r → ⊥ = λ h. f x h s in
+        omega arith
+    at (nothing e none) = absurd (none r zero-le (omega arith) t)
+
+-- in any list: an element that passes, or d where none does
+pub first-in : (p : ℕ → Bool) (d : ℕ) (l : List ℕ)
+    → (T (has (firstOf p d l) l) × T (p (firstOf p d l))) ⊎ ((firstOf p d l ≡ d) × ((y : ℕ) → T (has y l) → T (p y) → ⊥))
+unfolding firstOf has
+first-in p d [] = inr (refl, λ y h t. h)
+first-in p d (x ∷ xs) = go (p x) refl (first-in p d xs)
+  where
+    r : ℕ
+    r = firstOf p d xs
+
+    go : (b : Bool) → p x ≡ b → (T (has r xs) × T (p r)) ⊎ ((r ≡ d) × ((y : ℕ) → T (has y xs) → T (p y) → ⊥))
+        → (T (has (if b then x else r) (x ∷ xs)) × T (p (if b then x else r))) ⊎ (((if b then x else r) ≡ d) × ((y : ℕ) → T (has y (x ∷ xs)) → T (p y) → ⊥))
+    go true e rest = inl (has-head x xs, subst T (sym e) tt)
+    go false e (inl i) = inl (has-tail r x xs (i .0), i .1)
+    go false e (inr i) = inr (i .0, λ y h t. at y t (of-cons y x xs h))
+      where
+        at : (y : ℕ) → T (p y) → (y ≡ x) ⊎ T (has y xs) → ⊥
+        at y t (inl q) = subst T e (subst (λ (z : ℕ). T (p z)) q t)
+        at y t (inr m) = i .1 y m t
+
+-- ---- one list after another
+
+pub keep-append : (p : ℕ → Bool) (k l : List ℕ) → keep p (k ++ l) ≡ keep p k ++ keep p l
+unfolding keep
+keep-append p [] l = refl
+keep-append p (x ∷ k) l = go (p x) (keep-append p k l)
+  where
+    go : (b : Bool) → keep p (k ++ l) ≡ keep p k ++ keep p l
+        → (if b then x ∷ keep p (k ++ l) else keep p (k ++ l)) ≡ (if b then x ∷ keep p k else keep p k) ++ keep p l
+    go true e = ap (λ (r : List ℕ). x ∷ r) e
+    go false e = e
+
+pub gather-append : {A B : Type 0} (f : A → List B) (k l : List A) → gather f (k ++ l) ≡ gather f k ++ gather f l
+unfolding gather
+gather-append f [] l = refl
+gather-append {B = B} f (x ∷ k) l = ap (λ (r : List B). f x ++ r) (gather-append f k l) ∙ sym (append-assoc (f x) (gather f k) (gather f l))
+
+pub gather-same : {B : Type 0} (f g : ℕ → List B) (l : List ℕ) → ((x : ℕ) → T (has x l) → f x ≡ g x) → gather f l ≡ gather g l
+unfolding gather
+gather-same f g [] e = refl
+gather-same {B = B} f g (x ∷ l) e = ap₂ (λ (r s : List B). r ++ s) (e x (has-head x l)) (gather-same f g l (λ y m. e y (has-tail y x l m)))
+
+pub from-snoc : (k m : ℕ) → from k (suc m) ≡ from k m ++ (k + m) ∷ []
+unfolding from
+from-snoc k zero = ap (λ (x : ℕ). x ∷ []) (sym (add-zero k))
+from-snoc k (suc m) = ap (λ (r : List ℕ). k ∷ r) (from-snoc (suc k) m ∙ ap (λ (x : ℕ). from (suc k) m ++ x ∷ []) (suc-add k m ∙ sym (add-suc k m)))
+
+-- the numbers below n + 1 are those below n, and n
+pub upTo-suc : (n : ℕ) → upTo (suc n) ≡ upTo n ++ n ∷ []
+unfolding upTo
+upTo-suc n = from-snoc 0 n ∙ ap (λ (x : ℕ). from 0 n ++ x ∷ []) (zero-add n)
+
+-- ---- two tests on one list
+
+pub keep-same : (p q : ℕ → Bool) (l : List ℕ) → ((x : ℕ) → T (has x l) → T (p x) → T (q x)) → ((x : ℕ) → T (has x l) → T (q x) → T (p x))
+    → keep p l ≡ keep q l
+unfolding keep
+keep-same p q [] f g = refl
+keep-same p q (y ∷ ys) f g = go (p y) refl (q y) refl (keep-same p q ys (λ x h. f x (has-tail x y ys h)) (λ x h. g x (has-tail x y ys h)))
+  where
+    go : (b : Bool) → p y ≡ b → (c : Bool) → q y ≡ c → keep p ys ≡ keep q ys
+        → (if b then y ∷ keep p ys else keep p ys) ≡ (if c then y ∷ keep q ys else keep q ys)
+    go true e true h r = ap (λ (t : List ℕ). y ∷ t) r
+    go true e false h r = absurd (subst T h (f y (has-head y ys) (subst T (sym e) tt)))
+    go false e true h r = absurd (subst T e (g y (has-head y ys) (subst T (sym h) tt)))
+    go false e false h r = r
+
+-- keeping twice is keeping once
+pub keep-keep : (p q : ℕ → Bool) (l : List ℕ) → keep p (keep q l) ≡ keep (λ x. q x && p x) l
+unfolding keep
+keep-keep p q [] = refl
+keep-keep p q (y ∷ ys) = go (q y) (p y) refl (keep-keep p q ys)
+  where
+    go : (b c : Bool) → p y ≡ c → keep p (keep q ys) ≡ keep (λ x. q x && p x) ys
+        → keep p (if b then y ∷ keep q ys else keep q ys) ≡ (if b && c then y ∷ keep (λ x. q x && p x) ys else keep (λ x. q x && p x) ys)
+    go true true e r = ap (λ (b : Bool). if b then y ∷ keep p (keep q ys) else keep p (keep q ys)) e ∙ ap (λ (t : List ℕ). y ∷ t) r
+    go true false e r = ap (λ (b : Bool). if b then y ∷ keep p (keep q ys) else keep p (keep q ys)) e ∙ r
+    go false c e r = r
+
+pub keep-none : (p : ℕ → Bool) (l : List ℕ) → ((x : ℕ) → T (has x l) → T (p x) → ⊥) → keep p l ≡ []
+unfolding keep
+keep-none p [] f = refl
+keep-none p (y ∷ ys) f = go (p y) refl (keep-none p ys (λ x h. f x (has-tail x y ys h)))
+  where
+    go : (b : Bool) → p y ≡ b → keep p ys ≡ [] → (if b then y ∷ keep p ys else keep p ys) ≡ []
+    go true e r = absurd (f y (has-head y ys) (subst T (sym e) tt))
+    go false e r = r
+
+pub first-same : (p q : ℕ → Bool) (d : ℕ) (l : List ℕ) → ((x : ℕ) → T (has x l) → p x ≡ q x) → firstOf p d l ≡ firstOf q d l
+unfolding firstOf
+first-same p q d [] f = refl
+first-same p q d (y ∷ ys) f =
+    ap₂ (λ (b : Bool) (r : ℕ). if b then y else r) (f y (has-head y ys)) (first-same p q d ys (λ x h. f x (has-tail x y ys h)))
+
+-- ---- membership in two lists
+
+pub has-append : (x : ℕ) (k l : List ℕ) → T (has x k) → T (has x (k ++ l))
+unfolding has
+has-append x [] l h = absurd h
+has-append x (y ∷ k) l h = go (or-e (eqb x y) (has x k) h) (λ r. has-append x k l r)
+  where
+    go : T (eqb x y) ⊎ T (has x k) → (T (has x k) → T (has x (k ++ l))) → T (eqb x y || has x (k ++ l))
+    go (inl e) rec = or-l (eqb x y) (has x (k ++ l)) e
+    go (inr r) rec = or-r (eqb x y) (has x (k ++ l)) (rec r)

@@ -1,0 +1,77 @@
+-- What the entries of Full and Low say: fewest links, from hubs and between low nodes.
+-- Assumes nothing.
+use mathlib.Core.Path.{_≡_, refl, sym, _∙_, subst}
+use mathlib.Core.Logic.{_⊎_, inl, inr}
+use mathlib.Core.Bool.{Bool, true, false, _&&_}
+use Prim.Native.Nat.{ℕ, _≤_, _<_}
+use native.Mathlib.Nat.{le-antisymm}
+use lib.Dec.{T}
+use Rattle.model.specs.Basics.{none, if_then_else_, has}
+use Rattle.model.specs.Graph.{Edges, Chain, Fewest, fewest}
+use Rattle.model.specs.Survey.{Graph, linked, IsGraph}
+use Rattle.model.specs.Hubs.{isLow, hubs}
+use Rattle.model.specs.Tables.{table, entry, fullTable, lowLinks, lowTable}
+use Rattle.model.proofs.Tests.{and-l, and-r, and-i}
+use Rattle.model.proofs.Chains.{fewest-is, fewest-cases}
+use Rattle.model.proofs.Acceptance.{linked-ends}
+use Rattle.model.proofs.Entries.{entry-table}
+
+pub fewest-unique : {E : Edges} {a b d e : ℕ} → Fewest E a b d → Fewest E a b e → d ≡ e
+fewest-unique {d = d} {e = e} p q = le-antisymm (p .1 e (q .0)) (q .1 d (p .0))
+
+-- a table of fewest links where a test passes, and of none elsewhere
+module _ (n : ℕ) (t : ℕ → ℕ → Bool) (E : Edges) (ends : (u v : ℕ) → u < n → T (E u v) → v < n) where
+  guarded : ℕ → ℕ → ℕ
+  guarded a b = entry n (table n (λ a b. if t a b then fewest E n a b else none)) a b
+
+  guarded-is : (a b : ℕ) → a < n → b < n → (guarded a b ≡ none → ⊥) → T (t a b) × Fewest E a b (guarded a b)
+  unfolding guarded
+  guarded-is a b ha hb f = at (t a b) (entry-table n (λ a b. if t a b then fewest E n a b else none) a b ha hb)
+    where
+      at : (c : Bool) → guarded a b ≡ (if c then fewest E n a b else none) → T c × Fewest E a b (guarded a b)
+      at true e = (tt, subst (λ (k : ℕ). Fewest E a b k) (sym e) (fewest-is E n a ends ha b (λ q. f (e ∙ q))))
+      at false e = absurd (f e)
+
+  guarded-joined : (a b k : ℕ) → a < n → b < n → T (t a b) → Chain E k a b → (guarded a b < n) × Fewest E a b (guarded a b)
+  unfolding guarded
+  guarded-joined a b k ha hb m c = at (t a b) m (entry-table n (λ a b. if t a b then fewest E n a b else none) a b ha hb)
+    where
+      cases : ((fewest E n a b < n) × Fewest E a b (fewest E n a b)) ⊎ ((fewest E n a b ≡ none) × ((k : ℕ) → Chain E k a b → ⊥))
+          → (fewest E n a b < n) × Fewest E a b (fewest E n a b)
+      cases (inl p) = p
+      cases (inr p) = absurd (p .1 k c)
+
+      at : (c : Bool) → T c → guarded a b ≡ (if c then fewest E n a b else none) → (guarded a b < n) × Fewest E a b (guarded a b)
+      at true m e = subst (λ (x : ℕ). (x < n) × Fewest E a b x) (sym e) (cases (fewest-cases E n a ends ha b))
+      at false m e = absurd m
+
+module _ (n s : ℕ) (G : Graph) (g : IsGraph n G) where
+  pub full-is : (h b : ℕ) → h < n → b < n → (entry n (fullTable n s G) h b ≡ none → ⊥)
+      → T (has h (hubs n s G)) × Fewest (linked n G) h b (entry n (fullTable n s G) h b)
+  unfolding fullTable guarded
+  full-is = guarded-is n (λ h b. has h (hubs n s G)) (linked n G) (linked-ends n G)
+
+  pub full-joined : (h b k : ℕ) → h < n → b < n → T (has h (hubs n s G)) → Chain (linked n G) k h b
+      → (entry n (fullTable n s G) h b < n) × Fewest (linked n G) h b (entry n (fullTable n s G) h b)
+  unfolding fullTable guarded
+  full-joined = guarded-joined n (λ h b. has h (hubs n s G)) (linked n G) (linked-ends n G)
+
+  pub low-widen : (u v : ℕ) → T (lowLinks n s G u v) → T (linked n G u v)
+  unfolding lowLinks
+  low-widen u v t = and-r (isLow s G u && isLow s G v) (linked n G u v) t
+
+  pub low-ends : (u v : ℕ) → u < n → T (lowLinks n s G u v) → v < n
+  low-ends u v h t = linked-ends n G u v h (low-widen u v t)
+
+  pub low-is : (a b : ℕ) → a < n → b < n → (entry n (lowTable n s G) a b ≡ none → ⊥)
+      → T (isLow s G a) × T (isLow s G b) × Fewest (lowLinks n s G) a b (entry n (lowTable n s G) a b)
+  unfolding lowTable guarded
+  low-is a b ha hb f =
+      let r = guarded-is n (λ a b. isLow s G a && isLow s G b) (lowLinks n s G) low-ends a b ha hb f in
+      (and-l (isLow s G a) (isLow s G b) (r .0), and-r (isLow s G a) (isLow s G b) (r .0), r .1)
+
+  pub low-joined : (a b k : ℕ) → a < n → b < n → T (isLow s G a) → T (isLow s G b) → Chain (lowLinks n s G) k a b
+      → (entry n (lowTable n s G) a b < n) × Fewest (lowLinks n s G) a b (entry n (lowTable n s G) a b)
+  unfolding lowTable guarded
+  low-joined a b k ha hb la lb c =
+      guarded-joined n (λ a b. isLow s G a && isLow s G b) (lowLinks n s G) low-ends a b k ha hb (and-i (isLow s G a) (isLow s G b) la lb) c

@@ -1,0 +1,97 @@
+-- Laws of tests.
+-- Assumes nothing.
+use mathlib.Core.Path.{_≡_, refl, sym, ap, subst, _∙_}
+use mathlib.Core.Logic.{_⊎_, inl, inr}
+use mathlib.Core.Bool.{Bool, true, false, not, _&&_, _||_}
+use Prim.Native.Nat.{ℕ, _≤_, _<_}
+use borrow.Author.Tests.{ltb-true, ltb-false}
+use lib.Dec.{T, eqb, ltb, eqb→eq, eqb-refl}
+use Rattle.model.specs.Basics.{if_then_else_}
+
+pub and-l : (a b : Bool) → T (a && b) → T a
+and-l true b t = tt
+and-l false b t = t
+
+pub and-r : (a b : Bool) → T (a && b) → T b
+and-r true b t = t
+and-r false b t = absurd t
+
+pub and-i : (a b : Bool) → T a → T b → T (a && b)
+and-i true b s t = t
+and-i false b s t = s
+
+pub or-l : (a b : Bool) → T a → T (a || b)
+or-l true b t = tt
+or-l false b t = absurd t
+
+pub or-r : (a b : Bool) → T b → T (a || b)
+or-r true b t = tt
+or-r false b t = t
+
+pub or-e : (a b : Bool) → T (a || b) → T a ⊎ T b
+or-e true b t = inl tt
+or-e false b t = inr t
+
+-- a test passes or fails
+pub passes : (b : Bool) → T b ⊎ (T b → ⊥)
+passes true = inl tt
+passes false = inr (λ t. t)
+
+pub T-true : (b : Bool) → T b → b ≡ true
+T-true true t = refl
+T-true false t = absurd t
+
+pub true-T : (b : Bool) → b ≡ true → T b
+true-T b e = subst T (sym e) tt
+
+pub T-false : (b : Bool) → T (not b) → b ≡ false
+T-false true t = absurd t
+T-false false t = refl
+
+pub no-false : (b : Bool) → (T b → ⊥) → b ≡ false
+no-false true f = absurd (f tt)
+no-false false f = refl
+
+pub false-no : (b : Bool) → b ≡ false → T b → ⊥
+false-no b e t = subst T e t
+
+-- two tests that pass together are the same
+pub same-test : (a b : Bool) → (T a → T b) → (T b → T a) → a ≡ b
+same-test true b f g = sym (T-true b (f tt))
+same-test false true f g = absurd (g tt)
+same-test false false f g = refl
+
+pub or-false : (a b : Bool) → a ≡ false → b ≡ false → (a || b) ≡ false
+or-false a b p q = ap (λ (t : Bool). t || b) p ∙ q
+
+pub of-or-false : (a b : Bool) → (a || b) ≡ false → (a ≡ false) × (b ≡ false)
+of-or-false true b e = absurd (subst T e tt)
+of-or-false false b e = (refl, e)
+
+pub eq-T : (x y : ℕ) → x ≡ y → T (eqb x y)
+eq-T x y e = subst (λ (z : ℕ). T (eqb x z)) e (eqb-refl x)
+
+pub is : (x y : ℕ) → eqb x y ≡ true → x ≡ y
+is x y e = eqb→eq x y (true-T (eqb x y) e)
+
+pub isnt : (x y : ℕ) → eqb x y ≡ false → x ≡ y → ⊥
+isnt x y e q = false-no (eqb x y) e (eq-T x y q)
+
+pub eq-or : (x y : ℕ) → (x ≡ y) ⊎ (x ≡ y → ⊥)
+eq-or x y = go (eqb x y) refl
+  where
+    go : (b : Bool) → eqb x y ≡ b → (x ≡ y) ⊎ (x ≡ y → ⊥)
+    go true e = inl (is x y e)
+    go false e = inr (isnt x y e)
+
+pub lt-or : (x y : ℕ) → (x < y) ⊎ (y ≤ x)
+lt-or x y = go (ltb x y) refl
+  where
+    go : (b : Bool) → ltb x y ≡ b → (x < y) ⊎ (y ≤ x)
+    go true e = inl (ltb-true x y e)
+    go false e = inr (ltb-false x y e)
+
+-- what holds of both values holds of the one that a test picks
+pub picked : {A : Type 0} (P : A → Type 0) (t : Bool) (x y : A) → (t ≡ true → P x) → (t ≡ false → P y) → P (if t then x else y)
+picked P true x y f g = f refl
+picked P false x y f g = g refl

@@ -1,0 +1,197 @@
+-- What the verdicts of the two-or-four test mean. Holds for every threshold s.
+-- Assumes nothing.
+use mathlib.Core.Path.{_≡_, refl, sym, ap, _∙_, subst}
+use mathlib.Core.Logic.{_⊎_, inl, inr}
+use mathlib.Core.Bool.{Bool, true, false, not}
+use mathlib.Core.List.{List, [], _∷_}
+use Prim.Native.Nat.{ℕ, zero, suc, _+_, _≤_, _<_, zero-le, suc-le-suc}
+use native.Mathlib.Nat.{le-refl, le-trans}
+use native.Mathlib.Omega.{arith}
+use borrow.Author.Tests.{ltb-false, eqb-false}
+use lib.Dec.{T, eqb, ltb, leb, eqb→eq, ltb→lt}
+use lib.ListN.{length}
+use Rattle.model.specs.declared.Verdict.{Verdict}
+use Rattle.model.specs.declared.Verdict.the-variants.{Parted, Long, Short}
+use Rattle.model.specs.Basics.{none, if_then_else_, has, any, upTo, firstOf}
+use Rattle.model.specs.Graph.{Edges, Chain, Apart, here, link, Fewest, fewest}
+use Rattle.model.specs.Survey.{Graph, linked, IsGraph}
+use Rattle.model.specs.Hubs.{isHigh, isLow, closed, hubs}
+use Rattle.model.specs.TwoOrFour.{sources, verdictOf, tested}
+use Rattle.model.specs.Demand.{VerdictRight}
+use Rattle.model.proofs.Lists.{has-head, has-tail, of-cons, any-of, of-any, has-upTo, of-upTo, First, found, nothing, first-below}
+use Rattle.model.proofs.Chains.{append, turn, split-first, inside, fewest-is, fewest-none, fewest-cases}
+use Rattle.model.proofs.Acceptance.{linked-of, linked-has, linked-sym, linked-ends}
+use Rattle.model.proofs.Covering.{hubs-cover, hubs-below}
+
+-- what the searches show of a graph of n nodes
+data Means (n : ℕ) (E : Edges) : Verdict → Type 0 where
+  is-parted : (u v : ℕ) → u < n → v < n → Apart E u v → Means n E Parted
+  is-long : (u v d : ℕ) → u < n → v < n → Fewest E u v d → 2 < d → ((a b : ℕ) → a < n → b < n → (j : ℕ) × Chain E j a b) → Means n E Long
+  is-short : ((u v : ℕ) → u < n → v < n → (j : ℕ) × (j ≤ 3) × Chain E j u v) → Means n E Short
+
+module _ (n s : ℕ) (G : Graph) (g : IsGraph n G) (size : n ≤ 1024) where
+  -- the nodes searched from: a low node and its neighbours, or the hubs of a graph without low nodes
+  data Sources : List ℕ → Type 0 where
+    round : (v : ℕ) → v < n → Sources (closed G v)
+    covers : ((v : ℕ) → v < n → T (isHigh s G v)) → Sources (hubs n s G)
+
+  source-cases : Sources (sources n s G)
+  unfolding sources isLow
+  source-cases = at (first-below (isLow s G) none n)
+    where
+      pick : {r : ℕ} → (r ≡ none → Sources (hubs n s G)) → ((r ≡ none → ⊥) → Sources (closed G r)) → (c : Bool) → eqb r none ≡ c → Sources (if c then hubs n s G else closed G r)
+      pick {r} f h true e = f (eqb→eq r none (subst T (sym e) tt))
+      pick {r} f h false e = h (eqb-false r none e)
+
+      high : (b : Bool) → (T (not b) → ⊥) → T b
+      high true f = tt
+      high false f = f tt
+
+      at : {r : ℕ} → First (isLow s G) none 0 n r → Sources (if eqb r none then hubs n s G else closed G r)
+      at {r} (found lo hi t least) = pick (λ e. absurd (omega arith)) (λ f. round r (omega arith)) (eqb r none) refl
+      at {r} (nothing e miss) =
+          pick (λ q. covers (λ v h. high (isHigh s G v) (λ t. miss v zero-le (omega arith) t))) (λ f. absurd (f e)) (eqb r none) refl
+
+  source-below : {hs : List ℕ} → Sources hs → (h : ℕ) → T (has h hs) → h < n
+  unfolding closed
+  source-below (round v b) h m = at (of-cons h v (G v) m)
+    where
+      at : (h ≡ v) ⊎ T (has h (G v)) → h < n
+      at (inl e) = subst (λ (z : ℕ). z < n) (sym e) b
+      at (inr t) = g .below v h b t
+  source-below (covers f) h m = hubs-below n G s h m
+
+  -- where every source reaches every node within two links, every two nodes are within three
+  within : {hs : List ℕ} → Sources hs → ((h v : ℕ) → T (has h hs) → v < n → (j : ℕ) × (j ≤ 2) × Chain (linked n G) j h v)
+      → (u v : ℕ) → u < n → v < n → (j : ℕ) × (j ≤ 3) × Chain (linked n G) j u v
+  unfolding closed
+  within (round c b) near u v hu hv = at (near c u (has-head c (G c)) hu)
+    where
+      three : (i j : ℕ) → suc i ≤ 2 → j ≤ 2 → i + j ≤ 3
+      three i j p q = omega arith
+
+      at : ((j : ℕ) × (j ≤ 2) × Chain (linked n G) j c u) → (j : ℕ) × (j ≤ 3) × Chain (linked n G) j u v
+      at q = split (split-first (q .2))
+        where
+          split : (c ≡ u) ⊎ ((i x : ℕ) × (q .0 ≡ suc i) × T (linked n G c x) × Chain (linked n G) i x u) → (j : ℕ) × (j ≤ 3) × Chain (linked n G) j u v
+          split (inl e) =
+              let r = near c v (has-head c (G c)) hv in
+              (r .0, le-trans (r .1) (omega arith), subst (λ (z : ℕ). Chain (linked n G) (r .0) z v) e (r .2))
+          split (inr p) =
+              let r = near (p .1) v (has-tail (p .1) c (G c) (linked-has n G c (p .1) (p .3))) hv in
+              (p .0 + r .0, three (p .0) (r .0) (subst (λ (k : ℕ). k ≤ 2) (p .2) (q .1)) (r .1), append (turn (linked-sym n G) (p .4)) (r .2))
+  within (covers f) near u v hu hv = at (of-cons u h (G h) (c .3))
+    where
+      c : (h : ℕ) × (h < n) × T (has h (hubs n s G)) × T (has u (closed G h))
+      c = hubs-cover n G s u hu (f u hu)
+
+      h : ℕ
+      h = c .0
+
+      r : (j : ℕ) × (j ≤ 2) × Chain (linked n G) j h v
+      r = near h v (c .2) hv
+
+      at : (u ≡ h) ⊎ T (has u (G h)) → (j : ℕ) × (j ≤ 3) × Chain (linked n G) j u v
+      at (inl e) = (r .0, le-trans (r .1) (omega arith), subst (λ (z : ℕ). Chain (linked n G) (r .0) z v) (sym e) (r .2))
+      at (inr t) = (suc (r .0), suc-le-suc (r .1), link (linked-sym n G h u (linked-of n G g h u (c .1) t)) (r .2))
+
+  -- some node is searched from, where there is a node at all
+  some-source : {hs : List ℕ} → Sources hs → (u : ℕ) → u < n → (h : ℕ) × T (has h hs)
+  unfolding closed
+  some-source (round c b) u hu = (c, has-head c (G c))
+  some-source (covers f) u hu = let c = hubs-cover n G s u hu (f u hu) in (c .0, c .2)
+
+  verdict-means : Means n (linked n G) (verdictOf n G (sources n s G))
+  unfolding verdictOf
+  verdict-means = one (any missed hs) refl
+    where
+      hs : List ℕ
+      hs = sources n s G
+
+      distance : ℕ → ℕ → ℕ
+      distance = fewest (linked n G) n
+
+      missed : ℕ → Bool
+      missed h = any (λ v. eqb (distance h v) none) (upTo n)
+
+      deep : ℕ → Bool
+      deep h = any (λ v. ltb 2 (distance h v)) (upTo n)
+
+      fails : (p : ℕ → Bool) (l : List ℕ) → any p l ≡ false → (x : ℕ) → T (has x l) → p x ≡ false
+      fails p l e x m = at (p x) refl
+        where
+          at : (c : Bool) → p x ≡ c → p x ≡ false
+          at true q = absurd (subst T e (any-of p l x m (subst T (sym q) tt)))
+          at false q = q
+
+      two : ((h : ℕ) → T (has h hs) → (v : ℕ) → v < n → distance h v ≡ none → ⊥) → (c : Bool) → any deep hs ≡ c
+          → Means n (linked n G) (if c then Long else Short)
+      two f true e =
+          let i = of-any deep hs (subst T (sym e) tt) in
+          let j = of-any (λ v. ltb 2 (distance (i .0) v)) (upTo n) (i .2) in
+          let hv = of-upTo n (j .0) (j .1) in
+          let hh = source-below source-cases (i .0) (i .1) in
+          is-long (i .0) (j .0) (distance (i .0) (j .0)) hh hv
+          (fewest-is (linked n G) n (i .0) (linked-ends n G) hh (j .0) (f (i .0) (i .1) (j .0) hv)) (ltb→lt 2 (distance (i .0) (j .0)) (j .2))
+          (λ a b ha hb.
+          let q = some-source source-cases a ha in
+          let hq = source-below source-cases (q .0) (q .1) in
+          let way : (v : ℕ) → v < n → Chain (linked n G) (distance (q .0) v) (q .0) v =
+          λ v h. fewest-is (linked n G) n (q .0) (linked-ends n G) hq v (f (q .0) (q .1) v h) .0 in
+          (distance (q .0) a + distance (q .0) b, append (turn (linked-sym n G) (way a ha)) (way b hb)))
+      two f false e = is-short (within source-cases (λ h v m hv. (
+        distance h v,
+        ltb-false 2 (distance h v) (fails (λ v. ltb 2 (distance h v)) (upTo n) (fails deep hs e h m) v (has-upTo n v hv)),
+        fewest-is (linked n G) n h (linked-ends n G) (source-below source-cases h m) v (f h m v hv) .0,
+      )))
+
+      one : (c : Bool) → any missed hs ≡ c
+          → Means n (linked n G) (if c then Parted else if any deep hs then Long else Short)
+      one true e =
+          let i = of-any missed hs (subst T (sym e) tt) in
+          let j = of-any (λ v. eqb (distance (i .0) v) none) (upTo n) (i .2) in
+          let hh = source-below source-cases (i .0) (i .1) in
+          is-parted (i .0) (j .0) hh (of-upTo n (j .0) (j .1))
+          (fewest-none (linked n G) n (i .0) (linked-ends n G) hh (omega arith) (j .0) (eqb→eq (distance (i .0) (j .0)) none (j .2)))
+      one false e = two (λ h m v hv. eqb-false (distance h v) none
+          (fails (λ v. eqb (distance h v) none) (upTo n) (fails missed hs e h m) v (has-upTo n v hv))) (any deep hs) refl
+
+  -- what a verdict shows is what demand 3 asks of it
+  means-right : {v : Verdict} → Means n (linked n G) v → VerdictRight n (linked n G) v
+  means-right (is-parted u v hu hv f) = record {
+    parted = (λ e. (u, v, hu, hv, f), λ p. refl);
+    not-short = λ a b d ha hb m l e. clash e;
+    not-long = λ all e. clash′ e;
+  }
+    where
+      clash : Parted ≡ Short → ⊥
+      clash e = let z : _≡_ {A = ℕ} 0 1 = cc in omega arith
+
+      clash′ : Parted ≡ Long → ⊥
+      clash′ e = let z : _≡_ {A = ℕ} 0 1 = cc in omega arith
+  means-right (is-long u v d hu hv m l joined) = record {
+    parted = (λ e. absurd (clash e), λ p. let c = joined (p .0) (p .1) (p .2) (p .3) in absurd (p .4 (c .0) (c .1)));
+    not-short = λ a b k ha hb q h e. clash′ e;
+    not-long = λ all e. let x = all u v hu hv in let y = m .1 (x .0) (x .2 .0) in omega (arith, x .1);
+  }
+    where
+      clash : Long ≡ Parted → ⊥
+      clash e = let z : _≡_ {A = ℕ} 0 1 = cc in omega arith
+
+      clash′ : Long ≡ Short → ⊥
+      clash′ e = let z : _≡_ {A = ℕ} 0 1 = cc in omega arith
+  means-right (is-short near) = record {
+    parted = (λ e. absurd (clash e), λ p. let c = near (p .0) (p .1) (p .2) (p .3) in absurd (p .4 (c .0) (c .2)));
+    not-short = λ a b d ha hb m l e. let c = near a b ha hb in let k = m .1 (c .0) (c .2) in omega (arith, c .1);
+    not-long = λ all e. clash′ e;
+  }
+    where
+      clash : Short ≡ Parted → ⊥
+      clash e = let z : _≡_ {A = ℕ} 0 1 = cc in omega arith
+
+      clash′ : Short ≡ Long → ⊥
+      clash′ e = let z : _≡_ {A = ℕ} 0 1 = cc in omega arith
+
+  pub verdict-right : VerdictRight n (linked n G) (tested n s G .verdict)
+  unfolding tested
+  verdict-right = means-right verdict-means

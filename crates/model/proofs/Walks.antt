@@ -1,0 +1,318 @@
+-- Asking and walking. A walk that is given out is a chain of the survey's links, whatever the tables hold, and no more steps are
+-- taken than there are nodes.
+-- Assumes nothing.
+use mathlib.Core.Path.{_≡_, refl, sym, ap, _∙_, subst}
+use mathlib.Core.Logic.{_⊎_, inl, inr}
+use mathlib.Core.Bool.{Bool, true, false, not, _&&_, _||_}
+use mathlib.Core.List.{List, [], _∷_, _++_, reverse, tail, reverse-cons}
+use mathlib.Core.Option.{Option, none as missing, some}
+use Prim.Native.Nat.{ℕ, zero, suc, _+_, _-_, _*_, _≤_, _<_, zero-le, suc-le-suc}
+use native.Mathlib.Nat.{le-refl, le-trans, sub-zero}
+use native.Mathlib.Omega.{arith}
+use borrow.Author.Tests.{ltb-false}
+use lib.Dec.{T, eqb, ltb, leb, eqb→eq, ltb→lt, lt→ltb}
+use lib.ListN.{length, replicate, length-append, length-reverse}
+use Rattle.model.specs.declared.Route.{Route}
+use Rattle.model.specs.declared.Route.the-variants.{Itself, Low, Through, NoRoute}
+use Rattle.model.specs.declared.Answer.{Answer}
+use Rattle.model.specs.Answers.{Outcome, refused, answered}
+use Rattle.model.specs.Basics.{none, if_then_else_, has, keep, upTo, firstOf}
+use Rattle.model.specs.Graph.{Edges, Chain, here, link, Fewest, Walked, stop, go, fewest}
+use Rattle.model.specs.Survey.{Graph, linked, IsGraph}
+use Rattle.model.specs.Hubs.{isLow, hubs}
+use Rattle.model.specs.Tables.{entry, via}
+use Rattle.model.specs.Pair.{answer, attaining, choose, pairBy}
+use Rattle.model.specs.Walk.{before, next, steps, byLow, toHub, join, nodes}
+use Rattle.model.specs.Walking.{Walking, refuseWalk, fit, walkOf}
+use Rattle.model.proofs.Tests.{and-l, and-r, and-i, is, isnt, eq-T}
+use Rattle.model.proofs.Lists.{has-head, has-upTo, first-in, first-below, First, found, nothing, keep-grows, keep-length, length-upTo}
+use Rattle.model.proofs.Acceptance.{linked-of, linked-sym}
+use Rattle.model.proofs.Allowance.{Sum, whole, part, sum-is}
+
+-- ---- the cases of an answer
+
+pub data Chosen (a b r l h : ℕ) : Outcome Answer → Type 0 where
+  to-itself : a ≡ b → r ≡ 0 → Chosen a b r l h (answered (answer 0 Itself))
+  to-none : (a ≡ b → ⊥) → r ≡ none → Chosen a b r l h (answered (answer none NoRoute))
+  to-low : (a ≡ b → ⊥) → (r ≡ none → ⊥) → l ≡ r → Chosen a b r l h (answered (answer r Low))
+  to-hub : (a ≡ b → ⊥) → (r ≡ none → ⊥) → (l ≡ r → ⊥) → (h ≡ none → ⊥) → Chosen a b r l h (answered (answer r (Through h)))
+  bad-itself : a ≡ b → (r ≡ 0 → ⊥) → Chosen a b r l h (refused 11)
+  bad-hub : (a ≡ b → ⊥) → (r ≡ none → ⊥) → (l ≡ r → ⊥) → h ≡ none → Chosen a b r l h (refused 11)
+
+pub chosen : (a b r l h : ℕ) → Chosen a b r l h (choose a b r l h)
+unfolding choose
+chosen a b r l h = one (eqb a b) refl
+  where
+    four : (a ≡ b → ⊥) → (r ≡ none → ⊥) → (l ≡ r → ⊥) → (t : Bool) → eqb h none ≡ t → Chosen a b r l h (if t then refused 11 else answered (answer r (Through h)))
+    four x y z true e = bad-hub x y z (is h none e)
+    four x y z false e = to-hub x y z (isnt h none e)
+
+    three : (a ≡ b → ⊥) → (r ≡ none → ⊥) → (t : Bool) → eqb l r ≡ t → Chosen a b r l h (if t then answered (answer r Low) else if eqb h none then refused 11 else answered (answer r (Through h)))
+    three x y true e = to-low x y (is l r e)
+    three x y false e = four x y (isnt l r e) (eqb h none) refl
+
+    two : (a ≡ b → ⊥) → (t : Bool) → eqb r none ≡ t
+        → Chosen a b r l h (if t then answered (answer none NoRoute) else if eqb l r then answered (answer r Low) else if eqb h none then refused 11 else answered (answer r (Through h)))
+    two x true e = to-none x (is r none e)
+    two x false e = three x (isnt r none e) (eqb l r) refl
+
+    zeroed : a ≡ b → (t : Bool) → eqb r 0 ≡ t → Chosen a b r l h (if t then answered (answer 0 Itself) else refused 11)
+    zeroed x true e = to-itself x (is r 0 e)
+    zeroed x false e = bad-itself x (isnt r 0 e)
+
+    one : (t : Bool) → eqb a b ≡ t
+        → Chosen a b r l h (if t then (if eqb r 0 then answered (answer 0 Itself) else refused 11)
+        else if eqb r none then answered (answer none NoRoute) else if eqb l r then answered (answer r Low) else if eqb h none then refused 11 else answered (answer r (Through h)))
+    one true e = zeroed (is a b e) (eqb r 0) refl
+    one false e = two (isnt a b e) (eqb r none) refl
+
+-- ---- one part of a walk
+
+-- where there are nodes, they are a chain of d links from v to goal
+abbrev pub Sound : Edges → ℕ → ℕ → ℕ → Option (List ℕ) → Type 0
+Sound E d v goal missing = Unit {0}
+Sound E d v goal (some l) = Walked E l v goal × (length l ≡ suc d)
+
+abbrev pub Given : Option (List ℕ) → Type 0
+Given missing = ⊥
+Given (some l) = Unit {0}
+
+module _ (n : ℕ) (G : Graph) (g : IsGraph n G) (may : ℕ → Bool) (left : ℕ → ℕ) (goal : ℕ) where
+  pub steps-sound : (d v : ℕ) → v < n → Sound (linked n G) d v goal (steps G may left goal d v)
+  unfolding steps next before
+  steps-sound zero v h = at (eqb v goal) refl
+    where
+      at : (t : Bool) → eqb v goal ≡ t → Sound (linked n G) 0 v goal (if t then some (v ∷ []) else missing)
+      at true e = (subst (λ (z : ℕ). Walked (linked n G) (v ∷ []) v z) (is v goal e) stop, refl)
+      at false e = tt
+  steps-sound (suc d) v h = at (eqb x none) refl (first-in p none (G v)) (λ b. steps-sound d x b)
+    where
+      p : ℕ → Bool
+      p x = may x && eqb (left x) d
+
+      x : ℕ
+      x = firstOf p none (G v)
+
+      add : (o : Option (List ℕ)) → T (linked n G v x) → Sound (linked n G) d x goal o → Sound (linked n G) (suc d) v goal (before v o)
+      add missing t s = tt
+      add (some l) t s = (go t (s .0), ap suc (s .1))
+
+      at : (t : Bool) → eqb x none ≡ t → (T (has x (G v)) × T (p x)) ⊎ ((x ≡ none) × ((y : ℕ) → T (has y (G v)) → T (p y) → ⊥))
+          → (x < n → Sound (linked n G) d x goal (steps G may left goal d x))
+          → Sound (linked n G) (suc d) v goal (if t then missing else before v (steps G may left goal d x))
+      at true e r rec = tt
+      at false e (inl r) rec = add (steps G may left goal d x) (linked-of n G g v x h (r .0)) (rec (g .below v x h (r .0)))
+      at false e (inr r) rec = absurd (isnt x none e (r .0))
+
+  -- where each node has a next one, one link nearer, the steps lead to the goal
+  pub steps-given : n ≤ none → ((v d : ℕ) → v < n → suc d < none → left v ≡ suc d → (u : ℕ) × T (has u (G v)) × T (may u) × (left u ≡ d))
+      → ((v : ℕ) → v < n → left v ≡ 0 → v ≡ goal) → (d v : ℕ) → v < n → d < none → left v ≡ d → Given (steps G may left goal d v)
+  unfolding steps next before
+  steps-given size next end zero v h z q = at (eqb v goal) (eq-T v goal (end v h q))
+    where
+      at : (t : Bool) → T t → Given (if t then some (v ∷ []) else missing)
+      at true t = tt
+      at false t = t
+  steps-given size next end (suc d) v h z q = at (first-in p none (G v)) (λ b e. steps-given size next end d x b (omega arith) e)
+    where
+      p : ℕ → Bool
+      p x = may x && eqb (left x) d
+
+      x : ℕ
+      x = firstOf p none (G v)
+
+      add : (o : Option (List ℕ)) → Given o → Given (before v o)
+      add missing t = t
+      add (some l) t = tt
+
+      away : (t : Bool) → eqb x none ≡ t → x < n → Given (steps G may left goal d x) → Given (if t then missing else before v (steps G may left goal d x))
+      away true e b s = let w : x ≡ none = is x none e in absurd (omega arith)
+      away false e b s = add (steps G may left goal d x) s
+
+      at : (T (has x (G v)) × T (p x)) ⊎ ((x ≡ none) × ((y : ℕ) → T (has y (G v)) → T (p y) → ⊥))
+          → (x < n → left x ≡ d → Given (steps G may left goal d x)) → Given (if eqb x none then missing else before v (steps G may left goal d x))
+      at (inl r) rec =
+          let b = g .below v x h (r .0) in
+          away (eqb x none) refl b (rec b (eqb→eq (left x) d (and-r (may x) (eqb (left x) d) (r .1))))
+      at (inr r) rec =
+          let u = next v d h z q in
+          absurd (r .1 (u .0) (u .1) (and-i (may (u .0)) (eqb (left (u .0)) d) (u .2) (eq-T (left (u .0)) d (u .3))))
+
+-- ---- two parts joined
+
+module _ {E : Edges} where
+  walked-head : {l : List ℕ} {a b : ℕ} → Walked E l a b → l ≡ a ∷ tail l
+  walked-head stop = refl
+  walked-head (go t r) = refl
+
+  walked-snoc : {l : List ℕ} {a b c : ℕ} → Walked E l a b → T (E b c) → Walked E (l ++ (c ∷ [])) a c
+  walked-snoc stop t = go t stop
+  walked-snoc (go s r) t = go s (walked-snoc r t)
+
+  walked-append : {p q : List ℕ} {a b c : ℕ} → Walked E p a b → Walked E q b c → Walked E (p ++ tail q) a c
+  walked-append {a = a} {c = c} stop w = subst (λ (x : List ℕ). Walked E x a c) (walked-head w) w
+  walked-append (go t r) w = go t (walked-append r w)
+
+  walked-turn : ((u v : ℕ) → T (E u v) → T (E v u)) → {l : List ℕ} {a b : ℕ} → Walked E l a b → Walked E (reverse l) b a
+  walked-turn f stop = stop
+  walked-turn f {a = a} {b = c} (go {l = l} t r) = subst (λ (x : List ℕ). Walked E x c a) (sym (reverse-cons a l)) (walked-snoc (walked-turn f r) (f _ _ t))
+
+pub join-sound : (E : Edges) → ((u v : ℕ) → T (E u v) → T (E v u)) → (i j a b h : ℕ) (p q : Option (List ℕ))
+    → Sound E i a h p → Sound E j b h q → Sound E (i + j) a b (join p q)
+unfolding join
+join-sound E f i j a b h missing q s t = tt
+join-sound E f i j a b h (some p) missing s t = tt
+join-sound E f i j a b h (some p) (some q) s t =
+    let w = walked-turn f (t .0) in (
+      walked-append (s .0) w,
+      length-append p (tail (reverse q)) ∙ omega (arith, s .1, t .1, ap length (walked-head w), length-reverse q),
+    )
+
+pub join-given : (p q : Option (List ℕ)) → Given p → Given q → Given (join p q)
+unfolding join
+join-given missing q s t = s
+join-given (some p) missing s t = t
+join-given (some p) (some q) s t = tt
+
+-- ---- how deep the recursion goes
+
+-- the calls that `steps` makes of itself
+unfoldable pub depth : Graph → (ℕ → Bool) → (ℕ → ℕ) → ℕ → ℕ → ℕ
+depth G may left zero v = 0
+depth G may left (suc d) v =
+    let x = next G may left d v in
+    let more = suc (depth G may left d x) in
+    if eqb x none then 0 else more
+
+-- each step enters a node with a number of its own, so there are no more steps than nodes
+module _ (n : ℕ) (G : Graph) (g : IsGraph n G) (may : ℕ → Bool) (left : ℕ → ℕ) where
+  under : ℕ → ℕ
+  under d = length (keep (λ x. ltb (left x) d) (upTo n))
+
+  depth-under : (d v : ℕ) → v < n → depth G may left d v ≤ under d
+  unfolding depth next under
+  depth-under zero v h = zero-le
+  depth-under (suc d) v h = at (eqb x none) refl (first-in p none (G v)) (λ b. depth-under d x b)
+    where
+      p : ℕ → Bool
+      p x = may x && eqb (left x) d
+
+      x : ℕ
+      x = firstOf p none (G v)
+
+      more : x < n → left x ≡ d → under d < under (suc d)
+      more b e = side (keep-grows (λ y. ltb (left y) d) (λ y. ltb (left y) (suc d)) (upTo n) (λ y m t. lt→ltb (left y) (suc d) (later y (ltb→lt (left y) d t))))
+        where
+          later : (y : ℕ) → left y < d → left y < suc d
+          later y l = omega arith
+
+          side : ((y : ℕ) → T (has y (upTo n)) → T (ltb (left y) (suc d)) → T (ltb (left y) d)) ⊎ (under d < under (suc d)) → under d < under (suc d)
+          side (inl f) = absurd (let l = ltb→lt (left x) d (f x (has-upTo n x b) (lt→ltb (left x) (suc d) (omega arith))) in omega arith)
+          side (inr l) = l
+
+      at : (t : Bool) → eqb x none ≡ t → (T (has x (G v)) × T (p x)) ⊎ ((x ≡ none) × ((y : ℕ) → T (has y (G v)) → T (p y) → ⊥))
+          → (x < n → depth G may left d x ≤ under d) → (if t then 0 else suc (depth G may left d x)) ≤ under (suc d)
+      at true e r rec = zero-le
+      at false e (inl r) rec =
+          let b = g .below v x h (r .0) in
+          let l = rec b in
+          let m = more b (eqb→eq (left x) d (and-r (may x) (eqb (left x) d) (r .1))) in
+          omega arith
+      at false e (inr r) rec = absurd (isnt x none e (r .0))
+
+  pub depth-bounded : (d v : ℕ) → v < n → depth G may left d v ≤ n
+  unfolding under
+  depth-bounded d v h = omega (arith, depth-under d v h, keep-length (λ x. ltb (left x) d) (upTo n), length-upTo n)
+
+-- ---- the whole walk, whatever the tables hold
+
+-- what a walk list of w entries holds at return, with the answer: refused, no route, or a chain of as many links as the report
+pub data Given-out (E : Edges) (a b w : ℕ) : Walking → Type 0 where
+  refusal : (k : ℕ) → Given-out E a b w (record { answer = refused k; walk = replicate w none })
+  no-way : Given-out E a b w (record { answer = answered (answer none NoRoute); walk = replicate w none })
+  walked : (x : Answer) (l : List ℕ) → Walked E l a b → length l ≡ suc (x .report) → length l ≤ w
+      → Given-out E a b w (record { answer = answered x; walk = l ++ replicate (w - length l) none })
+
+fit-outcome : (E : Edges) (a b w : ℕ) (x : Answer) (o : Option (List ℕ)) → Sound E (x .report) a b o → Given-out E a b w (fit w x o)
+unfolding fit refuseWalk
+fit-outcome E a b w x missing s = refusal 11
+fit-outcome E a b w x (some l) s = at (ltb w (length l)) refl
+  where
+    at : (c : Bool) → ltb w (length l) ≡ c
+        → Given-out E a b w (if c then record { answer = refused 8; walk = replicate w none } else record { answer = answered x; walk = l ++ replicate (w - length l) none })
+    at true e = refusal 8
+    at false e = walked x l (s .0) (s .1) (ltb-false w (length l) e)
+
+fit-none : (E : Edges) (a b w : ℕ) → Given-out E a b w (fit w (answer none NoRoute) (some []))
+unfolding fit refuseWalk
+fit-none E a b w = at (ltb w 0) refl
+  where
+    at : (c : Bool) → ltb w 0 ≡ c
+        → Given-out E a b w (if c then record { answer = refused 8; walk = replicate w none } else record { answer = answered (answer none NoRoute); walk = replicate (w - 0) none })
+    at true e = refusal 8
+    at false e = subst (λ (k : ℕ). Given-out E a b w (record { answer = answered (answer none NoRoute); walk = replicate k none })) (sym (sub-zero w)) no-way
+
+module _ (isHub : ℕ → Bool) (n : ℕ) (full : List ℕ) (a b : ℕ) where
+  -- a hub that attains a report is below n, counts as a hub, and its two entries add up to the report
+  pub attains : (r : ℕ) → (attaining isHub n full a b r ≡ none → ⊥)
+      → (attaining isHub n full a b r < n) × T (isHub (attaining isHub n full a b r)) × (via n full a b (attaining isHub n full a b r) ≡ r)
+  unfolding attaining
+  attains r d = at (first-below p none n) d
+    where
+      p : ℕ → Bool
+      p h = isHub h && eqb (via n full a b h) r
+
+      at : {x : ℕ} → First p none 0 n x → (x ≡ none → ⊥) → (x < n) × T (isHub x) × (via n full a b x ≡ r)
+      at {x} (found lo hi t least) d = (
+        omega arith,
+        and-l (isHub x) (eqb (via n full a b x) r) t,
+        eqb→eq (via n full a b x) r (and-r (isHub x) (eqb (via n full a b x) r) t),
+      )
+      at (nothing e miss) d = absurd (d e)
+
+  -- a sum of entries that is not none is the sum of both
+  pub via-sum : (h z : ℕ) → via n full a b h ≡ z → (z ≡ none → ⊥)
+      → (entry n full h a ≡ none → ⊥) × (entry n full h b ≡ none → ⊥) × (entry n full h a + entry n full h b ≡ z)
+  unfolding via
+  via-sum h z e f = at (sum-is (entry n full h a) (entry n full h b)) e
+    where
+      at : {y : ℕ} → Sum (entry n full h a) (entry n full h b) y → y ≡ z
+          → (entry n full h a ≡ none → ⊥) × (entry n full h b ≡ none → ⊥) × (entry n full h a + entry n full h b ≡ z)
+      at (whole p q s) e = (p, q, sym s ∙ e)
+      at (part s p) e = absurd (f (sym e ∙ s))
+
+module _ (n s : ℕ) (G : Graph) (g : IsGraph n G) (full low : List ℕ) (a b : ℕ) (ha : a < n) (hb : b < n) where
+  pub low-sound : Sound (linked n G) (entry n low a b) a b (byLow n s G low a b)
+  unfolding byLow
+  low-sound = steps-sound n G g (isLow s G) (λ x. entry n low x b) b (entry n low a b) a ha
+
+  pub hub-sound : (h : ℕ) → Sound (linked n G) (entry n full h a + entry n full h b) a b (join (toHub n G full h a) (toHub n G full h b))
+  unfolding toHub
+  hub-sound h =
+      join-sound (linked n G) (linked-sym n G) (entry n full h a) (entry n full h b) a b h (toHub n G full h a) (toHub n G full h b)
+      (steps-sound n G g (λ x. true) (λ x. entry n full h x) h (entry n full h a) a ha)
+      (steps-sound n G g (λ x. true) (λ x. entry n full h x) h (entry n full h b) b hb)
+
+  -- whatever hubs are taken and whatever the tables hold, a walk given out is a chain of as many links as reported
+  pub walk-given-out : (isHub : ℕ → Bool) (report : List ℕ) (w : ℕ)
+      → Given-out (linked n G) a b w (walkOf w n s G full low a b (pairBy isHub n full low report a b))
+  unfolding pairBy walkOf nodes refuseWalk
+  walk-given-out isHub report w = at (chosen a b r (entry n low a b) hub)
+    where
+      r : ℕ
+      r = entry n report a b
+
+      hub : ℕ
+      hub = attaining isHub n full a b r
+
+      at : {q : Outcome Answer} → Chosen a b r (entry n low a b) hub q → Given-out (linked n G) a b w (walkOf w n s G full low a b q)
+      at (to-itself e z) = fit-outcome (linked n G) a b w (answer 0 Itself) (some (a ∷ [])) (subst (λ (x : ℕ). Walked (linked n G) (a ∷ []) a x) e stop, refl)
+      at (to-none x e) = fit-none (linked n G) a b w
+      at (to-low x f e) = fit-outcome (linked n G) a b w (answer r Low) (byLow n s G low a b) (subst (λ (d : ℕ). Sound (linked n G) d a b (byLow n s G low a b)) e low-sound)
+      at (to-hub x f y z) =
+          let i = attains isHub n full a b r z in
+          let e = via-sum isHub n full a b hub r (i .2) f in
+          fit-outcome (linked n G) a b w (answer r (Through hub)) (join (toHub n G full hub a) (toHub n G full hub b))
+          (subst (λ (d : ℕ). Sound (linked n G) d a b (join (toHub n G full hub a) (toHub n G full hub b))) (e .2) (hub-sound hub))
+      at (bad-itself e f) = refusal 11
+      at (bad-hub x f y z) = refusal 11

@@ -1,0 +1,53 @@
+-- The answers of the open calls as document 01 gives them: a refusal's number, or a value.
+-- Assumes nothing.
+use Prim.Native.Nat.{ℕ}
+use Rattle.model.specs.declared.Refusal.{Refusal}
+use Rattle.model.specs.declared.Refusal.the-variants.{Form, NodeCount, LinkCount, LineNode, EqualEnds, RepeatedLink, LineCount, ShortList, NotSurvey, NoNode, NotAttained, ShortBuffer}
+use Rattle.model.specs.declared.Size.{Size}
+use Rattle.model.specs.declared.Answer.{Answer}
+use Rattle.model.specs.declared.Tested.{Tested}
+use Rattle.model.specs.declared.Reading.{Reading}
+use Rattle.model.specs.declared.Reading.the-variants as reading
+use Rattle.model.specs.declared.Counting.{Counting}
+use Rattle.model.specs.declared.Counting.the-variants as counting
+use Rattle.model.specs.declared.Asking.{Asking}
+use Rattle.model.specs.declared.Asking.the-variants as asking
+use Rattle.model.specs.declared.Testing.{Testing}
+use Rattle.model.specs.declared.Testing.the-variants as testing
+
+-- a refusal with its number, or the answer's value
+pub data Outcome (A : Type 0) : Type 0 where
+  refused : ℕ → Outcome A
+  answered : A → Outcome A
+
+-- document 01's number for each refusal
+abbrev pub number : Refusal → ℕ
+number Form = 1
+number NodeCount = 2
+number LinkCount = 3
+number LineNode = 4
+number EqualEnds = 5
+number RepeatedLink = 6
+number LineCount = 7
+number ShortList = 8
+number NotSurvey = 9
+number NoNode = 10
+number NotAttained = 11
+number ShortBuffer = 12
+
+-- what each case of a call's answer stands for
+abbrev pub readAnswer : Reading → Outcome Size
+readAnswer (reading.Refused r) = refused (number r)
+readAnswer (reading.Read s) = answered s
+
+abbrev pub countAnswer : Counting → Outcome ℕ
+countAnswer (counting.Refused r) = refused (number r)
+countAnswer (counting.Count k) = answered k
+
+abbrev pub pairAnswer : Asking → Outcome Answer
+pairAnswer (asking.Refused r) = refused (number r)
+pairAnswer (asking.Answered x) = answered x
+
+abbrev pub testAnswer : Testing → Outcome Tested
+testAnswer (testing.Refused r) = refused (number r)
+testAnswer (testing.Tested x) = answered x

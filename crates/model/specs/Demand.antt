@@ -1,0 +1,45 @@
+-- Demand 3 in terms of chains alone: what reports, walks and verdicts have to say of a graph with the links E.
+-- Assumes nothing.
+use mathlib.Core.Path.{_≡_}
+use mathlib.Core.Logic.{_⊎_, _↔_}
+use mathlib.Core.List.{List}
+use Prim.Native.Nat.{ℕ, suc, _+_, _≤_, _<_}
+use lib.ListN.{length, take}
+use Rattle.model.specs.declared.Answer.{Answer}
+use Rattle.model.specs.declared.Verdict.{Verdict}
+use Rattle.model.specs.declared.Verdict.the-variants.{Parted, Long, Short}
+use Rattle.model.specs.Answers.{Outcome, answered}
+use Rattle.model.specs.Basics.{none}
+use Rattle.model.specs.Graph.{Edges, Chain, Apart, Fewest, Walked}
+use Rattle.model.specs.Walking.{Walking}
+
+-- a report: none exactly where no chain joins the pair; else at least the fewest links, and at most two more
+pub record Allowed (E : Edges) (a b r : ℕ) : Type 0 where
+  pub no-route : (r ≡ none) ↔ Apart E a b
+  pub near : (d : ℕ) → Fewest E a b d → (d ≤ r) × (r ≤ d + 2)
+
+-- an answer that is not refused, with an allowed report
+pub record AllowedAnswer (E : Edges) (a b : ℕ) (o : Outcome Answer) : Type 0 where
+  pub value : Answer
+  pub given : o ≡ answered value
+  pub allowed : Allowed E a b (value .report)
+
+-- the first r + 1 entries of a list are a walk: a first, b last, each linked to the next
+pub record IsWalk (E : Edges) (a b r : ℕ) (list : List ℕ) : Type 0 where
+  pub links : Walked E (take (r + 1) list) a b
+  pub count : length (take (r + 1) list) ≡ r + 1
+
+-- a walk that is given out is a chain of the links, of exactly the reported length
+abbrev pub WalkSound : Edges → (a b : ℕ) → Walking → Type 0
+WalkSound E a b r = (x : Answer) → r .answer ≡ answered x → (x .report ≡ none → ⊥) → IsWalk E a b (x .report) (r .walk)
+
+-- where asking answers x, a walk list of w entries that is long enough gets the same answer
+abbrev pub WalkAnswers : ℕ → Outcome Answer → Walking → Type 0
+WalkAnswers w o r = (x : Answer) → o ≡ answered x → (x .report ≡ none) ⊎ (x .report < w) → r .answer ≡ answered x
+
+-- a verdict: parted exactly when some two nodes are not joined, never short where some two are four or more apart, never long
+-- where all are within two
+pub record VerdictRight (n : ℕ) (E : Edges) (v : Verdict) : Type 0 where
+  pub parted : (v ≡ Parted) ↔ ((a : ℕ) × (b : ℕ) × (a < n) × (b < n) × Apart E a b)
+  pub not-short : (a b d : ℕ) → a < n → b < n → Fewest E a b d → 4 ≤ d → v ≡ Short → ⊥
+  pub not-long : ((a b : ℕ) → a < n → b < n → (d : ℕ) × (d ≤ 2) × Fewest E a b d) → v ≡ Long → ⊥

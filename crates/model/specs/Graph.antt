@@ -1,0 +1,41 @@
+-- What demand 3 compares: chains (walks in a graph) and the fewest links (the distance) of two nodes.
+-- Assumes nothing.
+use mathlib.Core.Bool.{Bool, _||_}
+use mathlib.Core.List.{List, [], _∷_}
+use Prim.Native.Nat.{ℕ, zero, suc, _≤_}
+use lib.Dec.{T}
+use Rattle.model.specs.Basics.{none, upTo, has, any, keep, firstOf}
+
+-- the links taken: E a b where a and b are linked
+abbrev pub Edges : Type 0
+Edges = ℕ → ℕ → Bool
+
+-- "A chain is a list of one or more nodes, each linked to the next. It joins its first node and its last": Chain E k a b is
+-- one of k links that joins a and b
+pub data Chain (E : Edges) : ℕ → ℕ → ℕ → Type 0 where
+  here : {a : ℕ} → Chain E 0 a a
+  link : {k a b c : ℕ} → T (E a b) → Chain E k b c → Chain E (suc k) a c
+
+-- no chain joins a and b
+abbrev pub Apart : Edges → ℕ → ℕ → Type 0
+Apart E a b = (k : ℕ) → Chain E k a b → ⊥
+
+-- "The fewest links of two nodes is the least number of links in a chain that joins them"
+abbrev pub Fewest : Edges → ℕ → ℕ → ℕ → Type 0
+Fewest E a b d = Chain E d a b × ((k : ℕ) → Chain E k a b → d ≤ k)
+
+-- the nodes of the list l are a chain: a first, b last, each linked to the next
+pub data Walked (E : Edges) : List ℕ → ℕ → ℕ → Type 0 where
+  stop : {a : ℕ} → Walked E (a ∷ []) a a
+  go : {a b c : ℕ} {l : List ℕ} → T (E a b) → Walked E l b c → Walked E (a ∷ l) a c
+
+-- ---- the same as a function (`fewest-cases` of proofs/Chains.antt)
+
+-- the nodes that chains of at most k links from a reach, in a graph of n nodes
+unfoldable pub reach : Edges → ℕ → ℕ → ℕ → List ℕ
+reach E n a zero = a ∷ []
+reach E n a (suc k) = let r = reach E n a k in keep (λ v. has v r || any (λ u. E u v) r) (upTo n)
+
+-- the least such k for b, or none
+unfoldable pub fewest : Edges → ℕ → ℕ → ℕ → ℕ
+fewest E n a b = firstOf (λ k. has b (reach E n a k)) none (upTo n)

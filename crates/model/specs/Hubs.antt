@@ -1,0 +1,45 @@
+-- Low and high nodes, and the hubs: a dominating set of the high nodes, chosen greedily. n nodes, threshold s, neighbours G.
+-- Assumes nothing.
+use mathlib.Core.Bool.{Bool, not}
+use mathlib.Core.List.{List, [], _∷_, _++_}
+use Prim.Native.Nat.{ℕ, zero, suc, _-_}
+use lib.Dec.{leb}
+use lib.ListN.{length, replicate}
+use Rattle.model.specs.Basics.{none, upTo, has, all, keep, firstOf}
+use Rattle.model.specs.Survey.{Graph}
+
+-- "A node is high if it has at least s(n) neighbours, else low.": its degree is at least s
+unfoldable pub isHigh : ℕ → Graph → ℕ → Bool
+isHigh s G v = leb s (length (G v))
+
+unfoldable pub isLow : ℕ → Graph → ℕ → Bool
+isLow s G v = not (isHigh s G v)
+
+-- "closed neighbourhood (itself and its neighbours)"
+unfoldable pub closed : Graph → ℕ → List ℕ
+closed G v = v ∷ G v
+
+-- how many of the uncovered nodes U the closed neighbourhood of v holds
+unfoldable pub gain : Graph → List ℕ → ℕ → ℕ
+gain G U v = length (keep (λ u. has u (closed G v)) U)
+
+-- "the node, high or low, whose closed neighbourhood holds most uncovered high nodes, the smallest number on a tie"
+unfoldable pub best : ℕ → Graph → List ℕ → ℕ
+best n G U = firstOf (λ v. all (λ w. leb (gain G U w) (gain G U v)) (upTo n)) none (upTo n)
+
+-- "while some high node is uncovered, .. it becomes a hub and covers them"
+-- (each hub covers one or more, so `length U` turns are enough: `greedy-covers` of proofs/Covering.antt)
+unfoldable pub greedy : ℕ → Graph → ℕ → List ℕ → List ℕ
+greedy n G zero U = []
+greedy n G (suc turns) [] = []
+greedy n G (suc turns) (u ∷ U) =
+    let h = best n G (u ∷ U) in
+    h ∷ greedy n G turns (keep (λ x. not (has x (closed G h))) (u ∷ U))
+
+-- the hubs in the order chosen
+unfoldable pub hubs : ℕ → ℕ → Graph → List ℕ
+hubs n s G = let U = keep (isHigh s G) (upTo n) in greedy n G (length U) U
+
+-- "The hub list has n entries of 16 bits: hubs in the order chosen, then none."
+unfoldable pub hubList : ℕ → ℕ → Graph → List ℕ
+hubList n s G = let hs = hubs n s G in hs ++ replicate (n - length hs) none

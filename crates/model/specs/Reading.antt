@@ -1,0 +1,99 @@
+-- Reading a survey from its text: the answer, and what the two lists hold at return.
+-- Assumes nothing.
+use mathlib.Core.Bool.{Bool, false, _&&_, _||_}
+use mathlib.Core.List.{List, [], _∷_, map}
+use mathlib.Core.Option.{none as missing, some}
+use Prim.Native.Nat.{ℕ, zero, suc, _+_, _*_}
+use lib.Dec.{eqb, ltb, leb}
+use lib.ListN.{length, replicate}
+use Rattle.model.specs.declared.Size.{Size}
+use Rattle.model.specs.Answers.{Outcome, refused, answered}
+use Rattle.model.specs.Basics.{if_then_else_, upTo, keep, gather, over}
+use Rattle.model.specs.SurveyText.{line}
+use Rattle.model.specs.Survey.{Graph}
+
+-- the link is one of these, either way round
+unfoldable pub named : List (ℕ × ℕ) → ℕ → ℕ → Bool
+named [] a b = false
+named (l ∷ ls) a b = eqb (l .0) a && eqb (l .1) b || eqb (l .0) b && eqb (l .1) a || named ls a b
+
+-- a link in front of those that the later lines name
+unfoldable pub onLinks : ℕ × ℕ → Outcome (List (ℕ × ℕ)) → Outcome (List (ℕ × ℕ))
+onLinks l (refused k) = refused k
+onLinks l (answered ls) = answered (l ∷ ls)
+
+-- "Then line by line: 1 wrong form or text ending inside a line; 4 a node of n or more; 5 both ends equal; 6 a link already given,
+-- either way round. 7 the text ends at a line's end before m links, or a byte follows the m-th."
+-- The links that m lines name; `done` are those given before
+unfoldable pub readLinks : ℕ → ℕ → List (ℕ × ℕ) → List ℕ → Outcome (List (ℕ × ℕ))
+readLinks n zero done [] = answered []
+readLinks n zero done (c ∷ text) = refused 7
+readLinks n (suc m) done [] = refused 7
+readLinks n (suc m) done (c ∷ text) =
+    elim (line 76 (c ∷ text)) [
+      | missing ↦ refused 1
+      | some l ↦
+          let a = l .0 in
+          let b = l .1 in
+          let rest = onLinks (a, b) (readLinks n m ((a, b) ∷ done) (l .2)) in
+          if leb n a || leb n b then refused 4
+          else if eqb a b then refused 5
+          else if named done a b then refused 6
+          else rest
+    ]
+
+-- what a text says: the count of nodes, and the links in the order of their lines
+pub record Parsed : Type 0 where
+  pub nodes : ℕ
+  pub links : List (ℕ × ℕ)
+
+unfoldable pub parsed : ℕ → Outcome (List (ℕ × ℕ)) → Outcome Parsed
+parsed n (refused k) = refused k
+parsed n (answered ls) = answered (record { nodes = n; links = ls })
+
+-- "First line: 1 not in the stated form; 2 n outside 1 to 1,024; 3 m above 16,384; 8 `starts` shorter than n + 1 or `neighbours`
+-- shorter than 2m." The limits, and the lengths p and q of the two lists, are parameters
+unfoldable pub parse : (mostNodes mostLinks p q : ℕ) → List ℕ → Outcome Parsed
+parse mostNodes mostLinks p q text =
+    elim (line 83 text) [
+      | missing ↦ refused 1
+      | some f ↦
+          let n = f .0 in
+          let m = f .1 in
+          let links = parsed n (readLinks n m [] (f .2)) in
+          if ltb n 1 || ltb mostNodes n then refused 2
+          else if ltb mostLinks m then refused 3
+          else if ltb p (n + 1) || ltb q (2 * m) then refused 8
+          else links
+    ]
+
+-- "A read survey is two lists.": those of n nodes with these links
+unfoldable pub graphOf : ℕ → List (ℕ × ℕ) → Graph
+graphOf n ls v = keep (named ls v) (upTo n)
+
+unfoldable pub startsOf : ℕ → Graph → List ℕ
+startsOf n G = map (λ v. length (gather G (upTo v))) (upTo (n + 1))
+
+unfoldable pub neighboursFrom : ℕ → Graph → List ℕ
+neighboursFrom n G = gather G (upTo n)
+
+-- the answer, and the two lists at return
+pub record Reading : Type 0 where
+  pub answer : Outcome Size
+  pub starts : List ℕ
+  pub neighbours : List ℕ
+
+-- "Every refusal leaves both lists all zero; success leaves zero past the used entries, and the answer is n and m."
+unfoldable pub readingOf : (p q : ℕ) → Outcome Parsed → Reading
+readingOf p q (refused k) = record { answer = refused k; starts = replicate p 0; neighbours = replicate q 0 }
+readingOf p q (answered x) =
+    let G : Graph = graphOf (x .nodes) (x .links) in
+    record {
+      answer = answered (record { nodes = x .nodes; links = length (x .links) });
+      starts = over (startsOf (x .nodes) G) (replicate p 0);
+      neighbours = over (neighboursFrom (x .nodes) G) (replicate q 0);
+    }
+
+-- reading a text into lists of p and q entries
+unfoldable pub reading : (text : List ℕ) (p q : ℕ) → Reading
+reading text p q = readingOf p q (parse 1024 16384 p q text)

@@ -1,0 +1,60 @@
+-- The tables: n * n entries, row by row. Full holds the distances from the dominating set, Low those in the subgraph of the low
+-- nodes, Report the estimated distances.
+-- Assumes nothing.
+use mathlib.Core.Path.{_≡_}
+use mathlib.Core.Bool.{Bool, _&&_, _||_}
+use mathlib.Core.List.{List, map, foldr}
+use Prim.Native.Nat.{ℕ, _+_, _*_, min}
+use lib.Dec.{eqb}
+use lib.ListN.{getD, take}
+use Rattle.model.specs.Basics.{none, if_then_else_, upTo, has, gather}
+use Rattle.model.specs.Graph.{Edges, fewest}
+use Rattle.model.specs.Survey.{Graph, linked}
+use Rattle.model.specs.Hubs.{isLow, hubs, hubList}
+
+-- f a b for all nodes a and b, row by row; and the entry (a, b) of a table
+unfoldable pub table : ℕ → (ℕ → ℕ → ℕ) → List ℕ
+table n f = gather (λ a. map (f a) (upTo n)) (upTo n)
+
+unfoldable pub entry : ℕ → List ℕ → ℕ → ℕ → ℕ
+entry n t a b = getD t (a * n + b) 0
+
+-- "row h is the fewest links from h to each node if h is a hub; every other row is all none"
+unfoldable pub fullTable : ℕ → ℕ → Graph → List ℕ
+fullTable n s G = let hs = hubs n s G in table n (λ h b. if has h hs then fewest (linked n G) n h b else none)
+
+-- the links whose two ends are low
+unfoldable pub lowLinks : ℕ → ℕ → Graph → Edges
+lowLinks n s G a b = isLow s G a && isLow s G b && linked n G a b
+
+-- "entry (a, b) is the fewest links using low nodes only, if both are low and so joined; else none"
+unfoldable pub lowTable : ℕ → ℕ → Graph → List ℕ
+lowTable n s G = table n (λ a b. if isLow s G a && isLow s G b then fewest (lowLinks n s G) n a b else none)
+
+-- two entries' sum, or none if one of them is none
+unfoldable pub sum : ℕ → ℕ → ℕ
+sum x y = if eqb x none || eqb y none then none else x + y
+
+-- Full(h, a) + Full(h, b): the length of the route from a to b through hub h
+unfoldable pub via : ℕ → List ℕ → ℕ → ℕ → ℕ → ℕ
+via n full a b h = sum (entry n full h a) (entry n full h b)
+
+-- "0 where a = b. Otherwise the least of Low(a, b) and, over all hubs h, Full(h, a) + Full(h, b), leaving out candidates with a
+-- none; none if nothing is left." (None is above every sum.)
+unfoldable pub reportTable : ℕ → ℕ → Graph → List ℕ
+reportTable n s G =
+    let full = fullTable n s G in
+    let low = lowTable n s G in
+    let hs = hubs n s G in
+    table n (λ a b. if eqb a b then 0 else foldr (λ h x. min (via n full a b h) x) (entry n low a b) hs)
+
+-- "Its tables are the ones built from it if their first n × n entries .. are those that the rules above give"
+pub record AreBuilt (n s : ℕ) (G : Graph) (full low report : List ℕ) : Type 0 where
+  pub full-front : take (n * n) full ≡ fullTable n s G
+  pub low-front : take (n * n) low ≡ lowTable n s G
+  pub report-front : take (n * n) report ≡ reportTable n s G
+
+-- ".. and the first n of any hub list lent with them"
+pub record AreBuiltWith (n s : ℕ) (G : Graph) (full low report list : List ℕ) : Type 0 where
+  pub tables : AreBuilt n s G full low report
+  pub hubs-front : take n list ≡ hubList n s G

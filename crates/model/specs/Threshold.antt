@@ -1,0 +1,13 @@
+-- The threshold between low and high nodes: the degree bound of the method.
+-- Assumes nothing.
+use Prim.Native.Nat.{ℕ, _+_, _*_, _^_}
+use lib.Dec.{ltb, leb}
+use Rattle.model.specs.Basics.{none, upTo, firstOf}
+
+-- "Let L(n) be the count of binary digits of n.": the smallest k with n below 2 ^ k
+unfoldable pub bitLength : ℕ → ℕ
+bitLength n = firstOf (λ k. ltb n (2 ^ k)) none (upTo (n + 1))
+
+-- "The threshold s(n) is the smallest whole s with s × s at least n × L(n)."
+unfoldable pub threshold : ℕ → ℕ
+threshold n = let w = n * bitLength n in firstOf (λ s. leb w (s * s)) none (upTo (w + 1))

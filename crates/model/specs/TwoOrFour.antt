@@ -1,0 +1,31 @@
+-- The two-or-four test (Algorithm 2-vs-4), with its count of searches.
+-- Assumes nothing.
+use mathlib.Core.List.{List}
+use Prim.Native.Nat.{ℕ}
+use lib.Dec.{eqb, ltb}
+use lib.ListN.{length}
+use Rattle.model.specs.declared.Verdict.{Verdict}
+use Rattle.model.specs.declared.Verdict.the-variants.{Parted, Long, Short}
+use Rattle.model.specs.declared.Tested.{Tested}
+use Rattle.model.specs.Basics.{none, if_then_else_, upTo, any, firstOf}
+use Rattle.model.specs.Graph.{fewest}
+use Rattle.model.specs.Survey.{Graph, linked}
+use Rattle.model.specs.Hubs.{isLow, closed, hubs}
+
+-- "If there is a low node, take the smallest-numbered, and search the whole mesh from it and each of its neighbours. If there is
+-- none, search from every hub."
+unfoldable pub sources : ℕ → ℕ → Graph → List ℕ
+sources n s G = let v = firstOf (isLow s G) none (upTo n) in if eqb v none then hubs n s G else closed G v
+
+-- "`Parted` if a search misses a node, else `long` if a search goes deeper than 2, else `short`." (disconnected; of diameter more
+-- than two; of diameter less than four)
+unfoldable pub verdictOf : ℕ → Graph → List ℕ → Verdict
+verdictOf n G hs =
+    let distance : ℕ → ℕ → ℕ = fewest (linked n G) n in
+    if any (λ h. any (λ v. eqb (distance h v) none) (upTo n)) hs then Parted
+    else if any (λ h. any (λ v. ltb 2 (distance h v)) (upTo n)) hs then Long
+    else Short
+
+-- "The count of searches is given too: that node's neighbours plus one, or the number of hubs, as those sets have it."
+unfoldable pub tested : ℕ → ℕ → Graph → Tested
+tested n s G = let hs = sources n s G in record { verdict = verdictOf n G hs; searches = length hs }

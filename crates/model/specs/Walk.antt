@@ -1,0 +1,53 @@
+-- The nodes of a walk, by a route.
+-- Assumes nothing.
+use mathlib.Core.Bool.{Bool, true, _&&_}
+use mathlib.Core.List.{List, [], _∷_, _++_, reverse, tail}
+use mathlib.Core.Option.{Option, none as missing, some}
+use Prim.Native.Nat.{ℕ, zero, suc}
+use lib.Dec.{eqb}
+use Rattle.model.specs.declared.Route.{Route}
+use Rattle.model.specs.declared.Route.the-variants.{Itself, Low, Through, NoRoute}
+use Rattle.model.specs.Basics.{none, if_then_else_, firstOf}
+use Rattle.model.specs.Survey.{Graph}
+use Rattle.model.specs.Hubs.{isLow}
+use Rattle.model.specs.Tables.{entry}
+
+-- v, and then the rest of a walk if there is one
+unfoldable pub before : ℕ → Option (List ℕ) → Option (List ℕ)
+before v missing = missing
+before v (some l) = some (v ∷ l)
+
+-- the way on from v: the first neighbour (neighbours ascend, so the smallest) that may be entered and is d links from the goal;
+-- none where there is no such
+unfoldable pub next : Graph → (ℕ → Bool) → (ℕ → ℕ) → ℕ → ℕ → ℕ
+next G may left d v = firstOf (λ x. may x && eqb (left x) d) none (G v)
+
+-- "Each step leaves one link fewer. A part takes exactly as many steps as its table entry says and must then stand at its goal."
+-- d steps from v; missing where no step leads on or the steps end elsewhere
+unfoldable pub steps : Graph → (ℕ → Bool) → (ℕ → ℕ) → ℕ → ℕ → ℕ → Option (List ℕ)
+steps G may left goal zero v = if eqb v goal then some (v ∷ []) else missing
+steps G may left goal (suc d) v =
+    let x = next G may left d v in
+    let rest = steps G may left goal d x in
+    if eqb x none then missing else before v rest
+
+-- "By low: from each node go to the smallest-numbered low neighbour x whose Low(x, b) is one less."
+unfoldable pub byLow : ℕ → ℕ → Graph → List ℕ → (a b : ℕ) → Option (List ℕ)
+byLow n s G low a b = steps G (isLow s G) (λ x. entry n low x b) b (entry n low a b) a
+
+-- "from a go by the smallest-numbered neighbour x whose Full(h, x) is one less, to h"
+unfoldable pub toHub : ℕ → Graph → List ℕ → (h a : ℕ) → Option (List ℕ)
+toHub n G full h a = steps G (λ x. true) (λ x. entry n full h x) h (entry n full h a) a
+
+-- "then the same walk from b to h, turned round"
+unfoldable pub join : Option (List ℕ) → Option (List ℕ) → Option (List ℕ)
+join missing q = missing
+join (some p) missing = missing
+join (some p) (some q) = some (p ++ tail (reverse q))
+
+-- the nodes of the walk by a route, in graph G with threshold s
+unfoldable pub nodes : ℕ → ℕ → Graph → List ℕ → List ℕ → (a b : ℕ) → Route → Option (List ℕ)
+nodes n s G full low a b Itself = some (a ∷ [])
+nodes n s G full low a b Low = byLow n s G low a b
+nodes n s G full low a b (Through h) = join (toHub n G full h a) (toHub n G full h b)
+nodes n s G full low a b NoRoute = some []

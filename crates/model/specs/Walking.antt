@@ -1,0 +1,46 @@
+-- Writing a walk: the answer, and what the walk list holds at return.
+-- Assumes nothing.
+use mathlib.Core.Bool.{not, _||_}
+use mathlib.Core.List.{List, _++_}
+use mathlib.Core.Option.{Option, none as missing, some}
+use Prim.Native.Nat.{ℕ, _+_, _-_, _*_}
+use lib.Dec.{ltb, leb}
+use lib.ListN.{length, replicate}
+use Rattle.model.specs.declared.Answer.{Answer}
+use Rattle.model.specs.Answers.{Outcome, refused, answered}
+use Rattle.model.specs.Basics.{none, if_then_else_}
+use Rattle.model.specs.Survey.{Graph, neighboursOf, badSize, isSurvey}
+use Rattle.model.specs.Threshold.{threshold}
+use Rattle.model.specs.Pair.{pair}
+use Rattle.model.specs.Walk.{nodes}
+
+pub record Walking : Type 0 where
+  pub answer : Outcome Answer
+  pub walk : List ℕ
+
+-- "Refused, or with no route, every entry of the walk list is none; otherwise the entries after the walk are none." w is the list's
+-- length
+unfoldable pub refuseWalk : ℕ → ℕ → Walking
+refuseWalk w k = record { answer = refused k; walk = replicate w none }
+
+-- "11 .. no step leads on, or the steps end at the wrong node; 8 the walk list shorter than report + 1"
+unfoldable pub fit : ℕ → Answer → Option (List ℕ) → Walking
+fit w x missing = refuseWalk w 11
+fit w x (some l) =
+    if ltb w (length l) then refuseWalk w 8
+    else record { answer = answered x; walk = l ++ replicate (w - length l) none }
+
+-- "The answer is the pair's."
+unfoldable pub walkOf : ℕ → (n s : ℕ) → Graph → (full low : List ℕ) (a b : ℕ) → Outcome Answer → Walking
+walkOf w n s G full low a b (refused k) = refuseWalk w k
+walkOf w n s G full low a b (answered x) = fit w x (nodes n s G full low a b (x .route))
+
+-- "2; 8 as for building (no hub list), 9; 10; 11 as for a pair, or .."
+unfoldable pub walking : (n : ℕ) (starts neighbours full low report : List ℕ) (a b w : ℕ) → Walking
+walking n starts neighbours full low report a b w =
+    if badSize n then refuseWalk w 2
+    else if ltb (length starts) (n + 1) || ltb (length full) (n * n) || ltb (length low) (n * n)
+    || ltb (length report) (n * n) then refuseWalk w 8
+    else if not (isSurvey n starts neighbours) then refuseWalk w 9
+    else if leb n a || leb n b then refuseWalk w 10
+    else walkOf w n (threshold n) (neighboursOf starts neighbours) full low a b (pair n full low report a b)

@@ -1,0 +1,86 @@
+// The types that the open calls share. What each call answers and leaves is defined in specs/.
+
+// Why a call refuses. `number` of specs/Answers.antt gives each its number in document 01.
+pub enum Refusal {
+    // The text is not in the stated form.
+    Form,
+    // The count of nodes is outside its limits.
+    NodeCount,
+    // The count of links is above its limit.
+    LinkCount,
+    // A line names a node of n or more.
+    LineNode,
+    // Both ends of a line's link are equal.
+    EqualEnds,
+    // A line's link was given before.
+    RepeatedLink,
+    // There are fewer or more lines than the first line says.
+    LineCount,
+    // A lent list is too short.
+    ShortList,
+    // The lent lists are not those of a survey.
+    NotSurvey,
+    // A node is n or more.
+    NoNode,
+    // The tables give no route, or no walk, of the reported length.
+    NotAttained,
+    // The lent text buffer is too short.
+    ShortBuffer,
+}
+
+// The counts of nodes and links of a survey.
+pub struct Size {
+    pub nodes: usize,
+    pub links: usize,
+}
+
+// How a report is attained: the pair is one node, by low nodes alone, through a hub, or not at all.
+pub enum Route {
+    Itself,
+    Low,
+    Through(u16),
+    NoRoute,
+}
+
+// The answer to a pair.
+pub struct Answer {
+    pub report: u16,
+    pub route: Route,
+}
+
+// What the two-or-four test finds.
+pub enum Verdict {
+    Parted,
+    Long,
+    Short,
+}
+
+// The verdict and the count of searches.
+pub struct Tested {
+    pub verdict: Verdict,
+    pub searches: usize,
+}
+
+// What reading answers.
+pub enum Reading {
+    Refused(Refusal),
+    Read(Size),
+}
+
+// What a call answers whose value is a count: building, the count of hubs; writing back, the text's length.
+pub enum Counting {
+    Refused(Refusal),
+    Count(usize),
+}
+
+// What asking a pair and writing a walk answer.
+pub enum Asking {
+    Refused(Refusal),
+    Answered(Answer),
+}
+
+// What testing answers.
+pub enum Testing {
+    Refused(Refusal),
+    Tested(Tested),
+}
