@@ -95,3 +95,13 @@ member-keep (y ∷ ys) k (suc m) t f = go (eq-or k y) (λ g. member-keep ys (suc
 pub ascending-keep : (l : List ℕ) (n : ℕ) → T (ascending l) → ((x : ℕ) → T (has x l) → x < n) → keep (λ x. has x l) (upTo n) ≡ l
 unfolding upTo
 ascending-keep l n t f = member-keep l 0 n t (λ x h. (zero-le, let b = f x h in omega arith))
+
+-- what a test keeps of an ascending list ascends
+pub keep-of-ascending : (p : ℕ → Bool) (l : List ℕ) → T (ascending l) → T (ascending (keep p l))
+unfolding keep ascending
+keep-of-ascending p [] t = tt
+keep-of-ascending p (x ∷ l) t = go (p x) (keep-of-ascending p l (ascending-tail x l t))
+  where
+    go : (b : Bool) → T (ascending (keep p l)) → T (ascending (if b then x ∷ keep p l else keep p l))
+    go true s = ascending-cons x (keep p l) (λ y m. ascending-above x l t y (of-keep p l y m .0)) s
+    go false s = s

@@ -17,11 +17,11 @@ getD-from g k zero i d h = absurd (not-suc-le-zero h)
 getD-from g k (suc m) zero d h = ap g (sym (add-zero k))
 getD-from g k (suc m) (suc i) d h = getD-from g (suc k) m i d (le-of-suc-le-suc h) ∙ ap g (suc-add k i ∙ sym (add-suc k i))
 
-getD-row : (g : ℕ → ℕ) (n i d : ℕ) → i < n → getD (map g (upTo n)) i d ≡ g i
+pub getD-row : (g : ℕ → ℕ) (n i d : ℕ) → i < n → getD (map g (upTo n)) i d ≡ g i
 unfolding upTo
 getD-row g n i d h = getD-from g 0 n i d h ∙ ap g (zero-add i)
 
-length-row : (g : ℕ → ℕ) (n : ℕ) → length (map g (upTo n)) ≡ n
+pub length-row : (g : ℕ → ℕ) (n : ℕ) → length (map g (upTo n)) ≡ n
 length-row g n = length-map (upTo n) g ∙ length-upTo n
 
 module _ (n : ℕ) (f : ℕ → ℕ → ℕ) where

@@ -12,3 +12,9 @@ pub mod Walks
 pub mod BuiltWalks
 pub mod Verdicts
 pub mod Demand
+pub mod Numbers
+pub mod Lines
+pub mod Links
+pub mod SurveyLists
+pub mod Totals
+pub mod ReadBack

@@ -9,7 +9,7 @@ use native.Mathlib.Nat.{le-step, le-refl, le-of-suc-le-suc, add-zero, add-suc, s
 use native.Mathlib.Omega.{arith}
 use lib.Dec.{T, eqb, eqb→eq, eqb-refl}
 use lib.ListN.{length, length-append}
-use Rattle.model.specs.Basics.{if_then_else_, from, upTo, has, any, all, keep, firstOf, gather}
+use Rattle.model.specs.Basics.{if_then_else_, from, upTo, has, any, all, keep, firstOf, gather, same}
 use Rattle.model.proofs.Tests.{and-l, and-r, and-i, or-l, or-r, or-e, passes, T-true, no-false, false-no, eq-or, eq-T, isnt}
 
 -- ---- membership
@@ -347,3 +347,52 @@ has-append x (y ∷ k) l h = go (or-e (eqb x y) (has x k) h) (λ r. has-append x
     go : T (eqb x y) ⊎ T (has x k) → (T (has x k) → T (has x (k ++ l))) → T (eqb x y || has x (k ++ l))
     go (inl e) rec = or-l (eqb x y) (has x (k ++ l)) e
     go (inr r) rec = or-r (eqb x y) (has x (k ++ l)) (rec r)
+
+pub all-append : (p : ℕ → Bool) (k l : List ℕ) → T (all p k) → T (all p l) → T (all p (k ++ l))
+unfolding all
+all-append p [] l h m = m
+all-append p (x ∷ k) l h m = and-i (p x) (all p (k ++ l)) (and-l (p x) (all p k) h) (all-append p k l (and-r (p x) (all p k) h) m)
+
+pub none-in : (x : ℕ) → T (has x []) → ⊥
+unfolding has
+none-in x h = h
+
+pub of-append : (x : ℕ) (k l : List ℕ) → T (has x (k ++ l)) → T (has x k) ⊎ T (has x l)
+unfolding has
+of-append x [] l h = inr h
+of-append x (y ∷ k) l h = go (or-e (eqb x y) (has x (k ++ l)) h) (λ r. of-append x k l r)
+  where
+    up : T (has x k) ⊎ T (has x l) → T (eqb x y || has x k) ⊎ T (has x l)
+    up (inl r) = inl (or-r (eqb x y) (has x k) r)
+    up (inr r) = inr r
+
+    go : T (eqb x y) ⊎ T (has x (k ++ l)) → (T (has x (k ++ l)) → T (has x k) ⊎ T (has x l)) → T (eqb x y || has x k) ⊎ T (has x l)
+    go (inl e) rec = inl (or-l (eqb x y) (has x k) e)
+    go (inr r) rec = up (rec r)
+
+-- ---- two lists that are the same
+
+pub same-eq : (k l : List ℕ) → T (same k l) → k ≡ l
+unfolding same
+same-eq [] [] t = refl
+same-eq [] (y ∷ l) t = absurd t
+same-eq (x ∷ k) [] t = absurd t
+same-eq (x ∷ k) (y ∷ l) t = ap₂ (λ (z : ℕ) (r : List ℕ). z ∷ r) (eqb→eq x y (and-l (eqb x y) (same k l) t)) (same-eq k l (and-r (eqb x y) (same k l) t))
+
+pub same-refl : (l : List ℕ) → T (same l l)
+unfolding same
+same-refl [] = tt
+same-refl (x ∷ l) = and-i (eqb x x) (same l l) (eqb-refl x) (same-refl l)
+
+-- ---- the numbers below n, parted at v
+
+from-add : (k m j : ℕ) → from k (m + j) ≡ from k m ++ from (k + m) j
+unfolding from
+from-add k zero j = ap₂ (λ (a b : ℕ). from a b) (sym (add-zero k)) (zero-add j)
+from-add k (suc m) j =
+    ap (from k) (suc-add m j)
+    ∙ ap (λ (r : List ℕ). k ∷ r) (from-add (suc k) m j ∙ ap (λ (x : ℕ). from (suc k) m ++ from x j) (suc-add k m ∙ sym (add-suc k m)))
+
+pub from-split : (v k n : ℕ) → v + suc k ≡ n → upTo n ≡ upTo v ++ v ∷ from (suc v) k
+unfolding upTo from
+from-split v k n e = ap (from 0) (sym e) ∙ from-add 0 v (suc k) ∙ ap (λ (x : ℕ). from 0 v ++ from x (suc k)) (zero-add v)

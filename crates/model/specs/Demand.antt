@@ -1,4 +1,5 @@
--- Demand 3 in terms of chains alone: what reports, walks and verdicts have to say of a graph with the links E.
+-- What reading has to say of a text, and demand 3 in terms of chains alone: what reports, walks and verdicts have to say of a graph
+-- with the links E.
 -- Assumes nothing.
 use mathlib.Core.Path.{_≡_}
 use mathlib.Core.Logic.{_⊎_, _↔_}
@@ -11,7 +12,22 @@ use Rattle.model.specs.declared.Verdict.the-variants.{Parted, Long, Shor
 use Rattle.model.specs.Answers.{Outcome, answered}
 use Rattle.model.specs.Basics.{none}
 use Rattle.model.specs.Graph.{Edges, Chain, Apart, Fewest, Walked}
+use Rattle.model.specs.declared.Size.{Size}
+use Rattle.model.specs.SurveyText.{surveyText}
+use Rattle.model.specs.Survey.{neighboursOf, linked, Accepted}
+use Rattle.model.specs.Reading.{named, Reading}
 use Rattle.model.specs.Walking.{Walking}
+
+-- a text was read: the lists are accepted, and their links are exactly the pairs that the text's link lines name
+pub record IsRead (text : List ℕ) (x : Size) (starts neighbours : List ℕ) : Type 0 where
+  pub survey : Accepted (x .nodes) starts neighbours
+  pub links : List (ℕ × ℕ)
+  pub count : length links ≡ x .links
+  pub lines : text ≡ surveyText (x .nodes) (x .links) links
+  pub exactly : (a b : ℕ) → linked (x .nodes) (neighboursOf starts neighbours) a b ≡ named links a b
+
+abbrev pub ReadRight : List ℕ → Reading → Type 0
+ReadRight text r = (x : Size) → r .answer ≡ answered x → IsRead text x (r .starts) (r .neighbours)
 
 -- a report: none exactly where no chain joins the pair; else at least the fewest links, and at most two more
 pub record Allowed (E : Edges) (a b r : ℕ) : Type 0 where

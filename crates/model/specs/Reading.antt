@@ -2,7 +2,7 @@
 -- Assumes nothing.
 use mathlib.Core.Bool.{Bool, false, _&&_, _||_}
 use mathlib.Core.List.{List, [], _∷_, map}
-use mathlib.Core.Option.{none as missing, some}
+use mathlib.Core.Option.{Option, none as missing, some}
 use Prim.Native.Nat.{ℕ, zero, suc, _+_, _*_}
 use lib.Dec.{eqb, ltb, leb}
 use lib.ListN.{length, replicate}
@@ -23,24 +23,24 @@ onLinks l (refused k) = refused k
 onLinks l (answered ls) = answered (l ∷ ls)
 
 -- "Then line by line: 1 wrong form or text ending inside a line; 4 a node of n or more; 5 both ends equal; 6 a link already given,
--- either way round. 7 the text ends at a line's end before m links, or a byte follows the m-th."
--- The links that m lines name; `done` are those given before
+-- either way round." `done` are the links given before; `next` reads on
+unfoldable pub readLink : ℕ → List (ℕ × ℕ) → (ℕ → ℕ → List ℕ → Outcome (List (ℕ × ℕ))) → Option (ℕ × ℕ × List ℕ) → Outcome (List (ℕ × ℕ))
+readLink n done next missing = refused 1
+readLink n done next (some l) =
+    let a = l .0 in
+    let b = l .1 in
+    let rest = onLinks (a, b) (next a b (l .2)) in
+    if leb n a || leb n b then refused 4
+    else if eqb a b then refused 5
+    else if named done a b then refused 6
+    else rest
+
+-- "7 the text ends at a line's end before m links, or a byte follows the m-th.": the links that m lines name
 unfoldable pub readLinks : ℕ → ℕ → List (ℕ × ℕ) → List ℕ → Outcome (List (ℕ × ℕ))
 readLinks n zero done [] = answered []
 readLinks n zero done (c ∷ text) = refused 7
 readLinks n (suc m) done [] = refused 7
-readLinks n (suc m) done (c ∷ text) =
-    elim (line 76 (c ∷ text)) [
-      | missing ↦ refused 1
-      | some l ↦
-          let a = l .0 in
-          let b = l .1 in
-          let rest = onLinks (a, b) (readLinks n m ((a, b) ∷ done) (l .2)) in
-          if leb n a || leb n b then refused 4
-          else if eqb a b then refused 5
-          else if named done a b then refused 6
-          else rest
-    ]
+readLinks n (suc m) done (c ∷ text) = readLink n done (λ a b rest. readLinks n m ((a, b) ∷ done) rest) (line 76 (c ∷ text))
 
 -- what a text says: the count of nodes, and the links in the order of their lines
 pub record Parsed : Type 0 where
@@ -53,19 +53,19 @@ parsed n (answered ls) = answered (record { nodes = n; links = ls })
 
 -- "First line: 1 not in the stated form; 2 n outside 1 to 1,024; 3 m above 16,384; 8 `starts` shorter than n + 1 or `neighbours`
 -- shorter than 2m." The limits, and the lengths p and q of the two lists, are parameters
+unfoldable pub parseFirst : (mostNodes mostLinks p q : ℕ) → Option (ℕ × ℕ × List ℕ) → Outcome Parsed
+parseFirst mostNodes mostLinks p q missing = refused 1
+parseFirst mostNodes mostLinks p q (some f) =
+    let n = f .0 in
+    let m = f .1 in
+    let links = parsed n (readLinks n m [] (f .2)) in
+    if ltb n 1 || ltb mostNodes n then refused 2
+    else if ltb mostLinks m then refused 3
+    else if ltb p (n + 1) || ltb q (2 * m) then refused 8
+    else links
+
 unfoldable pub parse : (mostNodes mostLinks p q : ℕ) → List ℕ → Outcome Parsed
-parse mostNodes mostLinks p q text =
-    elim (line 83 text) [
-      | missing ↦ refused 1
-      | some f ↦
-          let n = f .0 in
-          let m = f .1 in
-          let links = parsed n (readLinks n m [] (f .2)) in
-          if ltb n 1 || ltb mostNodes n then refused 2
-          else if ltb mostLinks m then refused 3
-          else if ltb p (n + 1) || ltb q (2 * m) then refused 8
-          else links
-    ]
+parse mostNodes mostLinks p q text = parseFirst mostNodes mostLinks p q (line 83 text)
 
 -- "A read survey is two lists.": those of n nodes with these links
 unfoldable pub graphOf : ℕ → List (ℕ × ℕ) → Graph

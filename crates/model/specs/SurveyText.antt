@@ -38,12 +38,16 @@ twoNumbers letter (l ∷ x ∷ y ∷ []) =
 twoNumbers letter (l ∷ x ∷ y ∷ z ∷ more) = missing
 
 -- the line `letter,x,y` that a text begins with: x, y and the text after it. Missing where the line has another form or has no end
+unfoldable pub withRest : List ℕ → Option (ℕ × ℕ) → Option (ℕ × ℕ × List ℕ)
+withRest rest missing = missing
+withRest rest (some xy) = some (xy .0, xy .1, rest)
+
+unfoldable pub lineIn : ℕ → Option (List ℕ × List ℕ) → Option (ℕ × ℕ × List ℕ)
+lineIn letter missing = missing
+lineIn letter (some p) = withRest (p .1) (twoNumbers letter (split 44 (p .0)))
+
 unfoldable pub line : ℕ → List ℕ → Option (ℕ × ℕ × List ℕ)
-line letter text =
-    elim (cut 10 text) [
-      | missing ↦ missing
-      | some p ↦ elim (twoNumbers letter (split 44 (p .0))) [ missing ↦ missing | some xy ↦ some (xy .0, xy .1, p .1) ]
-    ]
+line letter text = lineIn letter (cut 10 text)
 
 -- the text of a line
 unfoldable pub lineOf : ℕ → ℕ → ℕ → List ℕ

@@ -1,0 +1,200 @@
+-- The link lines: reading takes them exactly where they name links that are new, one for each line.
+-- Assumes nothing.
+use mathlib.Core.Path.{_≡_, refl, sym, ap, ap₂, _∙_, subst}
+use mathlib.Core.Logic.{_⊎_, inl, inr, ⊎-elim}
+use mathlib.Core.Bool.{Bool, true, false, _&&_, _||_}
+use mathlib.Core.List.{List, [], _∷_, _++_}
+use mathlib.Core.Option.{Option, none as missing, some}
+use Prim.Native.Nat.{ℕ, zero, suc, _+_, _*_, _^_, _≤_, _<_}
+use native.Mathlib.Nat.{lt-of-lt-of-le, lt-of-le-of-lt}
+use native.Mathlib.Omega.{arith}
+use borrow.Author.Tests.{lt-leb, leb-false, ne-eqb, le-ltb, ltb-false}
+use lib.ListN.{length}
+use lib.Dec.{T, eqb, ltb, leb}
+use Rattle.model.specs.Answers.{Outcome, refused, answered}
+use Rattle.model.specs.Basics.{if_then_else_, gather}
+use Rattle.model.specs.SurveyText.{line, lineOf, linkLines, surveyText}
+use Rattle.model.specs.Reading.{named, onLinks, readLink, readLinks, Parsed, parsed, parseFirst, parse}
+use Rattle.model.proofs.Tests.{or-false, of-or-false, isnt}
+use Rattle.model.proofs.Lines.{line-complete, IsLine, line-sound}
+
+-- a link that can be given after those of `done`
+pub record Fresh (n : ℕ) (done : List (ℕ × ℕ)) (l : ℕ × ℕ) : Type 0 where
+  pub below-a : l .0 < n
+  pub below-b : l .1 < n
+  pub apart : l .0 ≡ l .1 → ⊥
+  pub new : named done (l .0) (l .1) ≡ false
+
+-- each of the links can be given after those before it
+abbrev pub AllFresh : ℕ → List (ℕ × ℕ) → List (ℕ × ℕ) → Type 0
+AllFresh n done [] = Unit {0}
+AllFresh n done (l ∷ ls) = Fresh n done l × AllFresh n (l ∷ done) ls
+
+never : {A B : Type 0} {k : ℕ} {x : A} → refused k ≡ answered x → B
+never {k = k} {x = x} e = let z : _≡_ {A = ℕ} 0 1 = cc in absurd (omega arith)
+
+-- ---- one line
+
+pub link-taken : (n : ℕ) (done : List (ℕ × ℕ)) (next : ℕ → ℕ → List ℕ → Outcome (List (ℕ × ℕ))) (l : ℕ × ℕ) (rest : List ℕ) → Fresh n done l
+    → readLink n done next (some (l .0, l .1, rest)) ≡ onLinks l (next (l .0) (l .1) rest)
+unfolding readLink
+link-taken n done next l rest f =
+    rw (or-false (leb n (l .0)) (leb n (l .1)) (lt-leb n (l .0) (f .below-a)) (lt-leb n (l .1) (f .below-b)), ne-eqb (l .0) (l .1) (f .apart), f .new) refl
+
+pub of-link-taken : (n : ℕ) (done : List (ℕ × ℕ)) (next : ℕ → ℕ → List ℕ → Outcome (List (ℕ × ℕ))) (l : ℕ × ℕ) (rest : List ℕ) (ls : List (ℕ × ℕ))
+    → readLink n done next (some (l .0, l .1, rest)) ≡ answered ls → Fresh n done l × (onLinks l (next (l .0) (l .1) rest) ≡ answered ls)
+unfolding readLink
+of-link-taken n done next l rest ls e = four (leb n (l .0) || leb n (l .1)) refl e
+  where
+    R : Outcome (List (ℕ × ℕ))
+    R = onLinks l (next (l .0) (l .1) rest)
+
+    six : (l .0 < n) × (l .1 < n) → (l .0 ≡ l .1 → ⊥) → (t : Bool) → named done (l .0) (l .1) ≡ t
+        → if_then_else_ {A = Outcome (List (ℕ × ℕ))} t (refused 6) R ≡ answered ls → Fresh n done l × (R ≡ answered ls)
+    six b d true q e = never e
+    six b d false q e = (record { below-a = b .0; below-b = b .1; apart = d; new = q }, e)
+
+    five : (l .0 < n) × (l .1 < n) → (t : Bool) → eqb (l .0) (l .1) ≡ t
+        → if_then_else_ {A = Outcome (List (ℕ × ℕ))} t (refused 5) (if named done (l .0) (l .1) then refused 6 else R) ≡ answered ls → Fresh n done l × (R ≡ answered ls)
+    five b true q e = never e
+    five b false q e = six b (isnt (l .0) (l .1) q) (named done (l .0) (l .1)) refl e
+
+    four : (t : Bool) → (leb n (l .0) || leb n (l .1)) ≡ t
+        → if_then_else_ {A = Outcome (List (ℕ × ℕ))} t (refused 4) (if eqb (l .0) (l .1) then refused 5 else if named done (l .0) (l .1) then refused 6 else R) ≡ answered ls
+        → Fresh n done l × (R ≡ answered ls)
+    four true q e = never e
+    four false q e =
+        let h = of-or-false (leb n (l .0)) (leb n (l .1)) q in
+        five (leb-false n (l .0) (h .0), leb-false n (l .1) (h .1)) (eqb (l .0) (l .1)) refl e
+
+-- ---- all lines
+
+pub links-complete : (n : ℕ) → n ≤ 10 ^ 10 → (ls done : List (ℕ × ℕ)) → AllFresh n done ls → readLinks n (length ls) done (linkLines ls) ≡ answered ls
+unfolding readLinks linkLines gather lineOf onLinks
+links-complete n le [] done f = refl
+links-complete n le (l ∷ ls) done f =
+    let g = f .0 in
+    let next : ℕ → ℕ → List ℕ → Outcome (List (ℕ × ℕ)) = λ a b rest. readLinks n (length ls) ((a, b) ∷ done) rest in
+    ap (readLink n done next)
+    (line-complete 76 (omega arith) (l .0) (l .1) (lt-of-lt-of-le (g .below-a) le) (lt-of-lt-of-le (g .below-b) le) (linkLines ls))
+    ∙ link-taken n done next l (linkLines ls) g
+    ∙ ap (onLinks l) (links-complete n le ls (l ∷ done) (f .1))
+
+pub record LinesRead (n m : ℕ) (done : List (ℕ × ℕ)) (text : List ℕ) (ls : List (ℕ × ℕ)) : Type 0 where
+  pub is-text : text ≡ linkLines ls
+  pub count : length ls ≡ m
+  pub fresh : AllFresh n done ls
+
+pub links-sound : (n m : ℕ) (done : List (ℕ × ℕ)) (text : List ℕ) (ls : List (ℕ × ℕ)) → readLinks n m done text ≡ answered ls → LinesRead n m done text ls
+unfolding readLinks readLink onLinks linkLines gather
+links-sound n zero done [] ls e =
+    let q : _≡_ {A = List (ℕ × ℕ)} [] ls = cc in
+    subst (λ (k : List (ℕ × ℕ)). LinesRead n zero done [] k) q (record { is-text = refl; count = refl; fresh = tt })
+links-sound n zero done (c ∷ text) ls e = never e
+links-sound n (suc m) done [] ls e = never e
+links-sound n (suc m) done (c ∷ text) ls e = at (line 76 (c ∷ text)) refl e (λ a b rest ks. links-sound n m ((a, b) ∷ done) rest ks)
+  where
+    next : ℕ → ℕ → List ℕ → Outcome (List (ℕ × ℕ))
+    next a b rest = readLinks n m ((a, b) ∷ done) rest
+
+    more : (l : ℕ × ℕ) (rest : List ℕ) (o : Outcome (List (ℕ × ℕ))) → IsLine 76 (c ∷ text) (l .0) (l .1) rest → Fresh n done l → onLinks l o ≡ answered ls
+        → ((ks : List (ℕ × ℕ)) → o ≡ answered ks → LinesRead n m (l ∷ done) rest ks) → LinesRead n (suc m) done (c ∷ text) ls
+    more l rest (refused k) t f e rec = never e
+    more l rest (answered ks) t f e rec =
+        let q : l ∷ ks ≡ ls = cc in
+        let r = rec ks refl in
+        subst (λ (k : List (ℕ × ℕ)). LinesRead n (suc m) done (c ∷ text) k) q (record {
+          is-text = t .is-text ∙ ap (λ (k : List ℕ). lineOf 76 (l .0) (l .1) ++ k) (r .is-text);
+          count = ap suc (r .count);
+          fresh = (f, r .fresh);
+        })
+
+    at : (o : Option (ℕ × ℕ × List ℕ)) → line 76 (c ∷ text) ≡ o → readLink n done next o ≡ answered ls
+        → ((a b : ℕ) (rest : List ℕ) (ks : List (ℕ × ℕ)) → readLinks n m ((a, b) ∷ done) rest ≡ answered ks → LinesRead n m ((a, b) ∷ done) rest ks)
+        → LinesRead n (suc m) done (c ∷ text) ls
+    at missing q e rec = never e
+    at (some x) q e rec =
+        let l : ℕ × ℕ = (x .0, x .1) in
+        let t = of-link-taken n done next l (x .2) ls e in
+        more l (x .2) (next (x .0) (x .1) (x .2)) (line-sound 76 (c ∷ text) (x .0) (x .1) (x .2) q) (t .0) (t .1) (λ ks. rec (x .0) (x .1) (x .2) ks)
+
+-- ---- the whole text
+
+-- what a text says that is taken, with lists of p and q entries: it is the text of its links, which are within the limits
+pub record TextRead (mostNodes mostLinks p q : ℕ) (text : List ℕ) (x : Parsed) : Type 0 where
+  pub some-node : 1 ≤ x .nodes
+  pub size : x .nodes ≤ mostNodes
+  pub few : length (x .links) ≤ mostLinks
+  pub room : x .nodes + 1 ≤ p
+  pub list-room : 2 * length (x .links) ≤ q
+  pub is-text : text ≡ surveyText (x .nodes) (length (x .links)) (x .links)
+  pub fresh : AllFresh (x .nodes) [] (x .links)
+
+module _ (N M p q : ℕ) where
+  pub parse-complete : N < 10 ^ 10 → M < 10 ^ 10 → (x : Parsed) (text : List ℕ) → TextRead N M p q text x → parse N M p q text ≡ answered x
+  unfolding parse parseFirst parsed surveyText
+  parse-complete hN hM x text r =
+      let n = x .nodes in
+      let m = length (x .links) in
+      ap (parse N M p q) (r .is-text)
+      ∙ ap (parseFirst N M p q) (line-complete 83 (omega arith) n m (lt-of-le-of-lt (r .size) hN) (lt-of-le-of-lt (r .few) hM) (linkLines (x .links)))
+      ∙ rw (
+        or-false (ltb n 1) (ltb N n) (le-ltb n 1 (r .some-node)) (le-ltb N n (r .size)),
+        le-ltb M m (r .few),
+        or-false (ltb p (n + 1)) (ltb q (2 * m)) (le-ltb p (n + 1) (r .room)) (le-ltb q (2 * m) (r .list-room)),
+      ) (ap (parsed n) (links-complete n (lt-le hN (r .size)) (x .links) [] (r .fresh)))
+    where
+      lt-le : N < 10 ^ 10 → x .nodes ≤ N → x .nodes ≤ 10 ^ 10
+      lt-le h k = omega arith
+
+  pub parse-sound : (text : List ℕ) (x : Parsed) → parse N M p q text ≡ answered x → TextRead N M p q text x
+  unfolding parse parseFirst parsed surveyText
+  parse-sound text x e = at (line 83 text) refl e
+    where
+      at : (o : Option (ℕ × ℕ × List ℕ)) → line 83 text ≡ o → parseFirst N M p q o ≡ answered x → TextRead N M p q text x
+      at missing h e = never e
+      at (some f) h e = two (ltb n 1 || ltb N n) refl e
+        where
+          n : ℕ
+          n = f .0
+
+          m : ℕ
+          m = f .1
+
+          R : Outcome Parsed
+          R = parsed n (readLinks n m [] (f .2))
+
+          links : (1 ≤ n) × (n ≤ N) → m ≤ M → (n + 1 ≤ p) × (2 * m ≤ q) → (o : Outcome (List (ℕ × ℕ))) → readLinks n m [] (f .2) ≡ o → parsed n o ≡ answered x
+              → TextRead N M p q text x
+          links s w r (refused k) i e = never e
+          links s w r (answered ls) i e =
+              let y : _≡_ {A = Parsed} (record { nodes = n; links = ls }) x = cc in
+              let g = links-sound n m [] (f .2) ls i in
+              let l = line-sound 83 text n m (f .2) h in
+              subst (λ (z : Parsed). TextRead N M p q text z) y (record {
+                some-node = s .0;
+                size = s .1;
+                few = subst (λ (k : ℕ). k ≤ M) (sym (g .count)) w;
+                room = r .0;
+                list-room = subst (λ (k : ℕ). 2 * k ≤ q) (sym (g .count)) (r .1);
+                is-text = l .is-text ∙ ap₂ (λ (k : ℕ) (t : List ℕ). lineOf 83 n k ++ t) (sym (g .count)) (g .is-text);
+                fresh = g .fresh;
+              })
+
+          eight : (1 ≤ n) × (n ≤ N) → m ≤ M → (t : Bool) → (ltb p (n + 1) || ltb q (2 * m)) ≡ t
+              → if_then_else_ {A = Outcome Parsed} t (refused 8) R ≡ answered x → TextRead N M p q text x
+          eight s w true k e = never e
+          eight s w false k e =
+              let r = of-or-false (ltb p (n + 1)) (ltb q (2 * m)) k in
+              links s w (ltb-false p (n + 1) (r .0), ltb-false q (2 * m) (r .1)) (readLinks n m [] (f .2)) refl e
+
+          three : (1 ≤ n) × (n ≤ N) → (t : Bool) → ltb M m ≡ t
+              → if_then_else_ {A = Outcome Parsed} t (refused 3) (if ltb p (n + 1) || ltb q (2 * m) then refused 8 else R) ≡ answered x → TextRead N M p q text x
+          three s true k e = never e
+          three s false k e = eight s (ltb-false M m k) (ltb p (n + 1) || ltb q (2 * m)) refl e
+
+          two : (t : Bool) → (ltb n 1 || ltb N n) ≡ t
+              → if_then_else_ {A = Outcome Parsed} t (refused 2) (if ltb M m then refused 3 else if ltb p (n + 1) || ltb q (2 * m) then refused 8 else R) ≡ answered x
+              → TextRead N M p q text x
+          two true k e = never e
+          two false k e = let s = of-or-false (ltb n 1) (ltb N n) k in three (ltb-false n 1 (s .0), ltb-false N n (s .1)) (ltb M m) refl e

@@ -1,0 +1,229 @@
+-- Laws of the decimal text of a number: reading it accepts exactly the texts of the numbers of at most ten digits.
+-- Assumes nothing.
+use mathlib.Core.Path.{_≡_, refl, sym, ap, _∙_, subst}
+use mathlib.Core.Logic.{_⊎_, inl, inr, ⊎-elim}
+use mathlib.Core.Bool.{Bool, true, false, not, _&&_, _||_}
+use mathlib.Core.List.{List, [], _∷_, _++_, append-assoc, append-nil}
+use Prim.Native.Nat.{ℕ, zero, suc, _+_, _-_, _*_, _/_, _%_, _^_, _≤_, _<_, zero-le, suc-le-suc}
+use native.Mathlib.Nat.{not-suc-le-zero, le-refl, le-of-suc-le-suc, pow-suc, div-lt-iff-lt-mul, zero-lt-suc, lt-of-lt-of-le, pow-le-pow-right}
+use native.Mathlib.Omega.{arith}
+use lib.ListN.{length, length-append}
+use lib.Dec.{T, leb, ltb, eqb, leb→le, le→leb, eqb→eq, not-T, T-not}
+use lib.Arith.{digits-div, digits-mod}
+use borrow.Author.Tests.{lt-ltb, le-ltb}
+use Rattle.model.specs.Basics.{if_then_else_, all}
+use Rattle.model.specs.Numbers.{isDigit, isNumber, valueFrom, valueOf, digitsWithin, digits}
+use Rattle.model.proofs.Tests.{and-l, and-r, and-i, or-l, or-r, or-e, lt-or, eq-T}
+use Rattle.model.proofs.Lists.{all-append}
+
+-- ---- the digits of a number
+
+within-small : (f n : ℕ) → n < 10 → digitsWithin (suc f) n ≡ (48 + n) ∷ []
+unfolding digitsWithin
+within-small f n h = rw (lt-ltb n 10 h)
+
+within-more : (f n : ℕ) → 10 ≤ n → digitsWithin (suc f) n ≡ digitsWithin f (n / 10) ++ ((48 + n % 10) ∷ [])
+unfolding digitsWithin
+within-more f n h = rw (le-ltb n 10 h)
+
+-- more steps than needed change nothing
+within-any : (f g n : ℕ) → n < f → n < g → digitsWithin f n ≡ digitsWithin g n
+within-any zero g n h k = absurd (not-suc-le-zero h)
+within-any (suc f) zero n h k = absurd (not-suc-le-zero k)
+within-any (suc f) (suc g) n h k =
+    ⊎-elim
+    (λ l. within-small f n l ∙ sym (within-small g n l))
+    (λ l. within-more f n l ∙ ap (λ (t : List ℕ). t ++ ((48 + n % 10) ∷ [])) (within-any f g (n / 10) (omega arith) (omega arith)) ∙ sym (within-more g n l))
+    (lt-or n 10)
+
+pub digits-small : (n : ℕ) → n < 10 → digits n ≡ (48 + n) ∷ []
+unfolding digits
+digits-small n h = within-small n n h
+
+pub digits-more : (n : ℕ) → 10 ≤ n → digits n ≡ digits (n / 10) ++ ((48 + n % 10) ∷ [])
+unfolding digits
+digits-more n h =
+    within-more n n h
+    ∙ ap (λ (t : List ℕ). t ++ ((48 + n % 10) ∷ [])) (within-any n (suc (n / 10)) (n / 10) (omega arith) (omega arith))
+
+-- induction on the decimal digits
+pub digits-ind : (P : ℕ → Type 0) → ((n : ℕ) → n < 10 → P n) → ((n : ℕ) → 10 ≤ n → P (n / 10) → P n) → (n : ℕ) → P n
+digits-ind P small more n = go (suc n) n (le-refl (suc n))
+  where
+    go : (f m : ℕ) → m < f → P m
+    go zero m h = absurd (not-suc-le-zero h)
+    go (suc f) m h = ⊎-elim (λ l. small m l) (λ l. more m l (go f (m / 10) (omega arith))) (lt-or m 10)
+
+-- ---- how many digits there are
+
+pub length-small : (n : ℕ) → n < 10 → length (digits n) ≡ 1
+length-small n h = ap length (digits-small n h)
+
+pub length-more : (n : ℕ) → 10 ≤ n → length (digits n) ≡ length (digits (n / 10)) + 1
+length-more n h = ap length (digits-more n h) ∙ length-append (digits (n / 10)) ((48 + n % 10) ∷ [])
+
+pub digits-pos : (n : ℕ) → 0 < length (digits n)
+digits-pos n = ⊎-elim (λ l. omega (arith, length-small n l)) (λ l. omega (arith, length-more n l)) (lt-or n 10)
+
+-- n has at most k digits exactly where it is below 10 ^ k
+pub length-le : (k n : ℕ) → n < 10 ^ suc k → length (digits n) ≤ suc k
+length-le zero n h = omega (arith, length-small n (omega (arith, h)))
+length-le (suc k) n h =
+    ⊎-elim
+    (λ l. omega (arith, length-small n l))
+    (λ l. omega (arith, length-more n l, length-le k (n / 10) (div-lt-iff-lt-mul (zero-lt-suc 9) .1 (rw pow-suc at h))))
+    (lt-or n 10)
+
+pub below-pow : (k n : ℕ) → length (digits n) ≤ suc k → n < 10 ^ suc k
+below-pow zero n h = ⊎-elim (λ l. l) (λ l. omega (arith, length-more n l, digits-pos (n / 10))) (lt-or n 10)
+below-pow (suc k) n h =
+    ⊎-elim
+    (λ l. lt-of-lt-of-le l (pow-le-pow-right {n = 10} (zero-lt-suc 9) (suc-le-suc zero-le)))
+    (λ l. rw pow-suc (div-lt-iff-lt-mul (zero-lt-suc 9) .0 (below-pow k (n / 10) (omega (arith, length-more n l)))))
+    (lt-or n 10)
+
+-- ---- digits as bytes
+
+pub digit-bounds : (b : ℕ) → T (isDigit b) → (48 ≤ b) × (b ≤ 57)
+unfolding isDigit
+digit-bounds b t = (leb→le 48 b (and-l (leb 48 b) (leb b 57) t), leb→le b 57 (and-r (leb 48 b) (leb b 57) t))
+
+pub bounds-digit : (b : ℕ) → 48 ≤ b → b ≤ 57 → T (isDigit b)
+unfolding isDigit
+bounds-digit b h k = and-i (leb 48 b) (leb b 57) (le→leb 48 b h) (le→leb b 57 k)
+
+pub one-digit : (b : ℕ) → T (isDigit b) → T (all isDigit (b ∷ []))
+unfolding all
+one-digit b t = and-i (isDigit b) true t tt
+
+pub digits-all : (n : ℕ) → T (all isDigit (digits n))
+digits-all =
+    digits-ind (λ n. T (all isDigit (digits n)))
+    (λ n l. rw (digits-small n l) (one-digit (48 + n) (bounds-digit (48 + n) (omega arith) (omega arith))))
+    (λ n l ih. rw (digits-more n l)
+    (all-append isDigit (digits (n / 10)) ((48 + n % 10) ∷ []) ih (one-digit (48 + n % 10) (bounds-digit (48 + n % 10) (omega arith) (omega arith)))))
+
+-- ---- the value of digits
+
+value-snoc : (v : ℕ) (t : List ℕ) (b : ℕ) → valueFrom v (t ++ (b ∷ [])) ≡ valueFrom v t * 10 + (b - 48)
+unfolding valueFrom
+value-snoc v [] b = refl
+value-snoc v (c ∷ t) b = value-snoc (v * 10 + (c - 48)) t b
+
+pub value-digits : (n : ℕ) → valueOf (digits n) ≡ n
+unfolding valueOf valueFrom
+value-digits =
+    digits-ind (λ n. valueFrom 0 (digits n) ≡ n)
+    (λ n l. rw (digits-small n l) (omega arith))
+    (λ n l ih. rw (digits-more n l, value-snoc 0 (digits (n / 10)) (48 + n % 10), ih) (omega arith))
+
+digits-one : (b : ℕ) → T (isDigit b) → digits (b - 48) ≡ b ∷ []
+digits-one b t =
+    let h = digit-bounds b t in
+    let e : 48 + (b - 48) ≡ b = omega arith in
+    digits-small (b - 48) (omega arith) ∙ ap (λ (x : ℕ). x ∷ []) e
+
+digits-step : (v b : ℕ) → 0 < v → T (isDigit b) → digits (v * 10 + (b - 48)) ≡ digits v ++ (b ∷ [])
+digits-step v b p t =
+    let h = digit-bounds b t in
+    let d : b - 48 < 10 = omega arith in
+    let e : 48 + (b - 48) ≡ b = omega arith in
+    digits-more (v * 10 + (b - 48)) (omega arith) ∙ rw (digits-div v d, digits-mod v d, e)
+
+digits-from : (t : List ℕ) (v : ℕ) → 0 < v → T (all isDigit t) → digits (valueFrom v t) ≡ digits v ++ t
+unfolding valueFrom all
+digits-from [] v p a = sym (append-nil (digits v))
+digits-from (b ∷ t) v p a =
+    let d = and-l (isDigit b) (all isDigit t) a in
+    digits-from t (v * 10 + (b - 48)) (omega arith) (and-r (isDigit b) (all isDigit t) a)
+    ∙ ap (λ (x : List ℕ). x ++ t) (digits-step v b p d)
+    ∙ append-assoc (digits v) (b ∷ []) t
+
+not-zero-digit : (b : ℕ) → T (isDigit b) → T (not (eqb b 48)) → 0 < b - 48
+not-zero-digit b t k =
+    let h = digit-bounds b t in
+    let ne : b ≡ 48 → ⊥ = (λ e. T-not (eqb b 48) k (eq-T b 48 e)) in
+    omega arith
+
+-- what the text rule says of a number's bytes
+pub record NumberText (d : ℕ) (ds : List ℕ) : Type 0 where
+  pub every : T (all isDigit (d ∷ ds))
+  pub few : length ds ≤ 9
+  pub lead : (length ds ≡ 0) ⊎ T (not (eqb d 48))
+
+pub number-text : (d : ℕ) (ds : List ℕ) → T (isNumber (d ∷ ds)) → NumberText d ds
+unfolding isNumber
+number-text d ds t =
+    let A = all isDigit (d ∷ ds) in
+    let B = leb (length ds) 9 in
+    let C = eqb (length ds) 0 || not (eqb d 48) in
+    record {
+      every = and-l A B (and-l (A && B) C t);
+      few = leb→le (length ds) 9 (and-r A B (and-l (A && B) C t));
+      lead = ⊎-elim (λ e. inl (eqb→eq (length ds) 0 e)) (λ e. inr e) (or-e (eqb (length ds) 0) (not (eqb d 48)) (and-r (A && B) C t));
+    }
+
+pub text-number : (d : ℕ) (ds : List ℕ) → NumberText d ds → T (isNumber (d ∷ ds))
+unfolding isNumber
+text-number d ds r =
+    let A = all isDigit (d ∷ ds) in
+    let B = leb (length ds) 9 in
+    let C = eqb (length ds) 0 || not (eqb d 48) in
+    and-i (A && B) C (and-i A B (r .every) (le→leb (length ds) 9 (r .few)))
+    (⊎-elim (λ e. or-l (eqb (length ds) 0) (not (eqb d 48)) (eq-T (length ds) 0 e)) (λ e. or-r (eqb (length ds) 0) (not (eqb d 48)) e) (r .lead))
+
+-- digits that the text rule admits are the decimal text of their value
+pub digits-value : (t : List ℕ) → T (isNumber t) → digits (valueOf t) ≡ t
+unfolding valueOf valueFrom all isNumber
+digits-value [] n = absurd n
+digits-value (b ∷ []) n =
+    let r = number-text b [] n in
+    let z : 0 * 10 + (b - 48) ≡ b - 48 = omega arith in
+    ap digits z ∙ digits-one b (and-l (isDigit b) true (r .every))
+digits-value (b ∷ c ∷ t) n =
+    let r = number-text b (c ∷ t) n in
+    let z : 0 * 10 + (b - 48) ≡ b - 48 = omega arith in
+    let d = and-l (isDigit b) (all isDigit (c ∷ t)) (r .every) in
+    digits-from (c ∷ t) (0 * 10 + (b - 48)) (omega (arith, not-zero-digit b d (lead (r .lead)))) (and-r (isDigit b) (all isDigit (c ∷ t)) (r .every))
+    ∙ ap (λ (x : List ℕ). x ++ c ∷ t) (ap digits z ∙ digits-one b d)
+  where
+    lead : (length (c ∷ t) ≡ 0) ⊎ T (not (eqb b 48)) → T (not (eqb b 48))
+    lead (inl e) = absurd (omega arith)
+    lead (inr e) = e
+
+number-length : (t : List ℕ) → T (isNumber t) → length t ≤ 10
+unfolding isNumber
+number-length [] n = absurd n
+number-length (d ∷ ds) n = suc-le-suc (number-text d ds n .few)
+
+-- and their value is below 10 ^ 10
+pub value-below : (t : List ℕ) → T (isNumber t) → valueOf t < 10 ^ 10
+value-below t n = below-pow 9 (valueOf t) (subst (λ (x : List ℕ). length x ≤ 10) (sym (digits-value t n)) (number-length t n))
+
+-- the text of a positive number does not begin with 0
+first-digit : (n : ℕ) → 0 < n → (h : ℕ) × (t : List ℕ) × (digits n ≡ h ∷ t) × (48 < h)
+first-digit =
+    digits-ind (λ n. 0 < n → (h : ℕ) × (t : List ℕ) × (digits n ≡ h ∷ t) × (48 < h))
+    (λ n l p. (48 + n, [], digits-small n l, omega arith))
+    (λ n l ih p.
+    let f = ih (omega arith) in
+    (f .0, f .1 ++ ((48 + n % 10) ∷ []), digits-more n l ∙ ap (λ (x : List ℕ). x ++ ((48 + n % 10) ∷ [])) (f .2), f .3))
+
+-- the text of a number of at most ten digits is one that the text rule admits
+pub digits-number : (n : ℕ) → n < 10 ^ 10 → T (isNumber (digits n))
+digits-number n l =
+    ⊎-elim
+    (λ s. rw (digits-small n s) (text-number (48 + n) [] (record {
+      every = one-digit (48 + n) (bounds-digit (48 + n) (omega arith) (omega arith));
+      few = zero-le;
+      lead = inl refl;
+    })))
+    (λ m.
+    let f = first-digit n (omega arith) in
+    let ne : f .0 ≡ 48 → ⊥ = (λ e. omega (arith, f .3)) in
+    rw (f .2) (text-number (f .0) (f .1) (record {
+      every = subst (λ (t : List ℕ). T (all isDigit t)) (f .2) (digits-all n);
+      few = le-of-suc-le-suc (subst (λ (t : List ℕ). length t ≤ 10) (f .2) (length-le 9 n l));
+      lead = inr (not-T (eqb (f .0) 48) (λ t. ne (eqb→eq (f .0) 48 t)));
+    })))
+    (lt-or n 10)

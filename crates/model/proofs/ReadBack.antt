@@ -1,0 +1,342 @@
+-- A text that reading accepts gives an accepted survey whose links are exactly the pairs that its lines name, and a survey written
+-- and read again is the same survey.
+-- Assumes nothing.
+use mathlib.Core.Path.{_≡_, refl, sym, ap, ap₂, _∙_, subst}
+use mathlib.Core.Logic.{_⊎_, inl, inr, ⊎-elim}
+use mathlib.Core.Bool.{Bool, true, false, _&&_, _||_, or-assoc}
+use mathlib.Core.List.{List, [], _∷_, _++_, map}
+use Prim.Native.Nat.{ℕ, zero, suc, _+_, _*_, _/_, _%_, _≤_, _<_, zero-le}
+use native.Mathlib.Nat.{add-suc, add-zero, zero-add, suc-add}
+use native.Mathlib.Numerals.{add-one}
+use native.Mathlib.Omega.{arith}
+use lib.Dec.{T, eqb, ltb, eqb→eq, ltb→lt, lt→ltb}
+use lib.ListN.{length, getD, take, drop, replicate, length-append, length-drop, length-replicate, length-take}
+use Rattle.model.specs.declared.Size.{Size}
+use Rattle.model.specs.Answers.{Outcome, refused, answered}
+use Rattle.model.specs.Basics.{from, upTo, has, keep, gather, over}
+use Rattle.model.specs.SurveyText.{surveyText, ordered}
+use Rattle.model.specs.Survey.{Graph, neighboursOf, linked, ascending, IsGraph, IsSurvey, Accepted}
+use Rattle.model.specs.Reading.{named, Parsed, parse, graphOf, startsOf, neighboursFrom, Reading, readingOf, reading}
+use Rattle.model.specs.Writing.{textOf}
+use Rattle.model.specs.Demand.{IsRead, ReadRight}
+use Rattle.model.proofs.Tests.{and-l, and-r, and-i, or-l, or-r, or-e, eq-T, no-false, same-test, lt-or}
+use Rattle.model.proofs.Lists.{has-head, has-tail, of-cons, has-keep, of-keep, has-upTo, of-upTo, none-in, keep-same}
+use Rattle.model.proofs.Ascending.{ascending-tail, ascending-above, keep-from-ascending, keep-ascending, ascending-keep, keep-of-ascending}
+use Rattle.model.proofs.Acceptance.{Link, linked-is, is-linked}
+use Rattle.model.proofs.Links.{Fresh, AllFresh, TextRead, parse-complete, parse-sound}
+use Rattle.model.proofs.SurveyLists.{total, total-zero, total-suc, starts-length, neighbours-length, start-at, own-at, gather-below, neighbours-same, starts-same, own-total, own-neighbours, own-starts}
+use Rattle.model.proofs.Totals.{named-sym, links-total}
+
+-- ---- links that are all new: the nodes they name are below n and different
+
+pub named-below : (n : ℕ) (ls done : List (ℕ × ℕ)) → AllFresh n done ls → (a b : ℕ) → T (named ls a b) → (a < n) × (b < n) × (a ≡ b → ⊥)
+unfolding named
+named-below n [] done f a b t = absurd t
+named-below n (l ∷ ls) done f a b t = at (or-e (X || Y) (named ls a b) t) (λ s. named-below n ls (l ∷ done) (f .1) a b s)
+  where
+    X : Bool
+    X = eqb (l .0) a && eqb (l .1) b
+
+    Y : Bool
+    Y = eqb (l .0) b && eqb (l .1) a
+
+    g : Fresh n done l
+    g = f .0
+
+    this : (u v : ℕ) → T (eqb (l .0) u && eqb (l .1) v) → (u < n) × (v < n) × (u ≡ v → ⊥)
+    this u v s =
+        let eu = eqb→eq (l .0) u (and-l (eqb (l .0) u) (eqb (l .1) v) s) in
+        let ev = eqb→eq (l .1) v (and-r (eqb (l .0) u) (eqb (l .1) v) s) in
+        (subst (λ (k : ℕ). k < n) eu (g .below-a), subst (λ (k : ℕ). k < n) ev (g .below-b), λ e. g .apart (eu ∙ e ∙ sym ev))
+
+    at : T (X || Y) ⊎ T (named ls a b) → (T (named ls a b) → (a < n) × (b < n) × (a ≡ b → ⊥)) → (a < n) × (b < n) × (a ≡ b → ⊥)
+    at (inl s) rec = ⊎-elim (λ x. this a b x) (λ y. let r = this b a y in (r .1, r .0, λ e. r .2 (sym e))) (or-e X Y s)
+    at (inr s) rec = rec s
+
+-- ---- the lists of such links are accepted
+
+module _ (n : ℕ) (ls : List (ℕ × ℕ)) (some-node : 1 ≤ n) (size : n ≤ 1024) (few : length ls ≤ 16384) (f : AllFresh n [] ls) (more others : List ℕ) where
+  starts : List ℕ
+  starts = startsOf n (graphOf n ls) ++ more
+
+  neighbours : List ℕ
+  neighbours = neighboursFrom n (graphOf n ls) ++ others
+
+  own : (v : ℕ) → v < n → neighboursOf starts neighbours v ≡ graphOf n ls v
+  unfolding starts neighbours
+  own = own-at n (graphOf n ls) more others
+
+  start : (v : ℕ) → v ≤ n → getD starts v 0 ≡ total (graphOf n ls) v
+  unfolding starts
+  start = start-at n (graphOf n ls) more others
+
+  last : getD starts n 0 ≡ 2 * length ls
+  last = start n (omega arith) ∙ links-total n ls f
+
+  -- a neighbour of a node below n is one that a line names with it
+  own-named : (v x : ℕ) → v < n → T (has x (neighboursOf starts neighbours v)) → T (named ls v x)
+  unfolding graphOf
+  own-named v x h m = of-keep (named ls v) (upTo n) x (subst (λ (l : List ℕ). T (has x l)) (own v h) m) .1
+
+  named-own : (v x : ℕ) → T (named ls v x) → T (has x (neighboursOf starts neighbours v))
+  unfolding graphOf
+  named-own v x t =
+      let b = named-below n ls [] f v x t in
+      subst (λ (l : List ℕ). T (has x l)) (sym (own v (b .0))) (has-keep (named ls v) (upTo n) x (has-upTo n x (b .1)) t)
+
+  lists-accepted : Accepted n starts neighbours
+  unfolding starts neighbours graphOf
+  lists-accepted = record {
+    some-node = some-node;
+    size = size;
+    room = omega (arith, length-append (startsOf n (graphOf n ls)) more, starts-length n (graphOf n ls));
+    lists = record {
+      first = start 0 zero-le ∙ total-zero (graphOf n ls);
+      rising = λ v h. let a = start v (omega arith) in let b = start (v + 1) (omega arith) ∙ ap (total (graphOf n ls)) (add-one v) ∙ total-suc (graphOf n ls) v in omega arith;
+      even = omega (arith, last);
+      links = omega (arith, last);
+      within = omega (arith, start n (omega arith), neighbours-length n (graphOf n ls), length-append (neighboursFrom n (graphOf n ls)) others);
+      sorted = λ v h. subst (λ (l : List ℕ). T (ascending l)) (sym (own v h)) (keep-ascending (named ls v) n);
+      apart = λ v x h m e. named-below n ls [] f v x (own-named v x h m) .2 (sym e);
+      graph = record {
+        below = λ v x h m. named-below n ls [] f v x (own-named v x h m) .1;
+        symmetric = λ v x h m. named-own x v (subst T (named-sym ls v x) (own-named v x h m));
+      };
+    };
+  }
+
+  links-exactly : (a b : ℕ) → linked n (neighboursOf starts neighbours) a b ≡ named ls a b
+  links-exactly a b =
+      same-test (linked n G a b) (named ls a b)
+      (λ t. let l = linked-is n G a b t in own-named a b (l .first) (l .there))
+      (λ t. let h = named-below n ls [] f a b t in is-linked n G a b (record {
+        first = h .0; second = h .1; there = named-own a b t; back = named-own b a (subst T (named-sym ls a b) t)
+      }))
+    where
+      G : Graph
+      G = neighboursOf starts neighbours
+
+-- what reading accepts is an accepted survey, with exactly the links that the lines name
+pub reading-right : (text : List ℕ) (p q : ℕ) → ReadRight text (reading text p q)
+unfolding reading readingOf over starts neighbours
+reading-right text p q x e = at (parse 1024 16384 p q text) refl e
+  where
+    at : (o : Outcome Parsed) → parse 1024 16384 p q text ≡ o → readingOf p q o .answer ≡ answered x → IsRead text x (readingOf p q o .starts) (readingOf p q o .neighbours)
+    at (refused k) h e = absurd (let z : _≡_ {A = ℕ} 0 1 = cc in omega arith)
+    at (answered y) h e =
+        let r = parse-sound 1024 16384 p q text y h in
+        let n = y .nodes in
+        let ls = y .links in
+        let G : Graph = graphOf n ls in
+        let more : List ℕ = drop (length (startsOf n G)) (replicate p 0) in
+        let others : List ℕ = drop (length (neighboursFrom n G)) (replicate q 0) in
+        let s : _≡_ {A = Size} (record { nodes = n; links = length ls }) x = cc in
+        subst (λ (z : Size). IsRead text z (startsOf n G ++ more) (neighboursFrom n G ++ others)) s (record {
+          survey = lists-accepted n ls (r .some-node) (r .size) (r .few) (r .fresh) more others;
+          links = ls;
+          count = refl;
+          lines = r .is-text;
+          exactly = links-exactly n ls (r .some-node) (r .size) (r .few) (r .fresh) more others;
+        })
+
+-- ---- a graph's links in order: each once, and all of them
+
+named-append : (ks ls : List (ℕ × ℕ)) (a b : ℕ) → named (ks ++ ls) a b ≡ (named ks a b || named ls a b)
+unfolding named
+named-append [] ls a b = refl
+named-append (k ∷ ks) ls a b =
+    let X = (eqb (k .0) a && eqb (k .1) b) || (eqb (k .0) b && eqb (k .1) a) in
+    ap (λ (t : Bool). X || t) (named-append ks ls a b) ∙ sym (or-assoc X (named ks a b) (named ls a b))
+
+-- the links of node a to the nodes of a list
+row : ℕ → List ℕ → List (ℕ × ℕ)
+row a l = map (λ b. (a, b)) l
+
+row-sound : (a : ℕ) (l : List ℕ) (u v : ℕ) → T (named (row a l) u v) → ((u ≡ a) × T (has v l)) ⊎ ((v ≡ a) × T (has u l))
+unfolding row named
+row-sound a [] u v t = absurd t
+row-sound a (b ∷ l) u v t = at (or-e (X || Y) (named (row a l) u v) t) (λ s. row-sound a l u v s)
+  where
+    X : Bool
+    X = eqb a u && eqb b v
+
+    Y : Bool
+    Y = eqb a v && eqb b u
+
+    this : (i j : ℕ) → T (eqb a i && eqb b j) → (i ≡ a) × T (has j (b ∷ l))
+    this i j s = (
+      sym (eqb→eq a i (and-l (eqb a i) (eqb b j) s)),
+      subst (λ (k : ℕ). T (has k (b ∷ l))) (eqb→eq b j (and-r (eqb a i) (eqb b j) s)) (has-head b l),
+    )
+
+    at : T (X || Y) ⊎ T (named (row a l) u v) → (T (named (row a l) u v) → ((u ≡ a) × T (has v l)) ⊎ ((v ≡ a) × T (has u l)))
+        → ((u ≡ a) × T (has v (b ∷ l))) ⊎ ((v ≡ a) × T (has u (b ∷ l)))
+    at (inl s) rec = ⊎-elim (λ x. inl (this u v x)) (λ y. inr (this v u y)) (or-e X Y s)
+    at (inr s) rec = ⊎-elim (λ i. inl (i .0, has-tail v b l (i .1))) (λ i. inr (i .0, has-tail u b l (i .1))) (rec s)
+
+row-complete : (a : ℕ) (l : List ℕ) (v : ℕ) → T (has v l) → T (named (row a l) a v)
+unfolding row named
+row-complete a [] v h = absurd (none-in v h)
+row-complete a (b ∷ l) v h = at (of-cons v b l h) (λ r. row-complete a l v r)
+  where
+    X : Bool
+    X = (eqb a a && eqb b v) || (eqb a v && eqb b a)
+
+    at : (v ≡ b) ⊎ T (has v l) → (T (has v l) → T (named (row a l) a v)) → T (X || named (row a l) a v)
+    at (inl e) rec = or-l X (named (row a l) a v) (or-l (eqb a a && eqb b v) (eqb a v && eqb b a) (and-i (eqb a a) (eqb b v) (eq-T a a refl) (eq-T b v (sym e))))
+    at (inr r) rec = or-r X (named (row a l) a v) (rec r)
+
+gather-sound : (f : ℕ → List (ℕ × ℕ)) (l : List ℕ) (u v : ℕ) → T (named (gather f l) u v) → (a : ℕ) × T (has a l) × T (named (f a) u v)
+unfolding gather named
+gather-sound f [] u v t = absurd t
+gather-sound f (x ∷ l) u v t = at (or-e (named (f x) u v) (named (gather f l) u v) (subst T (named-append (f x) (gather f l) u v) t)) (λ r. gather-sound f l u v r)
+  where
+    at : T (named (f x) u v) ⊎ T (named (gather f l) u v) → (T (named (gather f l) u v) → (a : ℕ) × T (has a l) × T (named (f a) u v))
+        → (a : ℕ) × T (has a (x ∷ l)) × T (named (f a) u v)
+    at (inl s) rec = (x, has-head x l, s)
+    at (inr s) rec = let i = rec s in (i .0, has-tail (i .0) x l (i .1), i .2)
+
+gather-complete : (f : ℕ → List (ℕ × ℕ)) (l : List ℕ) (a u v : ℕ) → T (has a l) → T (named (f a) u v) → T (named (gather f l) u v)
+unfolding gather
+gather-complete f [] a u v h t = absurd (none-in a h)
+gather-complete f (x ∷ l) a u v h t = subst T (sym (named-append (f x) (gather f l) u v)) (at (of-cons a x l h) (λ r. gather-complete f l a u v r t))
+  where
+    at : (a ≡ x) ⊎ T (has a l) → (T (has a l) → T (named (gather f l) u v)) → T (named (f x) u v || named (gather f l) u v)
+    at (inl e) rec = or-l (named (f x) u v) (named (gather f l) u v) (subst (λ (k : ℕ). T (named (f k) u v)) e t)
+    at (inr r) rec = or-r (named (f x) u v) (named (gather f l) u v) (rec r)
+
+-- every pair named before comes before (a, k)
+AllLess : List (ℕ × ℕ) → ℕ → ℕ → Type 0
+AllLess done a k = (u v : ℕ) → T (named done u v) → u < v → (u < a) ⊎ ((u ≡ a) × (v < k))
+
+row-fresh : (n a k : ℕ) (l : List ℕ) (done ks : List (ℕ × ℕ)) → a < n → T (ascending l) → ((b : ℕ) → T (has b l) → (a < b) × (b < n) × (k ≤ b)) → AllLess done a k
+    → ((done′ : List (ℕ × ℕ)) → AllLess done′ (suc a) 0 → AllFresh n done′ ks) → AllFresh n done (row a l ++ ks)
+unfolding row AllLess named
+row-fresh n a k [] done ks ha asc b less next = next done (λ u v t h. inl (⊎-elim (λ x. omega arith) (λ x. omega (arith, x .0)) (less u v t h)))
+row-fresh n a k (y ∷ l) done ks ha asc b less next =
+    let c = b y (has-head y l) in (
+      record {
+        below-a = ha;
+        below-b = c .1;
+        apart = λ e. omega (arith, c .0);
+        new = no-false (named done a y) (λ t. ⊎-elim (λ x. omega arith) (λ x. omega (arith, x .1, c .2)) (less a y t (c .0)));
+      },
+      row-fresh n a (suc y) l ((a, y) ∷ done) ks ha (ascending-tail y l asc)
+          (λ x m. let d = b x (has-tail x y l m) in (d .0, d .1, ascending-above y l asc x m)) up next,
+    )
+  where
+    up : (u v : ℕ) → T (named ((a, y) ∷ done) u v) → u < v → (u < a) ⊎ ((u ≡ a) × (v < suc y))
+    up u v t h = at (or-e (X || Y) (named done u v) t)
+      where
+        X : Bool
+        X = eqb a u && eqb y v
+
+        Y : Bool
+        Y = eqb a v && eqb y u
+
+        c : (a < y) × (y < n) × (k ≤ y)
+        c = b y (has-head y l)
+
+        ends : (i j : ℕ) → T (eqb a i && eqb y j) → (a ≡ i) × (y ≡ j)
+        ends i j s = (eqb→eq a i (and-l (eqb a i) (eqb y j) s), eqb→eq y j (and-r (eqb a i) (eqb y j) s))
+
+        at : T (X || Y) ⊎ T (named done u v) → (u < a) ⊎ ((u ≡ a) × (v < suc y))
+        at (inl s) =
+            ⊎-elim
+            (λ x. let e = ends u v x in inr (sym (e .0), omega (arith, e .1)))
+            (λ x. let e = ends v u x in absurd (omega (arith, e .0, e .1, c .0)))
+            (or-e X Y s)
+        at (inr s) = ⊎-elim (λ x. inl x) (λ x. inr (x .0, omega (arith, x .1, c .2))) (less u v s h)
+
+rows-fresh : (n : ℕ) (G : Graph) (k a : ℕ) (done : List (ℕ × ℕ)) → a + k ≡ n → ((v : ℕ) → v < n → T (ascending (G v))) → ((v x : ℕ) → v < n → T (has x (G v)) → x < n)
+    → AllLess done a 0 → AllFresh n done (gather (λ a. row a (keep (λ b. ltb a b) (G a))) (from a k))
+unfolding from gather
+rows-fresh n G zero a done e asc b less = tt
+rows-fresh n G (suc k) a done e asc b less =
+    row-fresh n a 0 (keep (λ b. ltb a b) (G a)) done (gather (λ a. row a (keep (λ b. ltb a b) (G a))) (from (suc a) k)) (omega arith)
+    (keep-of-ascending (λ b. ltb a b) (G a) (asc a (omega arith)))
+    (λ x m. let i = of-keep (λ b. ltb a b) (G a) x m in (ltb→lt a x (i .1), b a x (omega arith) (i .0), zero-le)) less
+    (λ done′ less′. rows-fresh n G k (suc a) done′ (omega arith) asc b less′)
+
+-- ---- a survey written and read again
+
+module _ (n : ℕ) (starts′ neighbours′ : List ℕ) (acc : Accepted n starts′ neighbours′) where
+  abbrev G : Graph
+  G = neighboursOf starts′ neighbours′
+
+  ls : List (ℕ × ℕ)
+  ls = ordered n (neighboursOf starts′ neighbours′)
+
+  all-fresh : AllFresh n [] ls
+  unfolding ls ordered upTo row AllLess named
+  all-fresh = rows-fresh n G n 0 [] (zero-add n) (acc .lists .sorted) (acc .lists .graph .below) (λ u v t h. absurd t)
+
+  -- the links in order are the graph's links
+  ordered-has : (v x : ℕ) → v < n → T (named ls v x) → T (has x (neighboursOf starts′ neighbours′ v))
+  unfolding ls ordered row
+  ordered-has v x hv t =
+      let i = gather-sound (λ a. row a (keep (λ b. ltb a b) (G a))) (upTo n) v x t in
+      let a = i .0 in
+      let ha = of-upTo n a (i .1) in
+      ⊎-elim
+      (λ r. subst (λ (k : ℕ). T (has x (G k))) (sym (r .0)) (of-keep (λ b. ltb a b) (G a) x (r .1) .0))
+      (λ r. subst (λ (k : ℕ). T (has k (G v))) (sym (r .0)) (acc .lists .graph .symmetric a v ha (of-keep (λ b. ltb a b) (G a) v (r .1) .0)))
+      (row-sound a (keep (λ b. ltb a b) (G a)) v x (i .2))
+
+  up-named : (v x : ℕ) → v < n → v < x → T (has x (neighboursOf starts′ neighbours′ v)) → T (named ls v x)
+  unfolding ls ordered row
+  up-named v x hv l m =
+      gather-complete (λ a. row a (keep (λ b. ltb a b) (G a))) (upTo n) v v x (has-upTo n v hv)
+      (row-complete v (keep (λ b. ltb v b) (G v)) x (has-keep (λ b. ltb v b) (G v) x m (lt→ltb v x l)))
+
+  has-ordered : (v x : ℕ) → v < n → T (has x (neighboursOf starts′ neighbours′ v)) → T (named ls v x)
+  has-ordered v x hv m =
+      ⊎-elim
+      (λ l. up-named v x hv l m)
+      (λ l.
+      let d : x ≡ v → ⊥ = acc .lists .apart v x hv m in
+      subst T (named-sym ls x v) (up-named x v (acc .lists .graph .below v x hv m) (omega arith) (acc .lists .graph .symmetric v x hv m)))
+      (lt-or v x)
+
+  graph-back : (v : ℕ) → v < n → graphOf n ls v ≡ neighboursOf starts′ neighbours′ v
+  unfolding graphOf
+  graph-back v hv =
+      keep-same (named ls v) (λ x. has x (G v)) (upTo n) (λ x m t. ordered-has v x hv t) (λ x m t. has-ordered v x hv t)
+      ∙ ascending-keep (G v) n (acc .lists .sorted v hv) (λ x m. acc .lists .graph .below v x hv m)
+
+  -- there are half as many links as neighbours
+  pub ordered-count : 2 * length (ordered n (neighboursOf starts′ neighbours′)) ≡ getD starts′ n 0
+  unfolding ls total
+  ordered-count =
+      sym (links-total n ls all-fresh)
+      ∙ ap length (gather-below n (graphOf n ls) G graph-back n (omega arith))
+      ∙ own-total n starts′ neighbours′ (acc .lists) n (omega arith)
+
+  pub half-count : getD starts′ n 0 / 2 ≡ length (ordered n (neighboursOf starts′ neighbours′))
+  half-count = omega (arith, ordered-count)
+
+  -- what it reads back as: n and m, the entries used, and zero past them
+  pub read-back : (p q : ℕ) → n + 1 ≤ p → getD starts′ n 0 ≤ q
+      → reading (textOf n starts′ neighbours′) p q ≡ record {
+        answer = answered (record { nodes = n; links = getD starts′ n 0 / 2 });
+        starts = over (take (n + 1) starts′) (replicate p 0);
+        neighbours = over (take (getD starts′ n 0) neighbours′) (replicate q 0);
+      }
+  unfolding reading readingOf textOf ls
+  read-back p q hp hq =
+      let x : Parsed = record { nodes = n; links = ls } in
+      let m = length ls in
+      let r = parse-complete 1024 16384 p q (omega arith) (omega arith) x (surveyText n (getD starts′ n 0 / 2) ls) (record {
+        some-node = acc .some-node;
+        size = acc .size;
+        few = omega (arith, half-count, acc .lists .links);
+        room = hp;
+        list-room = omega (arith, ordered-count);
+        is-text = ap (λ (k : ℕ). surveyText n k ls) half-count;
+        fresh = all-fresh;
+      }) in
+      ap (readingOf p q) r ∙ (λ i. record {
+        answer = answered (record { nodes = n; links = sym half-count i });
+        starts = over ((starts-same n (graphOf n ls) G graph-back ∙ own-starts n starts′ neighbours′ (acc .lists) (acc .room)) i) (replicate p 0);
+        neighbours = over ((neighbours-same n (graphOf n ls) G graph-back ∙ own-neighbours n starts′ neighbours′ (acc .lists)) i) (replicate q 0);
+      })

@@ -1,0 +1,134 @@
+-- The two lists of a graph: they give each node's neighbours back, and a survey's lists are those of its own graph.
+-- Assumes nothing.
+use mathlib.Core.Path.{_≡_, refl, sym, ap, ap₂, _∙_, subst}
+use mathlib.Core.List.{List, [], _∷_, _++_, map, append-assoc, append-nil}
+use Prim.Native.Nat.{ℕ, zero, suc, _+_, _-_, _≤_, _<_}
+use native.Mathlib.Nat.{add-suc, suc-add, zero-add, add-zero}
+use native.Mathlib.Numerals.{add-one}
+use native.Mathlib.Omega.{arith}
+use lib.Dec.{T}
+use lib.ListN.{length, getD, take, drop, length-append, length-take, length-drop, List·getD-append}
+use lib.Seq.{take-at, drop-at, take-add, getD-take, ext-getD}
+use Rattle.model.specs.Basics.{from, upTo, has, gather, over}
+use Rattle.model.specs.Survey.{Graph, neighboursOf, IsSurvey}
+use Rattle.model.specs.Reading.{startsOf, neighboursFrom}
+use Rattle.model.proofs.Lists.{gather-append, gather-same, upTo-suc, from-split, of-upTo}
+use Rattle.model.proofs.Entries.{getD-row, length-row}
+
+-- how many neighbours the nodes below v have
+unfoldable pub total : Graph → ℕ → ℕ
+total G v = length (gather G (upTo v))
+
+pub total-zero : (G : Graph) → total G 0 ≡ 0
+unfolding total upTo from gather
+total-zero G = refl
+
+pub total-suc : (G : Graph) (v : ℕ) → total G (suc v) ≡ total G v + length (G v)
+unfolding total gather
+total-suc G v =
+    ap (λ (l : List ℕ). length (gather G l)) (upTo-suc v)
+    ∙ ap length (gather-append G (upTo v) (v ∷ []))
+    ∙ length-append (gather G (upTo v)) (G v ++ [])
+    ∙ ap (λ (l : List ℕ). total G v + length l) (append-nil (G v))
+
+pub starts-length : (n : ℕ) (G : Graph) → length (startsOf n G) ≡ n + 1
+unfolding startsOf
+starts-length n G = length-row (λ v. length (gather G (upTo v))) (n + 1)
+
+pub neighbours-length : (n : ℕ) (G : Graph) → length (neighboursFrom n G) ≡ total G n
+unfolding neighboursFrom total
+neighbours-length n G = refl
+
+-- ---- each node's neighbours are read back
+
+module _ (n : ℕ) (G : Graph) (more others : List ℕ) where
+  pub start-at : (v : ℕ) → v ≤ n → getD (startsOf n G ++ more) v 0 ≡ total G v
+  unfolding startsOf total
+  start-at v h =
+      let row = map (λ v. length (gather G (upTo v))) (upTo (n + 1)) in
+      List·getD-append row more 0 v (omega (arith, starts-length n G, h))
+      ∙ getD-row (λ v. length (gather G (upTo v))) (n + 1) v 0 (omega arith)
+
+  pub own-at : (v : ℕ) → v < n → neighboursOf (startsOf n G ++ more) (neighboursFrom n G ++ others) v ≡ G v
+  unfolding neighboursOf neighboursFrom total gather
+  own-at v h =
+      let k = n - suc v in
+      let split : gather G (upTo n) ++ others ≡ gather G (upTo v) ++ (G v ++ (gather G (from (suc v) k) ++ others)) =
+      ap (λ (l : List ℕ). gather G l ++ others) (from-split v k n (omega arith))
+      ∙ ap (λ (l : List ℕ). l ++ others) (gather-append G (upTo v) (v ∷ from (suc v) k))
+      ∙ simp append-assoc in
+      let first = start-at v (omega arith) in
+      let second = start-at (v + 1) (omega arith) ∙ ap (total G) (add-one v) ∙ total-suc G v in
+      let size : getD (startsOf n G ++ more) (v + 1) 0 - getD (startsOf n G ++ more) v 0 ≡ length (G v) = omega (arith, first, second) in
+      ap₂ (λ (i : ℕ) (l : List ℕ). take i l) size (
+        ap₂ drop first split ∙ drop-at (gather G (upTo v)) (G v ++ (gather G (from (suc v) k) ++ others)) (total G v) refl
+      )
+      ∙ take-at (G v) (gather G (from (suc v) k) ++ others) (length (G v)) refl
+
+-- ---- graphs with the same neighbours have the same lists
+
+module _ (n : ℕ) (G H : Graph) (same : (v : ℕ) → v < n → G v ≡ H v) where
+  pub gather-below : (v : ℕ) → v ≤ n → gather G (upTo v) ≡ gather H (upTo v)
+  gather-below v h = gather-same G H (upTo v) (λ x m. same x (let l = of-upTo v x m in omega arith))
+
+  pub neighbours-same : neighboursFrom n G ≡ neighboursFrom n H
+  unfolding neighboursFrom
+  neighbours-same = gather-below n (omega arith)
+
+  pub starts-same : startsOf n G ≡ startsOf n H
+  unfolding startsOf
+  starts-same =
+      let f : ℕ → ℕ = λ v. length (gather G (upTo v)) in
+      let g : ℕ → ℕ = λ v. length (gather H (upTo v)) in
+      ext-getD 0 (map f (upTo (n + 1))) (map g (upTo (n + 1))) (length-row f (n + 1) ∙ sym (length-row g (n + 1))) (λ i h.
+      let b : i < n + 1 = omega (arith, length-row f (n + 1)) in
+      getD-row f (n + 1) i 0 b ∙ ap length (gather-below i (omega arith)) ∙ sym (getD-row g (n + 1) i 0 b))
+
+-- ---- a survey's lists are those of its graph
+
+module _ (n : ℕ) (starts neighbours : List ℕ) (s : IsSurvey n starts neighbours) where
+  abbrev G : Graph
+  G = neighboursOf starts neighbours
+
+  -- starts rise up to the last
+  rises : (k v : ℕ) → v + k ≡ n → getD starts v 0 ≤ getD starts n 0
+  rises zero v e = subst (λ (x : ℕ). getD starts v 0 ≤ getD starts x 0) (sym (add-zero v) ∙ e) (omega arith)
+  rises (suc k) v e =
+      let r = rises k (v + 1) (omega arith) in
+      let h = s .rising v (omega arith) in
+      omega arith
+
+  pub start-within : (v : ℕ) → v ≤ n → getD starts v 0 ≤ length neighbours
+  start-within v h = let r = rises (n - v) v (omega arith) in omega (arith, r, s .within)
+
+  -- the neighbours of the nodes below v are the entries up to v's start
+  pub front : (v : ℕ) → v ≤ n → gather (neighboursOf starts neighbours) (upTo v) ≡ take (getD starts v 0) neighbours
+  unfolding upTo from gather neighboursOf
+  front zero h = ap (λ (k : ℕ). take k neighbours) (sym (s .first))
+  front (suc v) h =
+      let a = getD starts v 0 in
+      let b = getD starts (v + 1) 0 in
+      let own : List ℕ = take (b - a) (drop a neighbours) in
+      let r = s .rising v h in
+      let e : a + (b - a) ≡ b = omega arith in
+      ap (gather (neighboursOf starts neighbours)) (upTo-suc v)
+      ∙ gather-append (neighboursOf starts neighbours) (upTo v) (v ∷ [])
+      ∙ ap₂ (λ (x y : List ℕ). x ++ y) (front v (omega arith)) (append-nil own)
+      ∙ sym (take-add a (b - a) neighbours)
+      ∙ ap (λ (k : ℕ). take k neighbours) (e ∙ ap (λ (k : ℕ). getD starts k 0) (add-one v))
+
+  pub own-total : (v : ℕ) → v ≤ n → total (neighboursOf starts neighbours) v ≡ getD starts v 0
+  unfolding total
+  own-total v h = ap length (front v h) ∙ length-take (getD starts v 0) neighbours ∙ omega (arith, start-within v h)
+
+  pub own-neighbours : neighboursFrom n (neighboursOf starts neighbours) ≡ take (getD starts n 0) neighbours
+  unfolding neighboursFrom
+  own-neighbours = front n (omega arith)
+
+  pub own-starts : n + 1 ≤ length starts → startsOf n (neighboursOf starts neighbours) ≡ take (n + 1) starts
+  unfolding startsOf total
+  own-starts room =
+      let f : ℕ → ℕ = λ v. length (gather (neighboursOf starts neighbours) (upTo v)) in
+      ext-getD 0 (map f (upTo (n + 1))) (take (n + 1) starts) (length-row f (n + 1) ∙ omega (arith, length-take (n + 1) starts)) (λ i h.
+      let b : i < n + 1 = omega (arith, length-row f (n + 1)) in
+      getD-row f (n + 1) i 0 b ∙ own-total i (omega arith) ∙ sym (getD-take (n + 1) starts i 0 b))

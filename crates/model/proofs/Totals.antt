@@ -1,0 +1,174 @@
+-- The neighbours of all nodes are two for each link.
+-- Assumes nothing.
+use mathlib.Core.Path.{_≡_, refl, sym, ap, ap₂, _∙_, subst, fun-ext}
+use mathlib.Core.Logic.{_⊎_, inl, inr, ⊎-elim}
+use mathlib.Core.Bool.{Bool, true, false, _&&_, _||_, or-false, or-comm, or-assoc}
+use mathlib.Core.List.{List, [], _∷_, _++_}
+use Prim.Native.Nat.{ℕ, zero, suc, _+_, _*_, _≤_, _<_, zero-le}
+use native.Mathlib.Nat.{zero-add}
+use native.Mathlib.Omega.{arith}
+use lib.Dec.{T, eqb, eqb→eq}
+use lib.ListN.{length, length-append}
+use Rattle.model.specs.Basics.{if_then_else_, from, upTo, has, keep, gather}
+use Rattle.model.specs.Survey.{Graph}
+use Rattle.model.specs.Reading.{named, graphOf}
+use Rattle.model.proofs.Tests.{and-l, and-r, and-i, or-l, or-r, or-e, eq-T, eq-or, no-false, false-no, T-true, same-test, isnt, is}
+use Rattle.model.proofs.Links.{Fresh, AllFresh}
+use Rattle.model.proofs.SurveyLists.{total}
+
+-- ---- sums over a list
+
+bit : Bool → ℕ
+bit true = 1
+bit false = 0
+
+sumOver : (ℕ → ℕ) → List ℕ → ℕ
+sumOver f [] = 0
+sumOver f (x ∷ xs) = f x + sumOver f xs
+
+gather-sum : (f : ℕ → List ℕ) (l : List ℕ) → length (gather f l) ≡ sumOver (λ x. length (f x)) l
+unfolding gather sumOver
+gather-sum f [] = refl
+gather-sum f (x ∷ l) = length-append (f x) (gather f l) ∙ ap (λ (k : ℕ). length (f x) + k) (gather-sum f l)
+
+keep-sum : (p : ℕ → Bool) (l : List ℕ) → length (keep p l) ≡ sumOver (λ x. bit (p x)) l
+unfolding keep sumOver bit
+keep-sum p [] = refl
+keep-sum p (x ∷ l) = at (p x) (keep-sum p l)
+  where
+    at : (b : Bool) → length (keep p l) ≡ sumOver (λ x. bit (p x)) l → length (if b then x ∷ keep p l else keep p l) ≡ bit b + sumOver (λ x. bit (p x)) l
+    at true e = omega (arith, e)
+    at false e = omega (arith, e)
+
+sum-same : (f g : ℕ → ℕ) (l : List ℕ) → ((x : ℕ) → f x ≡ g x) → sumOver f l ≡ sumOver g l
+sum-same f g l e = ap (λ (h : ℕ → ℕ). sumOver h l) (fun-ext e)
+
+sum-add : (f g : ℕ → ℕ) (l : List ℕ) → sumOver (λ x. f x + g x) l ≡ sumOver f l + sumOver g l
+unfolding sumOver
+sum-add f g [] = refl
+sum-add f g (x ∷ l) = omega (arith, sum-add f g l)
+
+sum-zero : (l : List ℕ) → sumOver (λ x. 0) l ≡ 0
+unfolding sumOver
+sum-zero [] = refl
+sum-zero (x ∷ l) = omega (arith, sum-zero l)
+
+-- a number stands once among k, .., k + m - 1, or not at all
+once-from : (a k m : ℕ) → ((a < k) → sumOver (λ x. bit (eqb a x)) (from k m) ≡ 0) × (k ≤ a → a < k + m → sumOver (λ x. bit (eqb a x)) (from k m) ≡ 1)
+unfolding sumOver from bit
+once-from a k zero = (λ h. refl, λ h l. absurd (omega arith))
+once-from a k (suc m) = at (once-from a (suc k) m) (eqb a k) refl
+  where
+    R : ℕ
+    R = sumOver (λ x. bit (eqb a x)) (from (suc k) m)
+
+    at : ((a < suc k) → R ≡ 0) × (suc k ≤ a → a < suc k + m → R ≡ 1) → (b : Bool) → eqb a k ≡ b
+        → ((a < k) → bit b + R ≡ 0) × (k ≤ a → a < k + suc m → bit b + R ≡ 1)
+    at i true e = (λ h. let q = is a k e in absurd (omega arith), λ h l. let q = is a k e in omega (arith, i .0 (omega arith)))
+    at i false e = (λ h. omega (arith, i .0 (omega arith)), λ h l. let q = isnt a k e in omega (arith, i .1 (omega arith) (omega arith)))
+
+once : (a n : ℕ) → a < n → sumOver (λ x. bit (eqb a x)) (upTo n) ≡ 1
+unfolding upTo
+once a n h = once-from a 0 n .1 zero-le (omega arith)
+
+-- ---- how many ordered pairs of nodes below n are linked
+
+count : (ℕ → ℕ → Bool) → ℕ → ℕ
+count E n = sumOver (λ u. sumOver (λ v. bit (E u v)) (upTo n)) (upTo n)
+
+count-same : (E F : ℕ → ℕ → Bool) (n : ℕ) → ((u v : ℕ) → E u v ≡ F u v) → count E n ≡ count F n
+unfolding count
+count-same E F n e = sum-same _ _ (upTo n) (λ u. sum-same _ _ (upTo n) (λ v. ap bit (e u v)))
+
+count-add : (E F H : ℕ → ℕ → Bool) (n : ℕ) → ((u v : ℕ) → bit (H u v) ≡ bit (E u v) + bit (F u v)) → count H n ≡ count E n + count F n
+unfolding count
+count-add E F H n e =
+    sum-same _ _ (upTo n) (λ u. sum-same _ _ (upTo n) (λ v. e u v) ∙ sum-add (λ v. bit (E u v)) (λ v. bit (F u v)) (upTo n))
+    ∙ sum-add (λ u. sumOver (λ v. bit (E u v)) (upTo n)) (λ u. sumOver (λ v. bit (F u v)) (upTo n)) (upTo n)
+
+count-none : (n : ℕ) → count (λ u v. false) n ≡ 0
+unfolding count bit
+count-none n = sum-same _ _ (upTo n) (λ u. sum-zero (upTo n)) ∙ sum-zero (upTo n)
+
+-- one pair counts once
+count-one : (a b n : ℕ) → a < n → b < n → count (λ u v. eqb a u && eqb b v) n ≡ 1
+unfolding count bit
+count-one a b n ha hb = sum-same _ _ (upTo n) (λ u. row u (eqb a u)) ∙ once a n ha
+  where
+    row : (u : ℕ) (t : Bool) → sumOver (λ v. bit (t && eqb b v)) (upTo n) ≡ bit t
+    row u true = once b n hb
+    row u false = sum-zero (upTo n)
+
+-- ---- the links named
+
+pub named-sym : (ls : List (ℕ × ℕ)) (a b : ℕ) → named ls a b ≡ named ls b a
+unfolding named
+named-sym [] a b = refl
+named-sym (l ∷ ls) a b =
+    ap₂ (λ (s t : Bool). s || t) (or-comm (eqb (l .0) a && eqb (l .1) b) (eqb (l .0) b && eqb (l .1) a)) (named-sym ls a b)
+
+either : (x y : Bool) → (T x → T y → ⊥) → bit (x || y) ≡ bit x + bit y
+unfolding bit
+either true true f = absurd (f tt tt)
+either true false f = refl
+either false y f = sym (zero-add (bit y))
+
+module _ (n : ℕ) (done : List (ℕ × ℕ)) (l : ℕ × ℕ) (f : Fresh n done l) where
+  there : ℕ → ℕ → Bool
+  there u v = eqb (l .0) u && eqb (l .1) v
+
+  back : ℕ → ℕ → Bool
+  back u v = eqb (l .0) v && eqb (l .1) u
+
+  ends : (u v : ℕ) → T (there u v) → (l .0 ≡ u) × (l .1 ≡ v)
+  unfolding there
+  ends u v t = (eqb→eq (l .0) u (and-l (eqb (l .0) u) (eqb (l .1) v) t), eqb→eq (l .1) v (and-r (eqb (l .0) u) (eqb (l .1) v) t))
+
+  no-there : (u v : ℕ) → T (there u v) → T (named done u v) → ⊥
+  no-there u v t s = let e = ends u v t in false-no (named done (l .0) (l .1)) (f .new) (subst T (ap₂ (named done) (sym (e .0)) (sym (e .1))) s)
+
+  no-back : (u v : ℕ) → T (back u v) → T (named done u v) → ⊥
+  unfolding there back
+  no-back u v t s = no-there v u t (subst T (named-sym done u v) s)
+
+  not-both : (u v : ℕ) → T (there u v) → T (back u v) → ⊥
+  unfolding there back
+  not-both u v s t = let e = ends u v s in let g = ends v u t in f .apart (e .0 ∙ sym (g .1))
+
+  -- a new link makes two pairs more
+  count-more : count (named (l ∷ done)) n ≡ count (named done) n + 2
+  unfolding named there back
+  count-more =
+      let one = count-add (λ u v. there u v || back u v) (named done) (named (l ∷ done)) n (λ u v.
+      either (there u v || back u v) (named done u v) (λ s t. ⊎-elim (λ x. no-there u v x t) (λ x. no-back u v x t) (or-e (there u v) (back u v) s))) in
+      let two = count-add there back (λ u v. there u v || back u v) n (λ u v. either (there u v) (back u v) (not-both u v)) in
+      let three = count-one (l .0) (l .1) n (f .below-a) (f .below-b) in
+      let four : count back n ≡ 1 = count-same back (λ u v. eqb (l .1) u && eqb (l .0) v) n (λ u v. swap (eqb (l .0) v) (eqb (l .1) u)) ∙ count-one (l .1) (l .0) n (f .below-b) (f .below-a) in
+      omega (arith, one, two, three, four)
+    where
+      swap : (x y : Bool) → (x && y) ≡ (y && x)
+      swap true true = refl
+      swap true false = refl
+      swap false true = refl
+      swap false false = refl
+
+count-all : (n : ℕ) (ls done : List (ℕ × ℕ)) → AllFresh n done ls → count (λ u v. named ls u v || named done u v) n ≡ count (named done) n + 2 * length ls
+unfolding named
+count-all n [] done f = omega arith
+count-all n (l ∷ ls) done f =
+    count-same (λ u v. named (l ∷ ls) u v || named done u v) (λ u v. named ls u v || named (l ∷ done) u v) n (λ u v.
+    shift ((eqb (l .0) u && eqb (l .1) v) || (eqb (l .0) v && eqb (l .1) u)) (named ls u v) (named done u v))
+    ∙ omega (arith, count-all n ls (l ∷ done) (f .1), count-more n done l (f .0))
+  where
+    shift : (x y z : Bool) → ((x || y) || z) ≡ (y || (x || z))
+    shift x y z = ap (λ (t : Bool). t || z) (or-comm x y) ∙ or-assoc y x z
+
+-- the two lists of links that are all new have two neighbours for each link
+pub links-total : (n : ℕ) (ls : List (ℕ × ℕ)) → AllFresh n [] ls → total (graphOf n ls) n ≡ 2 * length ls
+unfolding total graphOf count named
+links-total n ls f =
+    gather-sum (λ v. keep (named ls v) (upTo n)) (upTo n)
+    ∙ sum-same _ _ (upTo n) (λ u. keep-sum (named ls u) (upTo n))
+    ∙ count-same (named ls) (λ u v. named ls u v || named [] u v) n (λ u v. sym (or-false (named ls u v)))
+    ∙ count-all n ls [] f
+    ∙ omega (arith, count-none n)
