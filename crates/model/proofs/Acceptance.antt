@@ -175,7 +175,7 @@ module _ (n : ℕ) (starts neighbours : List ℕ) (acc : Accepted n starts neigh
   degree v h =
       let G : Graph = neighboursOf starts neighbours in
       ap length (
-        keep-same (linked n G v) (λ x. has x (G v)) (upTo n)
-            (λ x m. linked-has n G v x) (λ x m. linked-of n G (acc .lists .graph) v x h)
-        ∙ ascending-keep (G v) n (acc .lists .sorted v h) (λ x m. acc .lists .graph .below v x h m)
+      keep-same (linked n G v) (λ x. has x (G v)) (upTo n)
+      (λ x m. linked-has n G v x) (λ x m. linked-of n G (acc .lists .graph) v x h)
+      ∙ ascending-keep (G v) n (acc .lists .sorted v h) (λ x m. acc .lists .graph .below v x h m)
       )

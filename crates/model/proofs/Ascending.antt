@@ -80,9 +80,9 @@ member-keep (y ∷ ys) k (suc m) t f = go (eq-or k y) (λ g. member-keep ys (suc
         ap (λ (b : Bool). if b then k ∷ rest else rest) (T-true (has k (y ∷ ys)) (front e))
         ∙ ap (λ (z : ℕ). z ∷ rest) e
         ∙ ap (λ (l : List ℕ). y ∷ l) (
-          keep-same (λ x. has x (y ∷ ys)) (λ x. has x ys) (from (suc k) m)
-              (λ x h t. other x (of-from (suc k) m x h .0) (of-cons x y ys t)) (λ x h t. has-tail x y ys t)
-          ∙ one (λ x r. let c = f x (has-tail x y ys r) in let u = up x r in omega arith)
+        keep-same (λ x. has x (y ∷ ys)) (λ x. has x ys) (from (suc k) m)
+        (λ x h t. other x (of-from (suc k) m x h .0) (of-cons x y ys t)) (λ x h t. has-tail x y ys t)
+        ∙ one (λ x r. let c = f x (has-tail x y ys r) in let u = up x r in omega arith)
         )
       where
         other : (x : ℕ) → suc k ≤ x → (x ≡ y) ⊎ T (has x ys) → T (has x ys)

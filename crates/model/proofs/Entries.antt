@@ -6,7 +6,7 @@ use Prim.Native.Nat.{ℕ, zero, suc, _+_, _*_, _≤_, _<_}
 use native.Mathlib.Nat.{add-zero, zero-add, add-suc, suc-add, suc-mul, zero-mul, mul-le-mul-right, le-of-suc-le-suc, not-suc-le-zero}
 use native.Mathlib.Omega.{arith}
 use lib.ListN.{length, getD, take, length-take, length-append, length-map, List·getD-append}
-use lib.Seq.{getD-append-add, getD-take}
+use lib.Seq.{getD-append-add, getD-take, take-all}
 use Rattle.model.specs.Basics.{from, upTo, gather}
 use Rattle.model.specs.Tables.{table, entry}
 use Rattle.model.proofs.Lists.{length-upTo}
@@ -71,3 +71,6 @@ entry-front n t u e a b ha hb =
 
 pub front-length : (k : ℕ) (t u : List ℕ) → take k t ≡ u → length u ≡ k → k ≤ length t
 front-length k t u e l = omega (arith, length-take k t, ap length e, l)
+
+pub table-front : (n : ℕ) (f : ℕ → ℕ → ℕ) → take (n * n) (table n f) ≡ table n f
+table-front n f = take-all (n * n) (table n f) (omega (arith, length-table n f))

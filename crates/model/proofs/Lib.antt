@@ -18,3 +18,5 @@ pub mod Links
 pub mod SurveyLists
 pub mod Totals
 pub mod ReadBack
+pub mod Listing
+pub mod Starred

@@ -132,8 +132,8 @@ module _ (letter : ℕ) (after : 44 < letter) (x y : ℕ) (hx : x < 10 ^ 10) (hy
   fields =
       split-at 44 (letter ∷ []) (digits x ++ 44 ∷ digits y) (λ h. ⊎-elim (λ e. omega arith) (λ h. none h) (of-cons 44 letter [] h))
       ∙ ap (λ (r : List (List ℕ)). (letter ∷ []) ∷ r) (
-        split-at 44 (digits x) (digits y) (digits-free 44 x (omega arith))
-        ∙ ap (λ (r : List (List ℕ)). digits x ∷ r) (split-none 44 (digits y) (digits-free 44 y (omega arith)))
+      split-at 44 (digits x) (digits y) (digits-free 44 x (omega arith))
+      ∙ ap (λ (r : List (List ℕ)). digits x ∷ r) (split-none 44 (digits y) (digits-free 44 y (omega arith)))
       )
     where
       none : T (has 44 []) → ⊥

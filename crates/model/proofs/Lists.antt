@@ -3,7 +3,7 @@
 use mathlib.Core.Path.{_≡_, refl, sym, ap, ap₂, _∙_, subst}
 use mathlib.Core.Logic.{_⊎_, inl, inr}
 use mathlib.Core.Bool.{Bool, true, false, not, _&&_, _||_}
-use mathlib.Core.List.{List, [], _∷_, _++_, append-assoc, append-nil}
+use mathlib.Core.List.{List, [], _∷_, _++_, map, append-assoc, append-nil}
 use Prim.Native.Nat.{ℕ, zero, suc, _+_, _≤_, _<_, suc-le-suc, zero-le}
 use native.Mathlib.Nat.{le-step, le-refl, le-of-suc-le-suc, add-zero, add-suc, suc-add, zero-add}
 use native.Mathlib.Omega.{arith}
@@ -396,3 +396,15 @@ from-add k (suc m) j =
 pub from-split : (v k n : ℕ) → v + suc k ≡ n → upTo n ≡ upTo v ++ v ∷ from (suc v) k
 unfolding upTo from
 from-split v k n e = ap (from 0) (sym e) ∙ from-add 0 v (suc k) ∙ ap (λ (x : ℕ). from 0 v ++ from x (suc k)) (zero-add v)
+
+-- ---- gathering twice
+
+pub gather-gather : {A B C : Type 0} (f : B → List C) (g : A → List B) (l : List A) → gather f (gather g l) ≡ gather (λ x. gather f (g x)) l
+unfolding gather
+gather-gather f g [] = refl
+gather-gather {C = C} f g (x ∷ l) = gather-append f (g x) (gather g l) ∙ ap (λ (r : List C). gather f (g x) ++ r) (gather-gather f g l)
+
+pub gather-map : {A B C : Type 0} (f : B → List C) (g : A → B) (l : List A) → gather f (map g l) ≡ gather (λ x. f (g x)) l
+unfolding gather
+gather-map f g [] = refl
+gather-map {C = C} f g (x ∷ l) = ap (λ (r : List C). f (g x) ++ r) (gather-map f g l)

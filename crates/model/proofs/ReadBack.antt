@@ -110,7 +110,10 @@ module _ (n : ℕ) (ls : List (ℕ × ℕ)) (some-node : 1 ≤ n) (size : n ≤ 
       same-test (linked n G a b) (named ls a b)
       (λ t. let l = linked-is n G a b t in own-named a b (l .first) (l .there))
       (λ t. let h = named-below n ls [] f a b t in is-linked n G a b (record {
-        first = h .0; second = h .1; there = named-own a b t; back = named-own b a (subst T (named-sym ls a b) t)
+        first = h .0;
+        second = h .1;
+        there = named-own a b t;
+        back = named-own b a (subst T (named-sym ls a b) t);
       }))
     where
       G : Graph

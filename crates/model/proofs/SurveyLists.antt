@@ -61,7 +61,7 @@ module _ (n : ℕ) (G : Graph) (more others : List ℕ) where
       let second = start-at (v + 1) (omega arith) ∙ ap (total G) (add-one v) ∙ total-suc G v in
       let size : getD (startsOf n G ++ more) (v + 1) 0 - getD (startsOf n G ++ more) v 0 ≡ length (G v) = omega (arith, first, second) in
       ap₂ (λ (i : ℕ) (l : List ℕ). take i l) size (
-        ap₂ drop first split ∙ drop-at (gather G (upTo v)) (G v ++ (gather G (from (suc v) k) ++ others)) (total G v) refl
+      ap₂ drop first split ∙ drop-at (gather G (upTo v)) (G v ++ (gather G (from (suc v) k) ++ others)) (total G v) refl
       )
       ∙ take-at (G v) (gather G (from (suc v) k) ++ others) (length (G v)) refl
 

@@ -1,0 +1,96 @@
+-- The listing of a survey has a line for each pair a < b, in order, with an allowed report.
+-- Assumes nothing.
+use mathlib.Core.Path.{_≡_, refl, sym, ap, _∙_, subst}
+use mathlib.Core.List.{List, _++_, map}
+use Prim.Native.Nat.{ℕ, _+_, _*_, _≤_, _<_}
+use native.Mathlib.Omega.{arith}
+use lib.Dec.{T, ltb, ltb→lt}
+use lib.ListN.{length}
+use Rattle.model.specs.declared.Route.the-variants.{NoRoute}
+use Rattle.model.specs.declared.Answer.{Answer}
+use Rattle.model.specs.Answers.{Outcome, refused, answered}
+use Rattle.model.specs.Basics.{none, upTo, has, keep, gather}
+use Rattle.model.specs.SurveyText.{lineOf, ordered}
+use Rattle.model.specs.Survey.{Graph, linked, IsGraph}
+use Rattle.model.specs.Threshold.{threshold}
+use Rattle.model.specs.Hubs.{hubs}
+use Rattle.model.specs.Tables.{entry, fullTable, lowTable, reportTable, AreBuilt}
+use Rattle.model.specs.Pair.{answer, taken, pair}
+use Rattle.model.specs.Reading.{named, Parsed, parse, graphOf}
+use Rattle.model.specs.Listing.{pairLine, pairsBelow, pairLines, listingOf, listed, listing}
+use Rattle.model.specs.Demand.{Allowed}
+use Rattle.model.proofs.Lists.{has-keep, of-keep, has-upTo, of-upTo, gather-same, gather-gather, gather-map}
+use Rattle.model.proofs.Entries.{table-front}
+use Rattle.model.proofs.Allowance.{allowed}
+use Rattle.model.proofs.BuiltWalks.{report-at, pair-built, taken-right}
+use Rattle.model.proofs.Links.{AllFresh, parse-sound}
+use Rattle.model.proofs.Totals.{named-sym}
+
+-- the tables that the rules give are the ones built
+pub rules-built : (n s : ℕ) (G : Graph) → AreBuilt n s G (fullTable n s G) (lowTable n s G) (reportTable n s G)
+unfolding fullTable lowTable reportTable
+rules-built n s G = record { full-front = table-front n _; low-front = table-front n _; report-front = table-front n _ }
+
+-- links name a graph
+pub links-graph : (n : ℕ) (ls : List (ℕ × ℕ)) → IsGraph n (graphOf n ls)
+unfolding graphOf
+links-graph n ls = record {
+  below = λ v x h m. of-upTo n x (of-keep (named ls v) (upTo n) x m .0);
+  symmetric = λ v x h m. has-keep (named ls x) (upTo n) v (has-upTo n v h) (subst T (named-sym ls v x) (of-keep (named ls v) (upTo n) x m .1));
+}
+
+-- the pairs below n, one node's after the other's
+pub by-pairs : {B : Type 0} (f : ℕ × ℕ → List B) (n : ℕ) → gather f (pairsBelow n) ≡ gather (λ a. gather (λ b. f (a, b)) (keep (λ b. ltb a b) (upTo n))) (upTo n)
+unfolding pairsBelow ordered
+by-pairs f n =
+    gather-gather f (λ a. map (λ b. (a, b)) (keep (λ b. ltb a b) (upTo n))) (upTo n)
+    ∙ gather-same _ _ (upTo n) (λ a m. gather-map f (λ b. (a, b)) (keep (λ b. ltb a b) (upTo n)))
+
+-- the value of an answer
+unfoldable pub valueIn : Outcome Answer → Answer
+valueIn (refused k) = answer none NoRoute
+valueIn (answered x) = x
+
+module _ (text : List ℕ) (x : Parsed) (e : parse 128 2048 (128 + 1) (2 * 2048) text ≡ answered x) where
+  abbrev n : ℕ
+  n = x .nodes
+
+  abbrev G : Graph
+  G = graphOf (x .nodes) (x .links)
+
+  abbrev s : ℕ
+  s = threshold (x .nodes)
+
+  reply : ℕ → ℕ → Outcome Answer
+  reply a b = pair n (fullTable n s G) (lowTable n s G) (reportTable n s G) a b
+
+  size : x .nodes ≤ 1024
+  size = omega (arith, parse-sound 128 2048 (128 + 1) (2 * 2048) text x e .size)
+
+  reply-is : (a b : ℕ) → a < x .nodes → b < x .nodes → (reply a b ≡ answered (valueIn (reply a b))) × (valueIn (reply a b) .report ≡ entry n (reportTable n s G) a b)
+  unfolding reply pair valueIn
+  reply-is a b ha hb =
+      let g = links-graph n (x .links) in
+      let own = rules-built n s G in
+      let full = fullTable n s G in
+      let low = lowTable n s G in
+      let report = reportTable n s G in
+      let i = pair-built n s G g size full low report own a b ha hb (taken n full a b) (taken-right n s G g size full low report own a b ha hb) in
+      (i .1 ∙ ap answered (sym (ap valueIn (i .1))), ap (λ (o : Outcome Answer). valueIn o .report) (i .1) ∙ report-at n s G g size full low report own a b ha hb)
+
+  -- the first line, then for each a < b in order a line with an allowed report and a route
+  pub listing-lines : (f : ℕ → ℕ → Answer)
+      × (listing text ≡ lineOf 82 (x .nodes) (length (hubs (x .nodes) (threshold (x .nodes)) (graphOf (x .nodes) (x .links))))
+      ++ gather (λ p. pairLine p (answered (f (p .0) (p .1)))) (pairsBelow (x .nodes)))
+      × ((a b : ℕ) → a < x .nodes → b < x .nodes → Allowed (linked (x .nodes) (graphOf (x .nodes) (x .links))) a b (f a b .report))
+  unfolding listing listed listingOf pairLines reply
+  listing-lines = (
+    λ a b. valueIn (reply a b),
+    ap listed e ∙ ap (λ (l : List ℕ). lineOf 82 n (length (hubs n s G)) ++ l) (
+        by-pairs (λ p. pairLine p (reply (p .0) (p .1))) n
+        ∙ gather-same _ _ (upTo n) (λ a ma. gather-same _ _ (keep (λ b. ltb a b) (upTo n)) (λ b mb.
+        ap (pairLine (a, b)) (reply-is a b (of-upTo n a ma) (of-upTo n b (of-keep (λ b. ltb a b) (upTo n) b mb .0)) .0)))
+        ∙ sym (by-pairs (λ p. pairLine p (answered (valueIn (reply (p .0) (p .1))))) n)
+        ),
+    λ a b ha hb. subst (λ (r : ℕ). Allowed (linked n G) a b r) (sym (reply-is a b ha hb .1)) (allowed n s G (links-graph n (x .links)) size a b ha hb),
+  )
