@@ -3,13 +3,13 @@
 use mathlib.Core.Path.{_≡_, refl, sym, ap, _∙_, subst}
 use mathlib.Core.Bool.{Bool, true, false, not, _&&_, _||_}
 use mathlib.Core.List.{List}
-use Prim.Native.Nat.{ℕ, zero, suc, _+_, _/_, _%_, _≤_, _<_}
-use borrow.Author.Tests.{le-ltb, ltb-false}
+use Prim.Native.Nat.{ℕ, _+_, _/_, _%_, _≤_, _<_}
+use borrow.Author.Tests.{lt-ltb, le-ltb, ltb-false}
 use lib.Dec.{T, eqb, ltb, leb, eqb→eq, leb→le, le→leb, ltb→lt, lt→ltb, T-not, not-T}
 use lib.ListN.{length, getD}
 use Rattle.model.specs.Basics.{upTo, has, all, keep}
 use Rattle.model.specs.Survey.{Graph, neighboursOf, linked, ascending, isSurvey, badSize, accepted, IsSurvey, IsGraph, Accepted}
-use Rattle.model.proofs.Tests.{and-l, and-r, and-i, or-false, of-or-false, T-false, eq-T}
+use Rattle.model.proofs.Tests.{and-l, and-r, and-i, or-r, or-false, of-or-false, T-true, T-false, eq-T}
 use Rattle.model.proofs.Lists.{of-all, all-of, has-upTo, of-upTo, keep-same}
 use Rattle.model.proofs.Ascending.{ascending-keep}
 
@@ -88,6 +88,14 @@ module _ (n : ℕ) (starts neighbours : List ℕ) where
 pub good-size : (n : ℕ) → 1 ≤ n → n ≤ 1024 → badSize n ≡ false
 unfolding badSize
 good-size n p q = or-false (ltb n 1) (ltb 1024 n) (le-ltb n 1 p) (le-ltb 1024 n q)
+
+pub small-size : (n : ℕ) → n < 1 → badSize n ≡ true
+unfolding badSize
+small-size n h = ap (λ (t : Bool). t || ltb 1024 n) (lt-ltb n 1 h)
+
+pub large-size : (n : ℕ) → 1024 < n → badSize n ≡ true
+unfolding badSize
+large-size n h = T-true (ltb n 1 || ltb 1024 n) (or-r (ltb n 1) (ltb 1024 n) (lt→ltb 1024 n h))
 
 pub size-bounds : (n : ℕ) → badSize n ≡ false → (1 ≤ n) × (n ≤ 1024)
 unfolding badSize

@@ -1,11 +1,11 @@
 -- The report table of a survey: none exactly where no chain joins the pair, and else at most two above the fewest links.
 -- Assumes nothing. Holds for every threshold s.
-use mathlib.Core.Path.{_≡_, refl, sym, ap, ap₂, _∙_, subst}
+use mathlib.Core.Path.{_≡_, refl, sym, ap, _∙_, subst}
 use mathlib.Core.Logic.{_⊎_, inl, inr}
 use mathlib.Core.Bool.{Bool, true, false, not, _&&_, _||_}
 use mathlib.Core.List.{List, [], _∷_, foldr}
-use Prim.Native.Nat.{ℕ, zero, suc, _+_, _≤_, _<_, zero-le, suc-le-suc, min}
-use native.Mathlib.Nat.{zero-add, suc-add, le-refl, le-trans, le-antisymm, le-of-eq, min-le-left, min-le-right}
+use Prim.Native.Nat.{ℕ, suc, _+_, _≤_, _<_, zero-le, min}
+use native.Mathlib.Nat.{zero-add, suc-add, le-refl, le-trans, min-le-left, min-le-right}
 use native.Mathlib.Omega.{arith}
 use native.Mathlib.Decide.{decLe}
 use lib.Dec.{T, eqb, eqb→eq, eqb-refl, not-T}
@@ -15,10 +15,10 @@ use Rattle.model.specs.Survey.{Graph, linked, IsGraph}
 use Rattle.model.specs.Hubs.{isHigh, isLow, closed, hubs}
 use Rattle.model.specs.Tables.{table, entry, fullTable, lowLinks, lowTable, sum, via, reportTable}
 use Rattle.model.specs.Demand.{Allowed}
-use Rattle.model.proofs.Tests.{and-l, and-r, and-i, passes}
+use Rattle.model.proofs.Tests.{and-i, passes}
 use Rattle.model.proofs.Lists.{of-cons, has-head, has-tail}
 use Rattle.model.proofs.Chains.{append, turn, widen, inside, fewest-cases}
-use Rattle.model.proofs.Acceptance.{linked-of, linked-has, linked-ends, linked-sym}
+use Rattle.model.proofs.Acceptance.{linked-of, linked-ends, linked-sym}
 use Rattle.model.proofs.Entries.{entry-table}
 use Rattle.model.proofs.Covering.{hubs-cover, hubs-below}
 use Rattle.model.proofs.TableLaws.{full-is, full-joined, low-is, low-joined, low-widen}

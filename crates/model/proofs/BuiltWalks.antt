@@ -5,8 +5,8 @@ use mathlib.Core.Logic.{_⊎_, inl, inr}
 use mathlib.Core.Bool.{Bool, true, false, not, _&&_}
 use mathlib.Core.List.{List, [], _∷_, _++_}
 use mathlib.Core.Option.{Option, none as missing, some}
-use Prim.Native.Nat.{ℕ, zero, suc, _+_, _-_, _≤_, _<_, zero-le, suc-le-suc}
-use native.Mathlib.Nat.{le-refl, le-trans, le-of-suc-le-suc}
+use Prim.Native.Nat.{ℕ, suc, _+_, _-_, _≤_, _<_, zero-le}
+use native.Mathlib.Nat.{le-of-suc-le-suc}
 use native.Mathlib.Omega.{arith}
 use lib.Dec.{T, eqb, ltb, eqb→eq, ltb→lt, not-T}
 use lib.ListN.{length, replicate, take}
@@ -15,12 +15,12 @@ use Rattle.model.specs.declared.Route.the-variants.{Itself, Low, Through
 use Rattle.model.specs.declared.Answer.{Answer}
 use Rattle.model.specs.Answers.{Outcome, refused, answered}
 use Rattle.model.specs.Basics.{none, if_then_else_, has, upTo, firstOf}
-use Rattle.model.specs.Graph.{Edges, Chain, here, link, Fewest}
+use Rattle.model.specs.Graph.{Edges, Chain, link, Fewest}
 use Rattle.model.specs.Survey.{Graph, linked, IsGraph}
 use Rattle.model.specs.Hubs.{isLow, hubs, hubList}
 use Rattle.model.specs.Tables.{entry, sum, via, fullTable, lowTable, lowLinks, reportTable, AreBuilt}
 use Rattle.model.specs.Pair.{answer, taken, listed, attaining, choose, pairBy, pair}
-use Rattle.model.specs.Walk.{steps, byLow, toHub, join, nodes}
+use Rattle.model.specs.Walk.{byLow, toHub, join, nodes}
 use Rattle.model.specs.Walking.{Walking, refuseWalk, fit, walkOf}
 use Rattle.model.proofs.Tests.{and-l, and-r, and-i, is, eq-T, T-true, same-test, eq-or}
 use Rattle.model.proofs.Lists.{has-append, of-upTo, first-below, First, found, nothing, first-same}

@@ -1,11 +1,11 @@
 -- `fewest` is the least number of links in a chain, for any graph whose links lead from nodes below n to nodes below n.
 -- Assumes nothing.
-use mathlib.Core.Path.{_≡_, refl, sym, ap, subst, _∙_}
+use mathlib.Core.Path.{_≡_, refl, sym, subst}
 use mathlib.Core.Logic.{_⊎_, inl, inr}
-use mathlib.Core.Bool.{Bool, true, false, _||_}
-use mathlib.Core.List.{List, [], _∷_}
+use mathlib.Core.Bool.{Bool, _||_}
+use mathlib.Core.List.{[], _∷_}
 use Prim.Native.Nat.{ℕ, zero, suc, _+_, _≤_, _<_, suc-le-suc, zero-le}
-use native.Mathlib.Nat.{zero-add, suc-add, le-step, le-refl, le-antisymm, lt-of-not-le}
+use native.Mathlib.Nat.{zero-add, suc-add, le-step, le-refl, le-antisymm}
 use native.Mathlib.Omega.{arith}
 use lib.Dec.{T}
 use lib.ListN.{length}

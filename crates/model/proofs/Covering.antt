@@ -1,16 +1,16 @@
 -- The greedy hub list: each hub is the best node, the list covers every high node, and its turns never run out.
 -- Assumes nothing.
-use mathlib.Core.Path.{_≡_, refl, sym, ap, _∙_, subst}
+use mathlib.Core.Path.{_≡_, refl, sym, ap, subst}
 use mathlib.Core.Logic.{_⊎_, inl, inr}
-use mathlib.Core.Bool.{Bool, true, false, not}
+use mathlib.Core.Bool.{Bool, not}
 use mathlib.Core.List.{List, [], _∷_}
-use Prim.Native.Nat.{ℕ, zero, suc, _+_, _≤_, _<_, zero-le, suc-le-suc}
-use native.Mathlib.Nat.{le-refl, le-trans, le-of-suc-le-suc, not-suc-le-zero, le-step}
+use Prim.Native.Nat.{ℕ, zero, suc, _≤_, _<_, zero-le, suc-le-suc}
+use native.Mathlib.Nat.{le-refl, le-trans, not-suc-le-zero, le-step}
 use native.Mathlib.Decide.{decLe}
 use native.Mathlib.Omega.{arith}
 use lib.Dec.{T, leb, leb→le, le→leb, not-T, T-not}
 use lib.ListN.{length}
-use Rattle.model.specs.Basics.{none, upTo, has, all, keep, firstOf}
+use Rattle.model.specs.Basics.{none, upTo, has, all, keep}
 use Rattle.model.specs.Survey.{Graph}
 use Rattle.model.specs.Hubs.{isHigh, closed, gain, best, greedy, hubs}
 use Rattle.model.proofs.Tests.{passes}

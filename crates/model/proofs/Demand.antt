@@ -1,7 +1,7 @@
 -- Demand 3 for the calls themselves, refusals and all: an accepted survey, and tables built from it.
 -- Assumes nothing.
 use mathlib.Core.Path.{_≡_, refl, sym, ap, _∙_, subst}
-use mathlib.Core.Logic.{_⊎_, inl, inr}
+use mathlib.Core.Logic.{_⊎_}
 use mathlib.Core.Bool.{Bool, true, false, not, _||_}
 use mathlib.Core.List.{List, _++_}
 use Prim.Native.Nat.{ℕ, suc, _+_, _-_, _*_, _≤_, _<_}
@@ -13,22 +13,22 @@ use lib.ListN.{length, replicate, take, length-append, length-replicate}
 use lib.Seq.{take-at}
 use Rattle.model.specs.declared.Route.the-variants.{NoRoute}
 use Rattle.model.specs.declared.Answer.{Answer}
-use Rattle.model.specs.Answers.{Outcome, refused, answered}
+use Rattle.model.specs.Answers.{refused, answered}
 use Rattle.model.specs.Basics.{none, if_then_else_, over}
 use Rattle.model.specs.Graph.{Edges, Walked}
 use Rattle.model.specs.Survey.{Graph, neighboursOf, linked, badSize, isSurvey, Accepted}
 use Rattle.model.specs.Threshold.{threshold}
 use Rattle.model.specs.Hubs.{hubs, hubList}
-use Rattle.model.specs.Tables.{entry, table, fullTable, lowTable, reportTable, AreBuilt, AreBuiltWith}
-use Rattle.model.specs.Pair.{answer, taken, pairBy, pair}
+use Rattle.model.specs.Tables.{entry, fullTable, lowTable, reportTable, AreBuilt, AreBuiltWith}
+use Rattle.model.specs.Pair.{answer, taken, pair}
 use Rattle.model.specs.TwoOrFour.{tested}
-use Rattle.model.specs.Building.{Building, built, building}
+use Rattle.model.specs.Building.{built, building}
 use Rattle.model.specs.Asking.{asking}
 use Rattle.model.specs.Walking.{Walking, refuseWalk, walkOf, walking}
 use Rattle.model.specs.Testing.{testing}
-use Rattle.model.specs.Demand.{Allowed, AllowedAnswer, IsWalk, WalkSound, WalkAnswers, VerdictRight}
-use Rattle.model.proofs.Tests.{or-false, of-or-false, T-true, true-T, picked}
-use Rattle.model.proofs.Acceptance.{survey-test, survey-facts, good-size, size-bounds}
+use Rattle.model.specs.Demand.{Allowed, AllowedAnswer, WalkSound, WalkAnswers, VerdictRight}
+use Rattle.model.proofs.Tests.{or-false, of-or-false, picked}
+use Rattle.model.proofs.Acceptance.{survey-test, survey-facts, good-size}
 use Rattle.model.proofs.Entries.{front-length, length-table}
 use Rattle.model.proofs.Covering.{hubs-length}
 use Rattle.model.proofs.Allowance.{allowed}

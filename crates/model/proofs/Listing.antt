@@ -1,10 +1,10 @@
 -- The listing of a survey has a line for each pair a < b, in order, with an allowed report.
 -- Assumes nothing.
-use mathlib.Core.Path.{_≡_, refl, sym, ap, _∙_, subst}
+use mathlib.Core.Path.{_≡_, sym, ap, _∙_, subst}
 use mathlib.Core.List.{List, _++_, map}
 use Prim.Native.Nat.{ℕ, _+_, _*_, _≤_, _<_}
 use native.Mathlib.Omega.{arith}
-use lib.Dec.{T, ltb, ltb→lt}
+use lib.Dec.{T, ltb}
 use lib.ListN.{length}
 use Rattle.model.specs.declared.Route.the-variants.{NoRoute}
 use Rattle.model.specs.declared.Answer.{Answer}
@@ -23,7 +23,7 @@ use Rattle.model.proofs.Lists.{has-keep, of-keep, has-upTo, of-upTo, ga
 use Rattle.model.proofs.Entries.{table-front}
 use Rattle.model.proofs.Allowance.{allowed}
 use Rattle.model.proofs.BuiltWalks.{report-at, pair-built, taken-right}
-use Rattle.model.proofs.Links.{AllFresh, parse-sound}
+use Rattle.model.proofs.Links.{parse-sound}
 use Rattle.model.proofs.Totals.{named-sym}
 
 -- the tables that the rules give are the ones built

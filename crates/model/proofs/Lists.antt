@@ -3,14 +3,14 @@
 use mathlib.Core.Path.{_≡_, refl, sym, ap, ap₂, _∙_, subst}
 use mathlib.Core.Logic.{_⊎_, inl, inr}
 use mathlib.Core.Bool.{Bool, true, false, not, _&&_, _||_}
-use mathlib.Core.List.{List, [], _∷_, _++_, map, append-assoc, append-nil}
+use mathlib.Core.List.{List, [], _∷_, _++_, map, append-assoc}
 use Prim.Native.Nat.{ℕ, zero, suc, _+_, _≤_, _<_, suc-le-suc, zero-le}
-use native.Mathlib.Nat.{le-step, le-refl, le-of-suc-le-suc, add-zero, add-suc, suc-add, zero-add}
+use native.Mathlib.Nat.{le-step, le-refl, add-zero, add-suc, suc-add, zero-add}
 use native.Mathlib.Omega.{arith}
 use lib.Dec.{T, eqb, eqb→eq, eqb-refl}
-use lib.ListN.{length, length-append}
+use lib.ListN.{length}
 use Rattle.model.specs.Basics.{if_then_else_, from, upTo, has, any, all, keep, firstOf, gather, same}
-use Rattle.model.proofs.Tests.{and-l, and-r, and-i, or-l, or-r, or-e, passes, T-true, no-false, false-no, eq-or, eq-T, isnt}
+use Rattle.model.proofs.Tests.{and-l, and-r, and-i, or-l, or-r, or-e, passes}
 
 -- ---- membership
 

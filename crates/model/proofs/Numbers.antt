@@ -2,16 +2,16 @@
 -- Assumes nothing.
 use mathlib.Core.Path.{_≡_, refl, sym, ap, _∙_, subst}
 use mathlib.Core.Logic.{_⊎_, inl, inr, ⊎-elim}
-use mathlib.Core.Bool.{Bool, true, false, not, _&&_, _||_}
+use mathlib.Core.Bool.{true, not, _&&_, _||_}
 use mathlib.Core.List.{List, [], _∷_, _++_, append-assoc, append-nil}
 use Prim.Native.Nat.{ℕ, zero, suc, _+_, _-_, _*_, _/_, _%_, _^_, _≤_, _<_, zero-le, suc-le-suc}
 use native.Mathlib.Nat.{not-suc-le-zero, le-refl, le-of-suc-le-suc, pow-suc, div-lt-iff-lt-mul, zero-lt-suc, lt-of-lt-of-le, pow-le-pow-right}
 use native.Mathlib.Omega.{arith}
 use lib.ListN.{length, length-append}
-use lib.Dec.{T, leb, ltb, eqb, leb→le, le→leb, eqb→eq, not-T, T-not}
+use lib.Dec.{T, leb, eqb, leb→le, le→leb, eqb→eq, not-T, T-not}
 use lib.Arith.{digits-div, digits-mod}
 use borrow.Author.Tests.{lt-ltb, le-ltb}
-use Rattle.model.specs.Basics.{if_then_else_, all}
+use Rattle.model.specs.Basics.{all}
 use Rattle.model.specs.Numbers.{isDigit, isNumber, valueFrom, valueOf, digitsWithin, digits}
 use Rattle.model.proofs.Tests.{and-l, and-r, and-i, or-l, or-r, or-e, lt-or, eq-T}
 use Rattle.model.proofs.Lists.{all-append}

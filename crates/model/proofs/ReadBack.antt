@@ -1,29 +1,29 @@
 -- A text that reading accepts gives an accepted survey whose links are exactly the pairs that its lines name, and a survey written
 -- and read again is the same survey.
 -- Assumes nothing.
-use mathlib.Core.Path.{_≡_, refl, sym, ap, ap₂, _∙_, subst}
+use mathlib.Core.Path.{_≡_, refl, sym, ap, _∙_, subst}
 use mathlib.Core.Logic.{_⊎_, inl, inr, ⊎-elim}
-use mathlib.Core.Bool.{Bool, true, false, _&&_, _||_, or-assoc}
+use mathlib.Core.Bool.{Bool, _&&_, _||_, or-assoc}
 use mathlib.Core.List.{List, [], _∷_, _++_, map}
-use Prim.Native.Nat.{ℕ, zero, suc, _+_, _*_, _/_, _%_, _≤_, _<_, zero-le}
-use native.Mathlib.Nat.{add-suc, add-zero, zero-add, suc-add}
+use Prim.Native.Nat.{ℕ, zero, suc, _+_, _*_, _/_, _≤_, _<_, zero-le}
+use native.Mathlib.Nat.{zero-add}
 use native.Mathlib.Numerals.{add-one}
 use native.Mathlib.Omega.{arith}
 use lib.Dec.{T, eqb, ltb, eqb→eq, ltb→lt, lt→ltb}
-use lib.ListN.{length, getD, take, drop, replicate, length-append, length-drop, length-replicate, length-take}
+use lib.ListN.{length, getD, take, drop, replicate, length-append}
 use Rattle.model.specs.declared.Size.{Size}
 use Rattle.model.specs.Answers.{Outcome, refused, answered}
 use Rattle.model.specs.Basics.{from, upTo, has, keep, gather, over}
 use Rattle.model.specs.SurveyText.{surveyText, ordered}
-use Rattle.model.specs.Survey.{Graph, neighboursOf, linked, ascending, IsGraph, IsSurvey, Accepted}
-use Rattle.model.specs.Reading.{named, Parsed, parse, graphOf, startsOf, neighboursFrom, Reading, readingOf, reading}
+use Rattle.model.specs.Survey.{Graph, neighboursOf, linked, ascending, Accepted}
+use Rattle.model.specs.Reading.{named, Parsed, parse, graphOf, startsOf, neighboursFrom, readingOf, reading}
 use Rattle.model.specs.Writing.{textOf}
 use Rattle.model.specs.Demand.{IsRead, ReadRight}
 use Rattle.model.proofs.Tests.{and-l, and-r, and-i, or-l, or-r, or-e, eq-T, no-false, same-test, lt-or}
 use Rattle.model.proofs.Lists.{has-head, has-tail, of-cons, has-keep, of-keep, has-upTo, of-upTo, none-in, keep-same}
-use Rattle.model.proofs.Ascending.{ascending-tail, ascending-above, keep-from-ascending, keep-ascending, ascending-keep, keep-of-ascending}
-use Rattle.model.proofs.Acceptance.{Link, linked-is, is-linked}
-use Rattle.model.proofs.Links.{Fresh, AllFresh, TextRead, parse-complete, parse-sound}
+use Rattle.model.proofs.Ascending.{ascending-tail, ascending-above, keep-ascending, ascending-keep, keep-of-ascending}
+use Rattle.model.proofs.Acceptance.{linked-is, is-linked}
+use Rattle.model.proofs.Links.{Fresh, AllFresh, parse-complete, parse-sound}
 use Rattle.model.proofs.SurveyLists.{total, total-zero, total-suc, starts-length, neighbours-length, start-at, own-at, gather-below, neighbours-same, starts-same, own-total, own-neighbours, own-starts}
 use Rattle.model.proofs.Totals.{named-sym, links-total}
 

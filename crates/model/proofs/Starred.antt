@@ -11,7 +11,7 @@ use Rattle.model.specs.declared.Tested.{Tested}
 use Rattle.model.specs.declared.Verdict.{Verdict}
 use Rattle.model.specs.declared.Verdict.the-variants.{Parted, Long, Short}
 use Rattle.model.specs.Answers.{Outcome, refused, answered}
-use Rattle.model.specs.Basics.{none, if_then_else_, from, upTo, has, any, all, keep, firstOf, gather, same, over}
+use Rattle.model.specs.Basics.{none, from, upTo, has, any, all, keep, firstOf, gather, same, over}
 use Rattle.model.specs.Numbers.{isDigit, isNumber, valueFrom, valueOf, digitsWithin, digits}
 use Rattle.model.specs.SurveyText.{onFirst, split, onFront, cut, twoNumbers, withRest, lineIn, line, lineOf, linkLines, surveyText}
 use Rattle.model.specs.Survey.{Graph, neighboursOf, linked, ascending, badSize, isSurvey}
@@ -25,7 +25,7 @@ use Rattle.model.specs.TwoOrFour.{sources, verdictOf, tested}
 use Rattle.model.specs.Reading.{named, onLinks, readLink, readLinks, parsed, parseFirst, parse, graphOf, startsOf, neighboursFrom, Reading, readingOf, reading}
 use Rattle.model.specs.Building.{Building, built, building}
 use Rattle.model.specs.Asking.{asking}
-use Rattle.model.specs.Walking.{Walking, refuseWalk, fit, walkOf, walking}
+use Rattle.model.specs.Walking.{refuseWalk, fit, walkOf, walking}
 use Rattle.model.specs.Testing.{testing}
 
 -- a survey of n nodes with these links, which its text names

@@ -3,13 +3,12 @@
 use mathlib.Core.Path.{_≡_, refl, sym, ap, ap₂, _∙_, subst}
 use mathlib.Core.List.{List, [], _∷_, _++_, map, append-assoc, append-nil}
 use Prim.Native.Nat.{ℕ, zero, suc, _+_, _-_, _≤_, _<_}
-use native.Mathlib.Nat.{add-suc, suc-add, zero-add, add-zero}
+use native.Mathlib.Nat.{add-zero}
 use native.Mathlib.Numerals.{add-one}
 use native.Mathlib.Omega.{arith}
-use lib.Dec.{T}
-use lib.ListN.{length, getD, take, drop, length-append, length-take, length-drop, List·getD-append}
+use lib.ListN.{length, getD, take, drop, length-append, length-take, List·getD-append}
 use lib.Seq.{take-at, drop-at, take-add, getD-take, ext-getD}
-use Rattle.model.specs.Basics.{from, upTo, has, gather, over}
+use Rattle.model.specs.Basics.{from, upTo, gather}
 use Rattle.model.specs.Survey.{Graph, neighboursOf, IsSurvey}
 use Rattle.model.specs.Reading.{startsOf, neighboursFrom}
 use Rattle.model.proofs.Lists.{gather-append, gather-same, upTo-suc, from-split, of-upTo}

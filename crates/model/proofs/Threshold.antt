@@ -1,11 +1,10 @@
 -- The search for the threshold finds it: the rule holds, and holds for no smaller number.
 -- Assumes nothing.
-use mathlib.Core.Path.{_≡_}
-use Prim.Native.Nat.{ℕ, zero, suc, _+_, _*_, _^_, _≤_, _<_, zero-le, suc-le-suc}
-use native.Mathlib.Nat.{le-refl, mul-one, le-trans, le-mul-of-pos-right, zero-lt-suc, pow-suc, two-pow-succ, one-le-pow}
+use Prim.Native.Nat.{ℕ, zero, suc, _+_, _*_, _^_, _≤_, _<_, zero-le}
+use native.Mathlib.Nat.{le-refl, le-mul-of-pos-right, zero-lt-suc, two-pow-succ}
 use native.Mathlib.Omega.{arith}
-use lib.Dec.{T, ltb, leb, leb→le, le→leb, ltb→lt, lt→ltb}
-use Rattle.model.specs.Basics.{none, upTo, firstOf}
+use lib.Dec.{ltb, leb, leb→le, le→leb, ltb→lt, lt→ltb}
+use Rattle.model.specs.Basics.{none}
 use Rattle.model.specs.Threshold.{bitLength, threshold}
 use Rattle.model.proofs.Lists.{First, found, nothing, first-below}
 

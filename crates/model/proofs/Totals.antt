@@ -1,18 +1,17 @@
 -- The neighbours of all nodes are two for each link.
 -- Assumes nothing.
 use mathlib.Core.Path.{_≡_, refl, sym, ap, ap₂, _∙_, subst, fun-ext}
-use mathlib.Core.Logic.{_⊎_, inl, inr, ⊎-elim}
+use mathlib.Core.Logic.{⊎-elim}
 use mathlib.Core.Bool.{Bool, true, false, _&&_, _||_, or-false, or-comm, or-assoc}
-use mathlib.Core.List.{List, [], _∷_, _++_}
+use mathlib.Core.List.{List, [], _∷_}
 use Prim.Native.Nat.{ℕ, zero, suc, _+_, _*_, _≤_, _<_, zero-le}
 use native.Mathlib.Nat.{zero-add}
 use native.Mathlib.Omega.{arith}
 use lib.Dec.{T, eqb, eqb→eq}
 use lib.ListN.{length, length-append}
-use Rattle.model.specs.Basics.{if_then_else_, from, upTo, has, keep, gather}
-use Rattle.model.specs.Survey.{Graph}
+use Rattle.model.specs.Basics.{if_then_else_, from, upTo, keep, gather}
 use Rattle.model.specs.Reading.{named, graphOf}
-use Rattle.model.proofs.Tests.{and-l, and-r, and-i, or-l, or-r, or-e, eq-T, eq-or, no-false, false-no, T-true, same-test, isnt, is}
+use Rattle.model.proofs.Tests.{and-l, and-r, or-e, false-no, isnt, is}
 use Rattle.model.proofs.Links.{Fresh, AllFresh}
 use Rattle.model.proofs.SurveyLists.{total}
 

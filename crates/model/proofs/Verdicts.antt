@@ -1,25 +1,24 @@
 -- What the verdicts of the two-or-four test mean. Holds for every threshold s.
 -- Assumes nothing.
-use mathlib.Core.Path.{_≡_, refl, sym, ap, _∙_, subst}
+use mathlib.Core.Path.{_≡_, refl, sym, subst}
 use mathlib.Core.Logic.{_⊎_, inl, inr}
 use mathlib.Core.Bool.{Bool, true, false, not}
-use mathlib.Core.List.{List, [], _∷_}
-use Prim.Native.Nat.{ℕ, zero, suc, _+_, _≤_, _<_, zero-le, suc-le-suc}
-use native.Mathlib.Nat.{le-refl, le-trans}
+use mathlib.Core.List.{List}
+use Prim.Native.Nat.{ℕ, suc, _+_, _≤_, _<_, zero-le, suc-le-suc}
+use native.Mathlib.Nat.{le-trans}
 use native.Mathlib.Omega.{arith}
 use borrow.Author.Tests.{ltb-false, eqb-false}
-use lib.Dec.{T, eqb, ltb, leb, eqb→eq, ltb→lt}
-use lib.ListN.{length}
+use lib.Dec.{T, eqb, ltb, eqb→eq, ltb→lt}
 use Rattle.model.specs.declared.Verdict.{Verdict}
 use Rattle.model.specs.declared.Verdict.the-variants.{Parted, Long, Short}
-use Rattle.model.specs.Basics.{none, if_then_else_, has, any, upTo, firstOf}
-use Rattle.model.specs.Graph.{Edges, Chain, Apart, here, link, Fewest, fewest}
+use Rattle.model.specs.Basics.{none, if_then_else_, has, any, upTo}
+use Rattle.model.specs.Graph.{Edges, Chain, Apart, link, Fewest, fewest}
 use Rattle.model.specs.Survey.{Graph, linked, IsGraph}
 use Rattle.model.specs.Hubs.{isHigh, isLow, closed, hubs}
 use Rattle.model.specs.TwoOrFour.{sources, verdictOf, tested}
 use Rattle.model.specs.Demand.{VerdictRight}
 use Rattle.model.proofs.Lists.{has-head, has-tail, of-cons, any-of, of-any, has-upTo, of-upTo, First, found, nothing, first-below}
-use Rattle.model.proofs.Chains.{append, turn, split-first, inside, fewest-is, fewest-none, fewest-cases}
+use Rattle.model.proofs.Chains.{append, turn, split-first, fewest-is, fewest-none}
 use Rattle.model.proofs.Acceptance.{linked-of, linked-has, linked-sym, linked-ends}
 use Rattle.model.proofs.Covering.{hubs-cover, hubs-below}
 

@@ -3,21 +3,20 @@
 -- Assumes nothing.
 use mathlib.Core.Path.{_≡_, refl, sym, ap, _∙_, subst}
 use mathlib.Core.Logic.{_⊎_, inl, inr}
-use mathlib.Core.Bool.{Bool, true, false, not, _&&_, _||_}
+use mathlib.Core.Bool.{Bool, true, false, not, _&&_}
 use mathlib.Core.List.{List, [], _∷_, _++_, reverse, tail, reverse-cons}
 use mathlib.Core.Option.{Option, none as missing, some}
-use Prim.Native.Nat.{ℕ, zero, suc, _+_, _-_, _*_, _≤_, _<_, zero-le, suc-le-suc}
-use native.Mathlib.Nat.{le-refl, le-trans, sub-zero}
+use Prim.Native.Nat.{ℕ, zero, suc, _+_, _-_, _≤_, _<_, zero-le}
+use native.Mathlib.Nat.{sub-zero}
 use native.Mathlib.Omega.{arith}
 use borrow.Author.Tests.{ltb-false}
-use lib.Dec.{T, eqb, ltb, leb, eqb→eq, ltb→lt, lt→ltb}
+use lib.Dec.{T, eqb, ltb, eqb→eq, ltb→lt, lt→ltb}
 use lib.ListN.{length, replicate, length-append, length-reverse}
-use Rattle.model.specs.declared.Route.{Route}
 use Rattle.model.specs.declared.Route.the-variants.{Itself, Low, Through, NoRoute}
 use Rattle.model.specs.declared.Answer.{Answer}
 use Rattle.model.specs.Answers.{Outcome, refused, answered}
 use Rattle.model.specs.Basics.{none, if_then_else_, has, keep, upTo, firstOf}
-use Rattle.model.specs.Graph.{Edges, Chain, here, link, Fewest, Walked, stop, go, fewest}
+use Rattle.model.specs.Graph.{Edges, link, Walked, stop, go}
 use Rattle.model.specs.Survey.{Graph, linked, IsGraph}
 use Rattle.model.specs.Hubs.{isLow, hubs}
 use Rattle.model.specs.Tables.{entry, via}
@@ -25,7 +24,7 @@ use Rattle.model.specs.Pair.{answer, attaining, choose, pairBy}
 use Rattle.model.specs.Walk.{before, next, steps, byLow, toHub, join, nodes}
 use Rattle.model.specs.Walking.{Walking, refuseWalk, fit, walkOf}
 use Rattle.model.proofs.Tests.{and-l, and-r, and-i, is, isnt, eq-T}
-use Rattle.model.proofs.Lists.{has-head, has-upTo, first-in, first-below, First, found, nothing, keep-grows, keep-length, length-upTo}
+use Rattle.model.proofs.Lists.{has-upTo, first-in, first-below, First, found, nothing, keep-grows, keep-length, length-upTo}
 use Rattle.model.proofs.Acceptance.{linked-of, linked-sym}
 use Rattle.model.proofs.Allowance.{Sum, whole, part, sum-is}
 

@@ -4,14 +4,14 @@
 use mathlib.Core.Path.{_≡_}
 use mathlib.Core.Logic.{_⊎_, _↔_}
 use mathlib.Core.List.{List}
-use Prim.Native.Nat.{ℕ, suc, _+_, _≤_, _<_}
+use Prim.Native.Nat.{ℕ, _+_, _≤_, _<_}
 use lib.ListN.{length, take}
 use Rattle.model.specs.declared.Answer.{Answer}
 use Rattle.model.specs.declared.Verdict.{Verdict}
 use Rattle.model.specs.declared.Verdict.the-variants.{Parted, Long, Short}
 use Rattle.model.specs.Answers.{Outcome, answered}
 use Rattle.model.specs.Basics.{none}
-use Rattle.model.specs.Graph.{Edges, Chain, Apart, Fewest, Walked}
+use Rattle.model.specs.Graph.{Edges, Apart, Fewest, Walked}
 use Rattle.model.specs.declared.Size.{Size}
 use Rattle.model.specs.SurveyText.{surveyText}
 use Rattle.model.specs.Survey.{neighboursOf, linked, Accepted}

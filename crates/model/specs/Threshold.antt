@@ -2,7 +2,9 @@
 -- Assumes nothing.
 use Prim.Native.Nat.{ℕ, _+_, _*_, _^_}
 use lib.Dec.{ltb, leb}
-use Rattle.model.specs.Basics.{none, upTo, firstOf}
+use Rattle.model.specs.Answers.{Outcome, refused, answered}
+use Rattle.model.specs.Basics.{none, if_then_else_, upTo, firstOf}
+use Rattle.model.specs.Survey.{badSize}
 
 -- "Let L(n) be the count of binary digits of n.": the smallest k with n below 2 ^ k
 unfoldable pub bitLength : ℕ → ℕ
@@ -11,3 +13,7 @@ bitLength n = firstOf (λ k. ltb n (2 ^ k)) none (upTo (n + 1))
 -- "The threshold s(n) is the smallest whole s with s × s at least n × L(n)."
 unfoldable pub threshold : ℕ → ℕ
 threshold n = let w = n * bitLength n in firstOf (λ s. leb w (s * s)) none (upTo (w + 1))
+
+-- "It is read from a stored table with one entry for each n from 1 to 1,024."; 2 for any other n
+unfoldable pub thresholdAnswer : ℕ → Outcome ℕ
+thresholdAnswer n = if badSize n then refused 2 else answered (threshold n)

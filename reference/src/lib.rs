@@ -1,0 +1,18 @@
+//! Reference implementation of document 01, written for comparison:
+//! every rule is carried out by the most direct means.
+
+mod answers;
+mod listing;
+mod survey;
+mod tables;
+mod text;
+mod verdict;
+
+pub use answers::{ask, walk, Answer, Route};
+pub use listing::reports;
+pub use tables::{build, threshold};
+pub use text::{read, write};
+pub use verdict::{test, Tested, Verdict};
+
+/// The table entry that means "none".
+pub const NONE: u16 = 65535;

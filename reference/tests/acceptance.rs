@@ -1,0 +1,404 @@
+//! Acceptance of lists: refusal numbers, their order, and what is altered.
+
+mod common;
+
+use common::{Built, Random, Sample, COURSE};
+use reference::{ask, build, test, walk, write, Route, NONE};
+
+/// The refusals of build, walk, test and write for these lists, with
+/// everything else long enough. 0 stands for success. Checks that refused
+/// operations leave their lists as document 01 says.
+fn refusals(n: usize, starts: &[u32], neighbours: &[u16]) -> [u8; 4] {
+    let mut tables = vec![vec![5u16; 2000]; 3];
+    let mut hubs = vec![5u16; 40];
+    let [full, low, report] = &mut tables[..] else {
+        unreachable!()
+    };
+    let built = build(n, starts, neighbours, full, low, report, &mut hubs);
+    if built.is_err() {
+        assert!(tables
+            .iter()
+            .flatten()
+            .chain(&hubs)
+            .all(|&entry| entry == 5));
+        // A report of none for every pair, so that a walk is not refused 11.
+        tables[2].fill(NONE);
+    }
+    let mut list = [5; 10];
+    let [full, low, report] = &tables[..] else {
+        unreachable!()
+    };
+    let walked = walk(n, starts, neighbours, full, low, report, 0, 1, &mut list);
+    if walked.is_err() {
+        assert_eq!(list, [NONE; 10]);
+    }
+    let tested = test(n, starts, neighbours);
+    let mut buffer = [5; 200];
+    let written = write(n, starts, neighbours, &mut buffer);
+    if written.is_err() {
+        assert_eq!(buffer, [5; 200]);
+    }
+    [
+        built.err().unwrap_or(0),
+        walked.err().unwrap_or(0),
+        tested.err().unwrap_or(0),
+        written.err().unwrap_or(0),
+    ]
+}
+
+#[track_caller]
+fn check(refusal: u8, n: usize, starts: &[u32], neighbours: &[u16]) {
+    assert_eq!(refusals(n, starts, neighbours), [refusal; 4]);
+}
+
+/// The path 0-1-2.
+const STARTS: [u32; 4] = [0, 1, 3, 4];
+const NEIGHBOURS: [u16; 4] = [1, 0, 2, 1];
+
+#[test]
+fn accepted() {
+    check(0, 3, &STARTS, &NEIGHBOURS);
+    check(0, 3, &[0, 1, 3, 4, 0, 77], &NEIGHBOURS);
+    check(0, 3, &STARTS, &[1, 0, 2, 1, 1, 9, 65535]);
+    check(0, 3, &[0, 0, 0, 0], &[]);
+    check(0, 3, &[0, 0, 0, 0], &[7, 7]);
+    check(0, 2, &[0, 1, 2], &[1, 0]);
+    let (starts, neighbours) = common::blocks(20, 1).lists();
+    assert_eq!(refusals(20, &starts, &neighbours)[..3], [0; 3]);
+}
+
+#[test]
+fn node_count() {
+    for n in [0, 1025, 65536, 1 << 32, usize::MAX / 2, usize::MAX] {
+        check(2, n, &STARTS, &NEIGHBOURS);
+        check(2, n, &[], &[]);
+    }
+}
+
+#[test]
+fn starts_too_short() {
+    check(8, 3, &[0, 1, 3], &NEIGHBOURS);
+    check(8, 3, &[], &NEIGHBOURS);
+    check(8, 3, &[9, 1, 3], &[]);
+    check(8, 1024, &[0; 1024], &[]);
+    check(8, 1024, &[], &[]);
+}
+
+#[test]
+fn starts_not_a_survey() {
+    // Falling.
+    check(9, 3, &[0, 3, 1, 4], &NEIGHBOURS);
+    check(9, 3, &[0, 1, 5, 4], &NEIGHBOURS);
+    check(9, 3, &[0, u32::MAX, 3, 4], &NEIGHBOURS);
+    // The first is not 0.
+    check(9, 3, &[1, 1, 3, 4], &NEIGHBOURS);
+    check(9, 3, &[2, 2, 2, 2], &NEIGHBOURS);
+    check(9, 3, &[4, 4, 4, 4], &NEIGHBOURS);
+    // The last is odd.
+    check(9, 3, &[0, 1, 3, 3], &NEIGHBOURS);
+    check(9, 3, &[0, 0, 0, 1], &NEIGHBOURS);
+    check(9, 1, &[0, 1], &[0, 0]);
+    // The neighbour list is shorter than the last start.
+    check(9, 3, &STARTS, &NEIGHBOURS[..3]);
+    check(9, 3, &STARTS, &[]);
+    check(9, 3, &[0, 0, 0, u32::MAX], &NEIGHBOURS);
+    check(9, 3, &[0, 0, 0, u32::MAX - 1], &NEIGHBOURS);
+}
+
+#[test]
+fn neighbours_not_a_survey() {
+    // A node of n or more.
+    check(9, 3, &STARTS, &[1, 0, 3, 1]);
+    check(9, 3, &STARTS, &[1, 0, 65535, 1]);
+    check(9, 2, &[0, 1, 2], &[1, 2]);
+    check(9, 1, &[0, 2], &[1, 2]);
+    // A node at itself.
+    check(9, 3, &[0, 0, 2, 2], &[0, 1]);
+    check(9, 3, &[0, 2, 3, 4], &[0, 1, 0, 2]);
+    check(9, 2, &[0, 1, 2], &[0, 1]);
+    // Unsorted.
+    check(9, 3, &STARTS, &[1, 2, 0, 1]);
+    check(9, 3, &[0, 2, 4, 6], &[2, 1, 0, 2, 0, 1]);
+    // Repeated.
+    check(9, 2, &[0, 2, 4], &[1, 1, 0, 0]);
+    check(9, 3, &[0, 2, 4, 4], &[1, 1, 0, 0]);
+    // One-sided.
+    check(9, 3, &[0, 1, 2, 2], &[1, 2]);
+    check(9, 3, &[0, 2, 2, 2], &[1, 2]);
+    check(9, 4, &[0, 1, 1, 2, 2], &[1, 3]);
+    check(9, 3, &[0, 2, 3, 4], &[1, 2, 2, 0]);
+}
+
+/// The refusals of build, walk, test and write for a larger graph. Checks
+/// that a refused build alters nothing.
+fn larger_refusals(sample: &Sample) -> [u8; 4] {
+    let n = sample.n;
+    let (starts, neighbours) = sample.lists();
+    let [mut full, mut low, mut report] = [(); 3].map(|()| vec![5; n * n]);
+    let mut hubs = vec![5; n];
+    let built = build(
+        n,
+        &starts,
+        &neighbours,
+        &mut full,
+        &mut low,
+        &mut report,
+        &mut hubs,
+    );
+    if built.is_err() {
+        let lists = [&full, &low, &report, &hubs];
+        assert!(lists.into_iter().flatten().all(|&entry| entry == 5));
+    }
+    report.fill(NONE);
+    let walked = walk(n, &starts, &neighbours, &full, &low, &report, 0, 1, &mut []);
+    let tested = test(n, &starts, &neighbours);
+    let written = write(n, &starts, &neighbours, &mut vec![5; 300_000]);
+    [
+        built.err().unwrap_or(0),
+        walked.err().unwrap_or(0),
+        tested.err().unwrap_or(0),
+        written.err().unwrap_or(0),
+    ]
+}
+
+/// More than 16,384 links in lists that are otherwise a survey's.
+#[test]
+fn too_many_links() {
+    // 182 nodes, all linked, are 16,471 links; 181 nodes are 16,290.
+    assert_eq!(larger_refusals(&common::blocks(181, 1)), [0; 4]);
+    assert_eq!(larger_refusals(&common::blocks(182, 1)), [9; 4]);
+    // Node 181 has 94 links more: exactly 16,384, and then one more.
+    let mut sample = Sample::new("most links", 300);
+    for (a, b) in common::blocks(181, 1).links() {
+        sample.link(a, b);
+    }
+    for b in 0..94 {
+        sample.link(181, b);
+    }
+    assert_eq!(sample.links().len(), 16384);
+    assert_eq!(larger_refusals(&sample), [0; 4]);
+    sample.link(181, 94);
+    assert_eq!(larger_refusals(&sample), [9; 4]);
+}
+
+/// The refusal of a build of the path 0-1-2 with lists of these lengths.
+fn build_with_lengths(starts: &[u32], lengths: [usize; 4]) -> u8 {
+    let [mut full, mut low, mut report, mut hubs] = lengths.map(|length| vec![5u16; length]);
+    let built = build(
+        3,
+        starts,
+        &NEIGHBOURS,
+        &mut full,
+        &mut low,
+        &mut report,
+        &mut hubs,
+    );
+    if built.is_err() {
+        let lists = [&full, &low, &report, &hubs];
+        assert!(lists.into_iter().flatten().all(|&entry| entry == 5));
+    }
+    built.err().unwrap_or(0)
+}
+
+#[test]
+fn build_refusal_order() {
+    let broken = [0, 3, 1, 4];
+    assert_eq!(build_with_lengths(&STARTS, [9, 9, 9, 3]), 0);
+    for place in 0..4 {
+        let mut lengths = [9, 9, 9, 3];
+        lengths[place] -= 1;
+        assert_eq!(build_with_lengths(&STARTS, lengths), 8);
+        assert_eq!(build_with_lengths(&broken, lengths), 8);
+    }
+    assert_eq!(build_with_lengths(&broken, [9, 9, 9, 3]), 9);
+    assert_eq!(build_with_lengths(&broken[..3], [9, 9, 9, 3]), 8);
+    assert_eq!(build_with_lengths(&STARTS, [0; 4]), 8);
+    let nothing: &mut [u16] = &mut [];
+    assert_eq!(
+        build(0, &[], &[], nothing, &mut [], &mut [], &mut []),
+        Err(2)
+    );
+    assert_eq!(
+        build(usize::MAX, &[], &[], nothing, &mut [], &mut [], &mut []),
+        Err(2)
+    );
+}
+
+#[test]
+fn build_keeps_further_entries() {
+    let exact = Built::of_text(COURSE);
+    let (starts, neighbours) = (&exact.starts, &exact.neighbours);
+    let [mut full, mut low, mut report, mut hubs] =
+        [36, 36, 36, 6].map(|size| vec![5u16; size + 4]);
+    let built = build(
+        6,
+        starts,
+        neighbours,
+        &mut full,
+        &mut low,
+        &mut report,
+        &mut hubs,
+    );
+    assert_eq!(built, Ok(1));
+    assert_eq!(full, [&exact.full[..], &[5; 4]].concat());
+    assert_eq!(low, [&exact.low[..], &[5; 4]].concat());
+    assert_eq!(report, [&exact.report[..], &[5; 4]].concat());
+    assert_eq!(hubs, [&exact.hubs[..], &[5; 4]].concat());
+    // Asking takes longer tables too.
+    let asked = ask(6, &full, &low, &report, 1, 3);
+    assert_eq!(asked, exact.ask(1, 3));
+}
+
+#[test]
+fn ask_refusal_order() {
+    let built = Built::of_text(COURSE);
+    let (full, low, report) = (&built.full, &built.low, &built.report);
+    for n in [0, 1025, usize::MAX] {
+        assert_eq!(ask(n, &[], &[], &[], 9, 9), Err(2));
+    }
+    assert_eq!(ask(6, &full[1..], low, report, 9, 9), Err(8));
+    assert_eq!(ask(6, full, &low[1..], report, 9, 9), Err(8));
+    assert_eq!(ask(6, full, low, &report[1..], 9, 9), Err(8));
+    assert_eq!(ask(1024, full, low, report, 0, 0), Err(8));
+    for (a, b) in [
+        (6, 0),
+        (0, 6),
+        (6, 6),
+        (usize::MAX, 0),
+        (0, usize::MAX),
+        (65536, 65536),
+    ] {
+        assert_eq!(ask(6, full, low, report, a, b), Err(10));
+    }
+    let ones = vec![1; 36];
+    assert_eq!(ask(6, full, low, &ones, 3, 3), Err(11));
+    assert_eq!(ask(6, full, low, &ones, 1, 3), Err(11));
+}
+
+/// The refusal of a walk; the list must be all none when refused.
+fn walk_refusal(built: &Built, a: usize, b: usize, length: usize) -> u8 {
+    let mut list = vec![5; length];
+    let walked = built.walk(a, b, &mut list);
+    if walked.is_err() || walked.unwrap().route == Route::NoRoute {
+        assert_eq!(list, vec![NONE; length]);
+    }
+    walked.err().unwrap_or(0)
+}
+
+#[test]
+fn walk_refusal_order() {
+    // From the last refusal to the first, each on top of the ones before.
+    let mut built = Built::of_text(COURSE);
+    assert_eq!(walk_refusal(&built, 1, 3, 5), 0);
+    assert_eq!(walk_refusal(&built, 1, 3, 4), 8);
+    assert_eq!(walk_refusal(&built, 5, 5, 1), 0);
+    assert_eq!(walk_refusal(&built, 5, 5, 0), 8);
+    built.report[6 + 3] = 3;
+    assert_eq!(walk_refusal(&built, 1, 3, 2), 11);
+    assert_eq!(walk_refusal(&built, 6, 3, 2), 10);
+    assert_eq!(walk_refusal(&built, 1, usize::MAX, 2), 10);
+    built.neighbours[0] = 0;
+    assert_eq!(walk_refusal(&built, 6, 3, 2), 9);
+    for place in 0..4 {
+        let mut shorter = built.clone();
+        match place {
+            0 => shorter.full.truncate(35),
+            1 => shorter.low.truncate(35),
+            2 => shorter.report.truncate(35),
+            _ => shorter.starts.truncate(6),
+        }
+        assert_eq!(walk_refusal(&shorter, 6, 3, 2), 8);
+        shorter.n = 0;
+        assert_eq!(walk_refusal(&shorter, 6, 3, 2), 2);
+        shorter.n = usize::MAX;
+        assert_eq!(walk_refusal(&shorter, 6, 3, 2), 2);
+    }
+}
+
+#[test]
+fn write_refusal_order() {
+    let text = "S,3,2\nL,0,1\nL,1,2\n";
+    let mut buffer = [5; 40];
+    let written = |starts: &[u32], buffer: &mut [u8]| write(3, starts, &NEIGHBOURS, buffer);
+    assert_eq!(written(&STARTS, &mut buffer[..text.len()]), Ok(text.len()));
+    assert_eq!(&buffer[..text.len()], text.as_bytes());
+    assert!(buffer[text.len()..].iter().all(|&byte| byte == 5));
+    for length in 0..text.len() {
+        let mut short = vec![5; length];
+        assert_eq!(written(&STARTS, &mut short), Err(12));
+        assert_eq!(short, vec![5; length]);
+    }
+    assert_eq!(written(&[0, 3, 1, 4], &mut []), Err(9));
+    assert_eq!(written(&STARTS[..3], &mut []), Err(8));
+    assert_eq!(write(0, &[], &[], &mut []), Err(2));
+}
+
+fn random_list(random: &mut Random, length: usize, limit: usize) -> Vec<u16> {
+    (0..length).map(|_| random.below(limit) as u16).collect()
+}
+
+/// A list of starts, often one that is never falling from 0.
+fn random_starts(random: &mut Random, limit: usize) -> Vec<u32> {
+    let length = random.below(9);
+    let mut starts = random_list(random, length, limit);
+    if random.percent(80) {
+        starts.push(0);
+        starts.sort();
+    }
+    starts.into_iter().map(u32::from).collect()
+}
+
+/// Calls every operation with random lists; whether the lists are accepted.
+fn check_random_call(random: &mut Random, n: usize, limit: usize) -> bool {
+    let starts = random_starts(random, limit);
+    let neighbours = random_list(random, 8, limit);
+    let [mut full, mut low, mut report, mut hubs] =
+        [26, 25, 26, 6].map(|length| random_list(random, length, limit));
+    let (a, b) = (random.below(6), random.below(6));
+    let asked = ask(n, &full, &low, &report, a, b);
+    let mut nodes = vec![5; random.below(9)];
+    let walked = walk(
+        n,
+        &starts,
+        &neighbours,
+        &full,
+        &low,
+        &report,
+        a,
+        b,
+        &mut nodes,
+    );
+    assert!(walked.is_ok() || nodes.iter().all(|&entry| entry == NONE));
+    assert!(walked.is_err() || walked == asked);
+    let old = [full.clone(), low.clone(), report.clone(), hubs.clone()];
+    let built = build(
+        n,
+        &starts,
+        &neighbours,
+        &mut full,
+        &mut low,
+        &mut report,
+        &mut hubs,
+    );
+    assert!(built.is_ok() || [full, low, report, hubs] == old);
+    assert_eq!(test(n, &starts, &neighbours).is_ok(), built.is_ok());
+    let mut buffer = [5; 99];
+    let written = write(n, &starts, &neighbours, &mut buffer);
+    assert_eq!(written.is_ok(), built.is_ok());
+    assert!(written.is_ok() || buffer == [5; 99]);
+    built.is_ok()
+}
+
+/// Any arguments at all: nothing panics, refused lists are as stated.
+#[test]
+fn random_arguments() {
+    let mut random = Random::new(15);
+    let mut accepted = 0;
+    for _ in 0..20_000 {
+        let n = [0, 1, 2, 3, 4, 5, 1024, 1025, usize::MAX][random.below(9)];
+        let limit = [2, 3, 5, 65536][random.below(4)];
+        accepted += usize::from(check_random_call(&mut random, n, limit));
+    }
+    println!("{accepted} accepted");
+    assert!(accepted > 100);
+}
