@@ -27,6 +27,7 @@ use Rattle.model.specs.Asking.{asking}
 use Rattle.model.specs.Walking.{Walking, refuseWalk, walkOf, walking}
 use Rattle.model.specs.Testing.{testing}
 use Rattle.model.specs.Demand.{Allowed, AllowedAnswer, WalkSound, WalkAnswers, VerdictRight}
+use Rattle.model.proofs.Outcomes.{never}
 use Rattle.model.proofs.Tests.{or-false, of-or-false, picked}
 use Rattle.model.proofs.Acceptance.{survey-test, survey-facts, good-size}
 use Rattle.model.proofs.Entries.{front-length, length-table}
@@ -43,9 +44,6 @@ passed false t = absurd t
 not-refused : (b : Bool) → not b ≡ false → T b
 not-refused true e = tt
 not-refused false e = subst T e tt
-
-never : {A B : Type 0} {k : ℕ} {x : A} → refused k ≡ answered x → B
-never {k = k} {x = x} e = let z : _≡_ {A = ℕ} 0 1 = cc in absurd (omega arith)
 
 -- ---- lists that tables were built into have room for them
 

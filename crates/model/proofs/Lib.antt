@@ -1,6 +1,8 @@
+-- Theorems about the definitions, and the laws that they rest on.
 pub mod Tests
 pub mod Lists
 pub mod Ascending
+pub mod Outcomes
 pub mod Chains
 pub mod Threshold
 pub mod Acceptance

@@ -14,6 +14,7 @@ use Rattle.model.specs.Answers.{Outcome, refused, answered}
 use Rattle.model.specs.Basics.{if_then_else_, gather}
 use Rattle.model.specs.SurveyText.{line, lineOf, linkLines, surveyText}
 use Rattle.model.specs.Reading.{named, onLinks, readLink, readLinks, Parsed, parsed, parseFirst, parse}
+use Rattle.model.proofs.Outcomes.{never}
 use Rattle.model.proofs.Tests.{or-false, of-or-false, isnt}
 use Rattle.model.proofs.Lines.{line-complete, IsLine, line-sound}
 
@@ -28,9 +29,6 @@ pub record Fresh (n : ℕ) (done : List (ℕ × ℕ)) (l : ℕ × ℕ) : Type 0 
 abbrev pub AllFresh : ℕ → List (ℕ × ℕ) → List (ℕ × ℕ) → Type 0
 AllFresh n done [] = Unit {0}
 AllFresh n done (l ∷ ls) = Fresh n done l × AllFresh n (l ∷ done) ls
-
-never : {A B : Type 0} {k : ℕ} {x : A} → refused k ≡ answered x → B
-never {k = k} {x = x} e = let z : _≡_ {A = ℕ} 0 1 = cc in absurd (omega arith)
 
 -- ---- one line
 
