@@ -15,7 +15,7 @@ use Rattle.model.specs.declared.Asking.the-variants as asking
 use Rattle.model.specs.declared.Testing.{Testing}
 use Rattle.model.specs.declared.Testing.the-variants as testing
 
--- a refusal with its number, or the answer's value
+-- a refusal with its number (an error code), or the answer's value
 pub data Outcome (A : Type 0) : Type 0 where
   refused : ℕ → Outcome A
   answered : A → Outcome A

@@ -12,7 +12,7 @@ use Rattle.model.specs.Basics.{if_then_else_, upTo, keep, gather, over}
 use Rattle.model.specs.SurveyText.{line}
 use Rattle.model.specs.Survey.{Graph}
 
--- the link is one of these, either way round
+-- "Links may come in any order, ends either way round.": the link is one of these
 unfoldable pub named : List (ℕ × ℕ) → ℕ → ℕ → Bool
 named [] a b = false
 named (l ∷ ls) a b = eqb (l .0) a && eqb (l .1) b || eqb (l .0) b && eqb (l .1) a || named ls a b
@@ -67,7 +67,7 @@ parseFirst mostNodes mostLinks p q (some f) =
 unfoldable pub parse : (mostNodes mostLinks p q : ℕ) → List ℕ → Outcome Parsed
 parse mostNodes mostLinks p q text = parseFirst mostNodes mostLinks p q (line 83 text)
 
--- "A read survey is two lists.": those of n nodes with these links
+-- the two lists of n nodes with these links
 unfoldable pub graphOf : ℕ → List (ℕ × ℕ) → Graph
 graphOf n ls v = keep (named ls v) (upTo n)
 

@@ -1,4 +1,4 @@
--- A survey as two lists: a graph's adjacency lists, end to end (compressed sparse rows).
+-- "A read survey is two lists.": a graph's adjacency lists, end to end (compressed sparse rows).
 -- Assumes nothing.
 use mathlib.Core.Bool.{Bool, true, not, _&&_, _||_}
 use mathlib.Core.List.{List, [], _∷_}
@@ -26,7 +26,8 @@ ascending [] = true
 ascending (x ∷ []) = true
 ascending (x ∷ y ∷ ys) = ltb x y && ascending (y ∷ ys)
 
--- the lists are a survey's as described, with at most 16,384 links; the last start is 2m, so it is even
+-- "`starts` .. has n + 1 entries, the first 0, never falling, the last 2m. `neighbours` .. has 2m entries; .. strictly ascending, never
+-- v, and b stands at a exactly when a stands at b.", with m at most 16,384. The last start is even, since it is 2m
 unfoldable pub isSurvey : ℕ → List ℕ → List ℕ → Bool
 isSurvey n starts neighbours =
     let G : Graph = neighboursOf starts neighbours in

@@ -40,7 +40,7 @@ unfoldable pub via : ℕ → List ℕ → ℕ → ℕ → ℕ → ℕ
 via n full a b h = sum (entry n full h a) (entry n full h b)
 
 -- "0 where a = b. Otherwise the least of Low(a, b) and, over all hubs h, Full(h, a) + Full(h, b), leaving out candidates with a
--- none; none if nothing is left." (None is above every sum.)
+-- none; none if nothing is left." "Linked nodes get no special case." (None is above every sum.)
 unfoldable pub reportTable : ℕ → ℕ → Graph → List ℕ
 reportTable n s G =
     let full = fullTable n s G in

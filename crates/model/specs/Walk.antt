@@ -1,4 +1,4 @@
--- The nodes of a walk, by a route.
+-- "A walk lists report + 1 nodes." "A walk may visit a node twice." (it is no path). The nodes of a walk, by a route.
 -- Assumes nothing.
 use mathlib.Core.Bool.{Bool, true, _&&_}
 use mathlib.Core.List.{List, [], _∷_, _++_, reverse, tail}
