@@ -3,15 +3,16 @@
 use mathlib.Core.Path.{_≡_, refl, sym, ap, _∙_, subst}
 use mathlib.Core.Logic.{_⊎_, inl, inr}
 use mathlib.Core.Bool.{Bool, true, false}
-use mathlib.Core.List.{List, [], _∷_}
-use Prim.Native.Nat.{ℕ, zero, suc, _+_, _≤_, _<_, zero-le}
-use native.Mathlib.Nat.{lt-trans}
+use mathlib.Core.List.{List, [], _∷_, _++_}
+use Prim.Native.Nat.{ℕ, zero, suc, _+_, _≤_, _<_, zero-le, suc-le-suc}
+use native.Mathlib.Nat.{lt-trans, le-of-suc-le-suc}
 use native.Mathlib.Omega.{arith}
 use lib.Dec.{T, ltb, ltb→lt, lt→ltb}
+use lib.ListN.{length, getD}
 use Rattle.model.specs.Basics.{if_then_else_, from, upTo, has, keep}
 use Rattle.model.specs.Survey.{ascending}
 use Rattle.model.proofs.Tests.{and-l, and-r, and-i, T-true, no-false, eq-or}
-use Rattle.model.proofs.Lists.{has-head, has-tail, of-cons, of-keep, of-from, keep-same, keep-none}
+use Rattle.model.proofs.Lists.{has-head, has-tail, has-later, none-in, of-cons, of-keep, of-from, keep-same, keep-none}
 
 pub ascending-tail : (x : ℕ) (xs : List ℕ) → T (ascending (x ∷ xs)) → T (ascending xs)
 unfolding ascending
@@ -105,3 +106,79 @@ keep-of-ascending p (x ∷ l) t = go (p x) (keep-of-ascending p l (ascending-tai
     go : (b : Bool) → T (ascending (keep p l)) → T (ascending (if b then x ∷ keep p l else keep p l))
     go true s = ascending-cons x (keep p l) (λ y m. ascending-above x l t y (of-keep p l y m .0)) s
     go false s = s
+
+-- ---- where a member stands
+
+pub getD-has : (l : List ℕ) (i : ℕ) → i < length l → T (has (getD l i 0) l)
+getD-has [] i h = absurd (omega arith)
+getD-has (x ∷ l) zero h = has-head x l
+getD-has (x ∷ l) (suc i) h = has-tail (getD l i 0) x l (getD-has l i (le-of-suc-le-suc h))
+
+pub has-getD : (l : List ℕ) (x : ℕ) → T (has x l) → (i : ℕ) × (i < length l) × (getD l i 0 ≡ x)
+has-getD [] x h = absurd (none-in x h)
+has-getD (y ∷ l) x h = go (of-cons x y l h) (λ r. has-getD l x r)
+  where
+    go : (x ≡ y) ⊎ T (has x l) → (T (has x l) → (i : ℕ) × (i < length l) × (getD l i 0 ≡ x)) → (i : ℕ) × (i < length (y ∷ l)) × (getD (y ∷ l) i 0 ≡ x)
+    go (inl e) rec = (0, suc-le-suc zero-le, sym e)
+    go (inr r) rec = let k = rec r in (suc (k .0), suc-le-suc (k .1), k .2)
+
+-- a member of an ascending list stands behind as many entries as are smaller
+pub standing : (l : List ℕ) (v : ℕ) → T (ascending l) → T (has v l)
+    → (length (keep (λ u. ltb u v) l) < length l) × (getD l (length (keep (λ u. ltb u v) l)) 0 ≡ v)
+unfolding keep
+standing [] v t h = absurd (none-in v h)
+standing (x ∷ l) v t h = go (of-cons v x l h) (λ r. standing l v (ascending-tail x l t) r)
+  where
+    go : (v ≡ x) ⊎ T (has v l)
+        → (T (has v l) → (length (keep (λ u. ltb u v) l) < length l) × (getD l (length (keep (λ u. ltb u v) l)) 0 ≡ v))
+        → (length (if ltb x v then x ∷ keep (λ u. ltb u v) l else keep (λ u. ltb u v) l) < suc (length l))
+        × (getD (x ∷ l) (length (if ltb x v then x ∷ keep (λ u. ltb u v) l else keep (λ u. ltb u v) l)) 0 ≡ v)
+    go (inl e) rec =
+        let none : keep (λ u. ltb u v) l ≡ [] = keep-none (λ u. ltb u v) l (λ y m s. let a = ascending-above x l t y m in let b = ltb→lt y v s in omega arith) in
+        let f : ltb x v ≡ false = no-false (ltb x v) (λ s. let b = ltb→lt x v s in omega arith) in
+        rw (f, none) (suc-le-suc zero-le, sym e)
+    go (inr r) rec = let k = rec r in rw (T-true (ltb x v) (lt→ltb x v (ascending-above x l t v r))) (suc-le-suc (k .0), k .1)
+
+-- below v + 1 there is one more than below v where v is a member, and as many where it is not
+pub below-more : (l : List ℕ) (v : ℕ) → T (ascending l) → T (has v l) → length (keep (λ u. ltb u (v + 1)) l) ≡ length (keep (λ u. ltb u v) l) + 1
+unfolding keep
+below-more [] v t h = absurd (none-in v h)
+below-more (x ∷ l) v t h = go (of-cons v x l h) (λ r. below-more l v (ascending-tail x l t) r)
+  where
+    A : List ℕ
+    A = keep (λ u. ltb u (v + 1)) l
+
+    B : List ℕ
+    B = keep (λ u. ltb u v) l
+
+    go : (v ≡ x) ⊎ T (has v l) → (T (has v l) → length A ≡ length B + 1)
+        → length (if ltb x (v + 1) then x ∷ A else A) ≡ length (if ltb x v then x ∷ B else B) + 1
+    go (inl e) rec =
+        let a : A ≡ [] = keep-none (λ u. ltb u (v + 1)) l (λ y m s. let p = ascending-above x l t y m in let q = ltb→lt y (v + 1) s in omega arith) in
+        let b : B ≡ [] = keep-none (λ u. ltb u v) l (λ y m s. let p = ascending-above x l t y m in let q = ltb→lt y v s in omega arith) in
+        rw (T-true (ltb x (v + 1)) (lt→ltb x (v + 1) (omega arith)), no-false (ltb x v) (λ s. let q = ltb→lt x v s in omega arith), a, b) refl
+    go (inr r) rec =
+        let p = ascending-above x l t v r in
+        rw (T-true (ltb x (v + 1)) (lt→ltb x (v + 1) (omega arith)), T-true (ltb x v) (lt→ltb x v p)) (omega (arith, rec r))
+
+pub below-same : (l : List ℕ) (v : ℕ) → (T (has v l) → ⊥) → keep (λ u. ltb u (v + 1)) l ≡ keep (λ u. ltb u v) l
+below-same l v f =
+    keep-same (λ u. ltb u (v + 1)) (λ u. ltb u v) l
+    (λ x m t. lt→ltb x v (less x m (ltb→lt x (v + 1) t))) (λ x m t. lt→ltb x (v + 1) (let q = ltb→lt x v t in omega arith))
+  where
+    less : (x : ℕ) → T (has x l) → x < v + 1 → x < v
+    less x m h = let d : x ≡ v → ⊥ = λ e. f (subst (λ (z : ℕ). T (has z l)) e m) in omega arith
+
+-- the entries before one of an ascending list are less
+pub ascending-front : (k : List ℕ) (x : ℕ) (l : List ℕ) → T (ascending (k ++ x ∷ l)) → (y : ℕ) → T (has y k) → y < x
+ascending-front [] x l t y h = absurd (none-in y h)
+ascending-front (z ∷ k) x l t y h = go (of-cons y z k h) (λ r. ascending-front k x l (ascending-tail z (k ++ x ∷ l) t) y r)
+  where
+    go : (y ≡ z) ⊎ T (has y k) → (T (has y k) → y < x) → y < x
+    go (inl e) rec = subst (λ (w : ℕ). w < x) (sym e) (ascending-above z (k ++ x ∷ l) t x (has-later x k (x ∷ l) (has-head x l)))
+    go (inr r) rec = rec r
+
+-- and those after it are greater
+pub ascending-back : (k : List ℕ) (x : ℕ) (l : List ℕ) → T (ascending (k ++ x ∷ l)) → (y : ℕ) → T (has y l) → x < y
+ascending-back [] x l t y h = ascending-above x l t y h
+ascending-back (z ∷ k) x l t y h = ascending-back k x l (ascending-tail z (k ++ x ∷ l) t) y h

@@ -2,6 +2,7 @@
 pub mod Tests
 pub mod Lists
 pub mod Ascending
+pub mod Loops
 pub mod Outcomes
 pub mod Chains
 pub mod Threshold

@@ -408,3 +408,28 @@ pub gather-map : {A B C : Type 0} (f : B → List C) (g : A → B) (l : List A) 
 unfolding gather
 gather-map f g [] = refl
 gather-map {C = C} f g (x ∷ l) = ap (λ (r : List C). f (g x) ++ r) (gather-map f g l)
+
+pub has-later : (x : ℕ) (k l : List ℕ) → T (has x l) → T (has x (k ++ l))
+has-later x [] l h = h
+has-later x (y ∷ k) l h = has-tail x y (k ++ l) (has-later x k l h)
+
+-- a test that always passes keeps all
+pub keep-all : (p : ℕ → Bool) (l : List ℕ) → ((x : ℕ) → T (has x l) → T (p x)) → keep p l ≡ l
+unfolding keep
+keep-all p [] f = refl
+keep-all p (y ∷ ys) f = go (p y) refl (keep-all p ys (λ x h. f x (has-tail x y ys h)))
+  where
+    go : (b : Bool) → p y ≡ b → keep p ys ≡ ys → (if b then y ∷ keep p ys else keep p ys) ≡ y ∷ ys
+    go true e r = ap (λ (t : List ℕ). y ∷ t) r
+    go false e r = absurd (subst T e (f y (has-head y ys)))
+
+-- what is gathered stands in one of the lists
+pub of-gather : (f : ℕ → List ℕ) (l : List ℕ) (x : ℕ) → T (has x (gather f l)) → (v : ℕ) × T (has v l) × T (has x (f v))
+unfolding gather
+of-gather f [] x h = absurd (none-in x h)
+of-gather f (y ∷ l) x h = go (of-append x (f y) (gather f l) h) (λ r. of-gather f l x r)
+  where
+    go : T (has x (f y)) ⊎ T (has x (gather f l)) → (T (has x (gather f l)) → (v : ℕ) × T (has v l) × T (has x (f v)))
+        → (v : ℕ) × T (has v (y ∷ l)) × T (has x (f v))
+    go (inl r) rec = (y, has-head y l, r)
+    go (inr r) rec = let k = rec r in (k .0, has-tail (k .0) y l (k .1), k .2)

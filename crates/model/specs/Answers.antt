@@ -6,6 +6,8 @@ use Rattle.model.specs.declared.Refusal.the-variants.{Form, NodeCount, L
 use Rattle.model.specs.declared.Size.{Size}
 use Rattle.model.specs.declared.Answer.{Answer}
 use Rattle.model.specs.declared.Tested.{Tested}
+use Rattle.model.specs.declared.Accepting.{Accepting}
+use Rattle.model.specs.declared.Accepting.the-variants as accepting
 use Rattle.model.specs.declared.Reading.{Reading}
 use Rattle.model.specs.declared.Reading.the-variants as reading
 use Rattle.model.specs.declared.Counting.{Counting}
@@ -36,6 +38,10 @@ number NotAttained = 11
 number ShortBuffer = 12
 
 -- what each case of a call's answer stands for
+abbrev pub acceptAnswer : Accepting → Outcome (Unit {0})
+acceptAnswer (accepting.Refused r) = refused (number r)
+acceptAnswer accepting.Accepted = answered tt
+
 abbrev pub readAnswer : Reading → Outcome Size
 readAnswer (reading.Refused r) = refused (number r)
 readAnswer (reading.Read s) = answered s

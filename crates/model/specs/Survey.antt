@@ -6,7 +6,8 @@ use mathlib.Core.Path.{_≡_}
 use Prim.Native.Nat.{ℕ, _+_, _-_, _/_, _%_, _≤_, _<_}
 use lib.Dec.{T, eqb, ltb, leb}
 use lib.ListN.{length, getD, take, drop}
-use Rattle.model.specs.Basics.{upTo, has, all}
+use Rattle.model.specs.Answers.{Outcome, refused, answered}
+use Rattle.model.specs.Basics.{if_then_else_, upTo, has, all}
 
 -- a graph by each node's own neighbours
 abbrev pub Graph : Type 0
@@ -43,6 +44,14 @@ isSurvey n starts neighbours =
 -- refusal 2: n outside 1 to 1,024
 unfoldable pub badSize : ℕ → Bool
 badSize n = ltb n 1 || ltb 1024 n
+
+-- the refusals that all calls over a survey share, in their order: 2, 8 for `starts`, 9
+unfoldable pub accepting : ℕ → List ℕ → List ℕ → Outcome (Unit {0})
+accepting n starts neighbours =
+    if badSize n then refused 2
+    else if ltb (length starts) (n + 1) then refused 8
+    else if not (isSurvey n starts neighbours) then refused 9
+    else answered tt
 
 -- "A survey is accepted if building's 2 and 9, and its 8 for `starts`, don't apply to n and the two lists"
 unfoldable pub accepted : ℕ → List ℕ → List ℕ → Bool

@@ -61,6 +61,12 @@ pub struct Tested {
     pub searches: usize,
 }
 
+// What acceptance of lent lists answers.
+pub enum Accepting {
+    Refused(Refusal),
+    Accepted,
+}
+
 // What reading answers.
 pub enum Reading {
     Refused(Refusal),

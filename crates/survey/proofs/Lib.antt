@@ -1,0 +1,4 @@
+pub mod RowLaws
+pub mod Pass
+pub mod Mirror
+pub mod Judging
