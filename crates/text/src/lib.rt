@@ -1,0 +1,159 @@
+// Texts: numbers and lines, read and written.
+ghost use mathlib.Core.Path.{_≡_};
+ghost use Prim.Native.Nat.{_+_, _≤_, _<_};
+ghost use mathlib.Core.List.{[], _∷_};
+ghost use lib.Dec.{T};
+ghost use lib.ListN.{length, replicate, drop};
+ghost use Rattle.model.specs.Basics.{all};
+ghost use Rattle.model.specs.Numbers.{isDigit, valueOf, digits};
+ghost use Rattle.model.specs.SurveyText.{line, lineOf};
+ghost use Rattle.text.specs.Scan.{run, numberAt, hasByte, found};
+ghost use Rattle.text.specs.Writing.{Wrote};
+
+// A number and the place after it.
+pub enum Number {
+    Value(u64, usize),
+    Malformed,
+}
+
+// The two numbers of a line and the place after its line feed.
+pub enum Line {
+    Pair(u64, u64, usize),
+    Malformed,
+}
+
+// The place after the digits that start at a place.
+fn digits_end(text: &[u8], at: usize) -> usize
+    ensures { λ r. ⌜ r ≡ at + length (run (drop at (now (text .entry)))) ⌝ }
+{
+    let mut i = at;
+    while i < text.len() {
+        let b = text[i];
+        if b < 48 {
+            return i;
+        }
+        if 57 < b {
+            return i;
+        }
+        i += 1;
+    }
+    i
+}
+
+// The number that at most ten digits say.
+fn value(text: &[u8]) -> u64
+    requires { ⌜ (length (now text) ≤ 10) × T (all isDigit (now text)) ⌝ }
+    ensures { λ r. ⌜ r ≡ valueOf (now (text .entry)) ⌝ }
+{
+    let mut v: u64 = 0;
+    let mut i = 0;
+    while i < text.len() {
+        v = v * 10 + (text[i] - 48) as u64;
+        i += 1;
+    }
+    v
+}
+
+// The number at a place: one to ten digits without a leading zero, 0 itself excepted.
+pub fn parse_number(text: &[u8], at: usize) -> Number
+    ensures { λ r. ⌜ r ≡ numberAt (now (text .entry)) at ⌝ }
+{
+    let end = digits_end(text, at);
+    if end == at {
+        return Number::Malformed;
+    }
+    let count = end - at;
+    if 10 < count {
+        return Number::Malformed;
+    }
+    if 1 < count {
+        if text[at] == 48 {
+            return Number::Malformed;
+        }
+    }
+    Number::Value(value(&text[at..end]), end)
+}
+
+// Whether byte b stands at a place.
+pub fn has_byte(text: &[u8], at: usize, b: u8) -> bool
+    ensures { λ r. ⌜ r ≡ hasByte (now (text .entry)) at b ⌝ }
+{
+    if at < text.len() {
+        text[at] == b
+    } else {
+        false
+    }
+}
+
+// The line at a place: the letter, a comma, a number, a comma, a number, a line feed.
+pub fn parse_line(text: &[u8], at: usize, letter: u8) -> Line
+    requires { ⌜ 44 < letter ⌝ }
+    ensures { λ r. ⌜ found (now (text .entry)) r ≡ line letter (drop at (now (text .entry))) ⌝ }
+{
+    if !has_byte(text, at, letter) {
+        return Line::Malformed;
+    }
+    if !has_byte(text, at + 1, 44) {
+        return Line::Malformed;
+    }
+    let Number::Value(a, i) = parse_number(text, at + 2) else {
+        return Line::Malformed;
+    };
+    if !has_byte(text, i, 44) {
+        return Line::Malformed;
+    }
+    let Number::Value(b, j) = parse_number(text, i + 1) else {
+        return Line::Malformed;
+    };
+    if !has_byte(text, j, 10) {
+        return Line::Malformed;
+    }
+    Line::Pair(a, b, j + 1)
+}
+
+// The number of digits of a number.
+pub fn digit_count(x: u32) -> usize
+    ensures { λ r. ⌜ r ≡ length (digits x) ⌝ }
+{
+    let mut n = 1;
+    let mut left = x;
+    while 10 <= left {
+        left /= 10;
+        n += 1;
+    }
+    n
+}
+
+// Writes a byte at a place, and returns the next place.
+pub fn write_byte(buf: &mut [u8], at: usize, b: u8) -> usize
+    requires { ⌜ at + 1 ≤ length (now buf) ⌝ }
+    ensures { λ r. ⌜ Wrote (now (buf .entry)) (now (buf .exit)) at r (b ∷ []) ⌝ }
+{
+    buf[at] = b;
+    at + 1
+}
+
+// Writes the decimal text of a number at a place, and returns the place after it.
+pub fn write_number(buf: &mut [u8], at: usize, x: u32) -> usize
+    requires { ⌜ at + length (digits x) ≤ length (now buf) ⌝ }
+    ensures { λ r. ⌜ Wrote (now (buf .entry)) (now (buf .exit)) at r (digits x) ⌝ }
+{
+    if x < 10 {
+        return write_byte(buf, at, 48 + x as u8);
+    }
+    let i = write_number(buf, at, x / 10);
+    write_byte(buf, i, 48 + (x % 10) as u8)
+}
+
+// Writes the line of two numbers at a place, and returns the place after it.
+pub fn write_line(buf: &mut [u8], at: usize, letter: u8, a: u32, b: u32) -> usize
+    requires { ⌜ at + length (lineOf letter a b) ≤ length (now buf) ⌝ }
+    ensures { λ r. ⌜ Wrote (now (buf .entry)) (now (buf .exit)) at r (lineOf letter a b) ⌝ }
+{
+    let i = write_byte(buf, at, letter);
+    let i = write_byte(buf, i, 44);
+    let i = write_number(buf, i, a);
+    let i = write_byte(buf, i, 44);
+    let i = write_number(buf, i, b);
+    write_byte(buf, i, 10)
+}
