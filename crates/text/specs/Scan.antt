@@ -8,6 +8,7 @@ use lib.Dec.{ltb, eqb}
 use lib.ListN.{length, getD, drop}
 use Rattle.model.specs.Basics.{if_then_else_}
 use Rattle.model.specs.Numbers.{isDigit, isNumber, valueOf}
+use Rattle.model.specs.SurveyText.{line}
 use Rattle.text.specs.declared.Number.{Number}
 use Rattle.text.specs.declared.Number.the-variants as number
 use Rattle.text.specs.declared.Line.{Line}
@@ -28,6 +29,10 @@ numberAt s at = numberOf at (run (drop at s))
 -- byte b stands at place i
 unfoldable pub hasByte : List ℕ → ℕ → ℕ → Bool
 hasByte s i b = ltb i (length s) && eqb (getD s i 0) b
+
+-- the line that a text begins with, by its letter, which must be above the comma's 44
+abbrev pub lineBy : ℕ → List ℕ → Option (ℕ × ℕ × List ℕ)
+lineBy letter text = if ltb 44 letter then line letter text else missing
 
 -- a line that was found in a text, as the definition of a line has it: its numbers, and the text after it
 abbrev pub found : List ℕ → Line → Option (ℕ × ℕ × List ℕ)

@@ -7,7 +7,7 @@ ghost use lib.ListN.{length, replicate, drop};
 ghost use Rattle.model.specs.Basics.{all};
 ghost use Rattle.model.specs.Numbers.{isDigit, valueOf, digits};
 ghost use Rattle.model.specs.SurveyText.{line, lineOf};
-ghost use Rattle.text.specs.Scan.{run, numberAt, hasByte, found};
+ghost use Rattle.text.specs.Scan.{run, numberAt, hasByte, lineBy, found};
 ghost use Rattle.text.specs.Writing.{Wrote};
 
 // A number and the place after it.
@@ -86,7 +86,7 @@ pub fn has_byte(text: &[u8], at: usize, b: u8) -> bool
 }
 
 // The line at a place: the letter, a comma, a number, a comma, a number, a line feed.
-pub fn parse_line(text: &[u8], at: usize, letter: u8) -> Line
+fn parse_line(text: &[u8], at: usize, letter: u8) -> Line
     requires { ⌜ 44 < letter ⌝ }
     ensures { λ r. ⌜ found (now (text .entry)) r ≡ line letter (drop at (now (text .entry))) ⌝ }
 {
@@ -109,6 +109,16 @@ pub fn parse_line(text: &[u8], at: usize, letter: u8) -> Line
         return Line::Malformed;
     }
     Line::Pair(a, b, j + 1)
+}
+
+// The same for any letter: none is found by a letter that is not above the comma.
+pub fn scan_line(text: &[u8], at: usize, letter: u8) -> Line
+    ensures { λ r. ⌜ found (now (text .entry)) r ≡ lineBy letter (drop at (now (text .entry))) ⌝ }
+{
+    if letter <= 44 {
+        return Line::Malformed;
+    }
+    parse_line(text, at, letter)
 }
 
 // The number of digits of a number.
