@@ -1,3 +1,3 @@
 pub mod Runs
 pub mod Scanning
-pub mod Writing
+pub mod Digits

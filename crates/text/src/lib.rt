@@ -8,7 +8,7 @@ ghost use Rattle.model.specs.Basics.{all};
 ghost use Rattle.model.specs.Numbers.{isDigit, valueOf, digits};
 ghost use Rattle.model.specs.SurveyText.{line, lineOf};
 ghost use Rattle.text.specs.Scan.{run, numberAt, hasByte, lineBy, found};
-ghost use Rattle.text.specs.Writing.{Wrote};
+ghost use Rattle.lists.specs.Writing.{Wrote};
 
 // A number and the place after it.
 pub enum Number {

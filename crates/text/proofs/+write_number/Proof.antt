@@ -3,7 +3,7 @@
 use mathlib.Core.Path.{_∙_}
 use native.Mathlib.Omega.{arith}
 use Rattle.model.proofs.Numbers.{length-small, length-more}
-use Rattle.text.proofs.Writing.{wrote-small, wrote-more}
+use Rattle.text.proofs.Digits.{wrote-small, wrote-more}
 use Prim.Native.Nat.{_<_, ℕ}
 use borrow.Fn.Kinds.{In}
 use borrow.Fn.PlainCycle.{Measures, is, falls, and}

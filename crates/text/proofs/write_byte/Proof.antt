@@ -1,5 +1,5 @@
 -- `text::write_byte` meets its contract. Assumes nothing.
-use Rattle.text.proofs.Writing.{wrote-one}
+use Rattle.lists.proofs.Writing.{wrote-one}
 use borrow.Author.Needs.{needs}
 use Rattle.text.proofs.write_byte.Statement.{statement}
 use Rattle.text.proofs.write_byte.Tie as tie

@@ -7,9 +7,9 @@ use denote.Ref.{now}
 use borrow.Author.Needs.{needs}
 use Rattle.model.specs.Numbers.{digits}
 use Rattle.model.specs.SurveyText.{lineOf}
-use Rattle.text.specs.Writing.{Wrote}
+use Rattle.lists.specs.Writing.{Wrote}
 use Rattle.model.proofs.Lines.{length-line}
-use Rattle.text.proofs.Writing.{wrote-then, wrote-room}
+use Rattle.lists.proofs.Writing.{wrote-then, wrote-room}
 use Rattle.text.proofs.write_line.Statement.{statement}
 use Rattle.text.proofs.write_line.Tie as tie
 

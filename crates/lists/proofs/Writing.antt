@@ -1,4 +1,4 @@
--- Laws of a text written into a buffer.
+-- Laws of entries written into a list.
 -- Assumes nothing.
 use mathlib.Core.Path.{_≡_, refl, sym, ap, _∙_}
 use mathlib.Core.List.{List, [], _∷_, _++_, append-assoc}
@@ -9,9 +9,7 @@ use native.Mathlib.Omega.{arith}
 use lib.ListN.{length, take, drop, set, length-append, length-drop}
 use lib.Seq.{set-split, append-snoc, length-take-le, take-at, drop-at, drop-append-add, drop-drop, paste-zero}
 use Rattle.model.specs.Basics.{over}
-use Rattle.model.specs.Numbers.{digits}
-use Rattle.model.proofs.Numbers.{digits-small, digits-more, length-more}
-use Rattle.text.specs.Writing.{written, Wrote}
+use Rattle.lists.specs.Writing.{written, Wrote}
 
 pub write-one : (buf : List ℕ) (at b : ℕ) → at + 1 ≤ length buf → set buf at b ≡ written buf at (b ∷ [])
 unfolding written
@@ -79,13 +77,6 @@ wrote-length {buf} {at = at} {t = t} h w = ap length (w .text) ∙ length-writte
 -- what is left behind a text has room for a next one
 pub wrote-room : {buf buf′ : List ℕ} {at i : ℕ} {t : List ℕ} (u : List ℕ) → at + length t + length u ≤ length buf → Wrote buf buf′ at i t → i + length u ≤ length buf′
 wrote-room u h w = omega (arith, wrote-length (omega arith) w, w .ends)
-
-pub wrote-small : {buf buf′ : List ℕ} {at e : ℕ} (n : ℕ) → n < 10 → Wrote buf buf′ at e ((48 + n) ∷ []) → Wrote buf buf′ at e (digits n)
-wrote-small n h w = rw (digits-small n h) w
-
-pub wrote-more : {buf buf′ buf″ : List ℕ} {at i e : ℕ} (n : ℕ) → 10 ≤ n → at + length (digits n) ≤ length buf
-    → Wrote buf buf′ at i (digits (n / 10)) → Wrote buf′ buf″ i e ((48 + n % 10) ∷ []) → Wrote buf buf″ at e (digits n)
-wrote-more n h r p q = rw (digits-more n h) (wrote-then (omega (arith, length-more n h)) p q)
 
 -- a text written from the first place on replaces the front
 pub wrote-over : {buf buf′ : List ℕ} {e : ℕ} (t : List ℕ) → Wrote buf buf′ 0 e t → (buf′ ≡ over t buf) × (e ≡ length t)

@@ -1,0 +1,29 @@
+-- `nodeset::contains` meets its contract, by computation.
+-- Assumes nothing.
+use mathlib.Core.Path.{refl}
+use Rattle.nodeset.specs.NodeSet.{member, bit}
+use borrow.Author.Needs.{needs}
+use Rattle.nodeset.proofs.contains.Statement.{statement}
+use Rattle.nodeset.proofs.contains.Tie as tie
+use Rattle.nodeset.proofs.contains.Reads as reads
+use Rattle.nodeset.proofs.contains.Lts as lts
+
+-- src/lib.rt:24:6
+mul-result : tie.Need-mul-result
+mul-result c = search needs
+
+-- src/lib.rt:24:6
+shared-slice-read-result : tie.Need-shared-slice-read-result
+shared-slice-read-result c = search needs
+
+-- src/lib.rt:24:6
+shr-result : tie.Need-shr-result
+shr-result c = search needs
+
+-- src/lib.rt:18:1
+returns : tie.Need-returns
+unfolding member bit
+returns c = refl
+
+pub contains-spec : {M : Type 1} → statement M
+contains-spec = tie.close (tie.spec mul-result shared-slice-read-result shr-result returns)

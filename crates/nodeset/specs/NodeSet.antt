@@ -1,0 +1,32 @@
+-- Sets of numbers as lists of 64-bit words (bit sets).
+-- Assumes nothing.
+use mathlib.Core.Bool.{Bool, false, not, _&&_, _||_}
+use mathlib.Core.List.{List}
+use Prim.Native.Nat.{ℕ, _/_, _%_, _^_}
+use lib.Dec.{eqb}
+use lib.ListN.{getD}
+
+-- a set says of each number whether it is in it
+abbrev pub Nodes : Type 0
+Nodes = ℕ → Bool
+
+-- bit k of the word w
+unfoldable pub bit : ℕ → ℕ → Bool
+bit w k = eqb (w / 2 ^ k % 2) 1
+
+-- the set that words stand for: v is bit v % 64 of word v / 64
+unfoldable pub member : List ℕ → Nodes
+member ws v = bit (getD ws (v / 64) 0) (v % 64)
+
+unfoldable pub nobody : Nodes
+nobody v = false
+
+-- a set with one member more; what is in both; what is in one and not in the other
+unfoldable pub with : Nodes → ℕ → Nodes
+with p v x = eqb x v || p x
+
+unfoldable pub both : Nodes → Nodes → Nodes
+both p q x = p x && q x
+
+unfoldable pub without : Nodes → Nodes → Nodes
+without p q x = p x && not (q x)
