@@ -13,68 +13,70 @@ use lib.Dec.{eqb, ltb, leb}
 use Rattle.model.specs.Answers.{Outcome, refused, answered}
 use Rattle.model.specs.Basics.{if_then_else_, gather}
 use Rattle.model.specs.SurveyText.{line, lineOf, linkLines, surveyText}
-use Rattle.model.specs.Reading.{named, onLinks, readLink, readLinks, Parsed, parsed, parseFirst, parse}
+use Rattle.model.specs.Reading.{named, onLinks, linkOf, readOn, readLinks, Parsed, parsed, countsOf, parseLinks, parse}
 use Rattle.model.proofs.Outcomes.{never}
 use Rattle.model.proofs.Tests.{or-false, of-or-false, isnt}
 use Rattle.model.proofs.Lines.{line-complete, IsLine, line-sound}
 
--- a link that can be given after those of `done`
-pub record Fresh (n : ℕ) (done : List (ℕ × ℕ)) (l : ℕ × ℕ) : Type 0 where
-  pub below-a : l .0 < n
-  pub below-b : l .1 < n
-  pub apart : l .0 ≡ l .1 → ⊥
-  pub new : named done (l .0) (l .1) ≡ false
+-- a link that can be given after those of `given`
+pub record Fresh (n : ℕ) (given : ℕ → ℕ → Bool) (a b : ℕ) : Type 0 where
+  pub below-a : a < n
+  pub below-b : b < n
+  pub apart : a ≡ b → ⊥
+  pub new : given a b ≡ false
 
 -- each of the links can be given after those before it
 abbrev pub AllFresh : ℕ → List (ℕ × ℕ) → List (ℕ × ℕ) → Type 0
 AllFresh n done [] = Unit {0}
-AllFresh n done (l ∷ ls) = Fresh n done l × AllFresh n (l ∷ done) ls
+AllFresh n done (l ∷ ls) = Fresh n (named done) (l .0) (l .1) × AllFresh n (l ∷ done) ls
 
 -- ---- one line
 
-pub link-taken : (n : ℕ) (done : List (ℕ × ℕ)) (next : ℕ → ℕ → List ℕ → Outcome (List (ℕ × ℕ))) (l : ℕ × ℕ) (rest : List ℕ) → Fresh n done l
-    → readLink n done next (some (l .0, l .1, rest)) ≡ onLinks l (next (l .0) (l .1) rest)
-unfolding readLink
-link-taken n done next l rest f =
-    rw (or-false (leb n (l .0)) (leb n (l .1)) (lt-leb n (l .0) (f .below-a)) (lt-leb n (l .1) (f .below-b)), ne-eqb (l .0) (l .1) (f .apart), f .new) refl
+module _ (n : ℕ) (given : ℕ → ℕ → Bool) where
+  pub link-taken : (l : ℕ × ℕ × List ℕ) → Fresh n given (l .0) (l .1) → linkOf n given (some l) ≡ answered l
+  unfolding linkOf
+  link-taken l f =
+      rw (or-false (leb n (l .0)) (leb n (l .1)) (lt-leb n (l .0) (f .below-a)) (lt-leb n (l .1) (f .below-b)), ne-eqb (l .0) (l .1) (f .apart), f .new) refl
 
-pub of-link-taken : (n : ℕ) (done : List (ℕ × ℕ)) (next : ℕ → ℕ → List ℕ → Outcome (List (ℕ × ℕ))) (l : ℕ × ℕ) (rest : List ℕ) (ls : List (ℕ × ℕ))
-    → readLink n done next (some (l .0, l .1, rest)) ≡ answered ls → Fresh n done l × (onLinks l (next (l .0) (l .1) rest) ≡ answered ls)
-unfolding readLink
-of-link-taken n done next l rest ls e = four (leb n (l .0) || leb n (l .1)) refl e
-  where
-    R : Outcome (List (ℕ × ℕ))
-    R = onLinks l (next (l .0) (l .1) rest)
+  pub of-link-taken : (o : Option (ℕ × ℕ × List ℕ)) (x : ℕ × ℕ × List ℕ) → linkOf n given o ≡ answered x → (o ≡ some x) × Fresh n given (x .0) (x .1)
+  unfolding linkOf
+  of-link-taken missing x e = never e
+  of-link-taken (some l) x e = four (leb n (l .0) || leb n (l .1)) refl e
+    where
+      Taken : Type 0
+      Taken = (some l ≡ some x) × Fresh n given (x .0) (x .1)
 
-    six : (l .0 < n) × (l .1 < n) → (l .0 ≡ l .1 → ⊥) → (t : Bool) → named done (l .0) (l .1) ≡ t
-        → if_then_else_ {A = Outcome (List (ℕ × ℕ))} t (refused 6) R ≡ answered ls → Fresh n done l × (R ≡ answered ls)
-    six b d true q e = never e
-    six b d false q e = (record { below-a = b .0; below-b = b .1; apart = d; new = q }, e)
+      six : (l .0 < n) × (l .1 < n) → (l .0 ≡ l .1 → ⊥) → (t : Bool) → given (l .0) (l .1) ≡ t
+          → if_then_else_ {A = Outcome (ℕ × ℕ × List ℕ)} t (refused 6) (answered l) ≡ answered x → Taken
+      six b d true q e = never e
+      six b d false q e =
+          let i : l ≡ x = cc in
+          (ap some i, subst (λ (y : ℕ × ℕ × List ℕ). Fresh n given (y .0) (y .1)) i (record { below-a = b .0; below-b = b .1; apart = d; new = q }))
 
-    five : (l .0 < n) × (l .1 < n) → (t : Bool) → eqb (l .0) (l .1) ≡ t
-        → if_then_else_ {A = Outcome (List (ℕ × ℕ))} t (refused 5) (if named done (l .0) (l .1) then refused 6 else R) ≡ answered ls → Fresh n done l × (R ≡ answered ls)
-    five b true q e = never e
-    five b false q e = six b (isnt (l .0) (l .1) q) (named done (l .0) (l .1)) refl e
+      five : (l .0 < n) × (l .1 < n) → (t : Bool) → eqb (l .0) (l .1) ≡ t
+          → if_then_else_ {A = Outcome (ℕ × ℕ × List ℕ)} t (refused 5) (if given (l .0) (l .1) then refused 6 else answered l) ≡ answered x → Taken
+      five b true q e = never e
+      five b false q e = six b (isnt (l .0) (l .1) q) (given (l .0) (l .1)) refl e
 
-    four : (t : Bool) → (leb n (l .0) || leb n (l .1)) ≡ t
-        → if_then_else_ {A = Outcome (List (ℕ × ℕ))} t (refused 4) (if eqb (l .0) (l .1) then refused 5 else if named done (l .0) (l .1) then refused 6 else R) ≡ answered ls
-        → Fresh n done l × (R ≡ answered ls)
-    four true q e = never e
-    four false q e =
-        let h = of-or-false (leb n (l .0)) (leb n (l .1)) q in
-        five (leb-false n (l .0) (h .0), leb-false n (l .1) (h .1)) (eqb (l .0) (l .1)) refl e
+      four : (t : Bool) → (leb n (l .0) || leb n (l .1)) ≡ t
+          → if_then_else_ {A = Outcome (ℕ × ℕ × List ℕ)} t (refused 4) (if eqb (l .0) (l .1) then refused 5 else if given (l .0) (l .1) then refused 6 else answered l) ≡ answered x
+          → Taken
+      four true q e = never e
+      four false q e =
+          let h = of-or-false (leb n (l .0)) (leb n (l .1)) q in
+          five (leb-false n (l .0) (h .0), leb-false n (l .1) (h .1)) (eqb (l .0) (l .1)) refl e
 
 -- ---- all lines
 
 pub links-complete : (n : ℕ) → n ≤ 10 ^ 10 → (ls done : List (ℕ × ℕ)) → AllFresh n done ls → readLinks n (length ls) done (linkLines ls) ≡ answered ls
-unfolding readLinks linkLines gather lineOf onLinks
+unfolding readLinks readOn linkLines gather lineOf onLinks
 links-complete n le [] done f = refl
 links-complete n le (l ∷ ls) done f =
     let g = f .0 in
     let next : ℕ → ℕ → List ℕ → Outcome (List (ℕ × ℕ)) = λ a b rest. readLinks n (length ls) ((a, b) ∷ done) rest in
-    ap (readLink n done next)
+    ap (λ (o : Option (ℕ × ℕ × List ℕ)). readOn next (linkOf n (named done) o))
     (line-complete 76 (omega arith) (l .0) (l .1) (lt-of-lt-of-le (g .below-a) le) (lt-of-lt-of-le (g .below-b) le) (linkLines ls))
-    ∙ link-taken n done next l (linkLines ls) g
+    ∙ ap (readOn next) (link-taken n (named done) (l .0, l .1, linkLines ls) g)
     ∙ ap (onLinks l) (links-complete n le ls (l ∷ done) (f .1))
 
 pub record LinesRead (n m : ℕ) (done : List (ℕ × ℕ)) (text : List ℕ) (ls : List (ℕ × ℕ)) : Type 0 where
@@ -83,18 +85,19 @@ pub record LinesRead (n m : ℕ) (done : List (ℕ × ℕ)) (text : List ℕ) (l
   pub fresh : AllFresh n done ls
 
 pub links-sound : (n m : ℕ) (done : List (ℕ × ℕ)) (text : List ℕ) (ls : List (ℕ × ℕ)) → readLinks n m done text ≡ answered ls → LinesRead n m done text ls
-unfolding readLinks readLink onLinks linkLines gather
+unfolding readLinks readOn onLinks linkLines gather
 links-sound n zero done [] ls e =
     let q : _≡_ {A = List (ℕ × ℕ)} [] ls = cc in
     subst (λ (k : List (ℕ × ℕ)). LinesRead n zero done [] k) q (record { is-text = refl; count = refl; fresh = tt })
 links-sound n zero done (c ∷ text) ls e = never e
 links-sound n (suc m) done [] ls e = never e
-links-sound n (suc m) done (c ∷ text) ls e = at (line 76 (c ∷ text)) refl e (λ a b rest ks. links-sound n m ((a, b) ∷ done) rest ks)
+links-sound n (suc m) done (c ∷ text) ls e = at (linkOf n (named done) (line 76 (c ∷ text))) refl e (λ a b rest ks. links-sound n m ((a, b) ∷ done) rest ks)
   where
     next : ℕ → ℕ → List ℕ → Outcome (List (ℕ × ℕ))
     next a b rest = readLinks n m ((a, b) ∷ done) rest
 
-    more : (l : ℕ × ℕ) (rest : List ℕ) (o : Outcome (List (ℕ × ℕ))) → IsLine 76 (c ∷ text) (l .0) (l .1) rest → Fresh n done l → onLinks l o ≡ answered ls
+    more : (l : ℕ × ℕ) (rest : List ℕ) (o : Outcome (List (ℕ × ℕ))) → IsLine 76 (c ∷ text) (l .0) (l .1) rest → Fresh n (named done) (l .0) (l .1)
+        → onLinks l o ≡ answered ls
         → ((ks : List (ℕ × ℕ)) → o ≡ answered ks → LinesRead n m (l ∷ done) rest ks) → LinesRead n (suc m) done (c ∷ text) ls
     more l rest (refused k) t f e rec = never e
     more l rest (answered ks) t f e rec =
@@ -106,92 +109,120 @@ links-sound n (suc m) done (c ∷ text) ls e = at (line 76 (c ∷ text)) refl e 
           fresh = (f, r .fresh);
         })
 
-    at : (o : Option (ℕ × ℕ × List ℕ)) → line 76 (c ∷ text) ≡ o → readLink n done next o ≡ answered ls
+    at : (o : Outcome (ℕ × ℕ × List ℕ)) → linkOf n (named done) (line 76 (c ∷ text)) ≡ o → readOn next o ≡ answered ls
         → ((a b : ℕ) (rest : List ℕ) (ks : List (ℕ × ℕ)) → readLinks n m ((a, b) ∷ done) rest ≡ answered ks → LinesRead n m ((a, b) ∷ done) rest ks)
         → LinesRead n (suc m) done (c ∷ text) ls
-    at missing q e rec = never e
-    at (some x) q e rec =
-        let l : ℕ × ℕ = (x .0, x .1) in
-        let t = of-link-taken n done next l (x .2) ls e in
-        more l (x .2) (next (x .0) (x .1) (x .2)) (line-sound 76 (c ∷ text) (x .0) (x .1) (x .2) q) (t .0) (t .1) (λ ks. rec (x .0) (x .1) (x .2) ks)
+    at (refused k) q e rec = never e
+    at (answered x) q e rec =
+        let t = of-link-taken n (named done) (line 76 (c ∷ text)) x q in
+        more (x .0, x .1) (x .2) (next (x .0) (x .1) (x .2)) (line-sound 76 (c ∷ text) (x .0) (x .1) (x .2) (t .0)) (t .1) e (λ ks. rec (x .0) (x .1) (x .2) ks)
 
 -- ---- the whole text
 
+-- counts of nodes and links within the limits, for which the lists have room
+pub record Within (mostNodes mostLinks p q n m : ℕ) : Type 0 where
+  pub some-node : 1 ≤ n
+  pub size : n ≤ mostNodes
+  pub few : m ≤ mostLinks
+  pub room : n + 1 ≤ p
+  pub list-room : 2 * m ≤ q
+
+module _ (N M p q : ℕ) where
+  pub first-taken : (f : ℕ × ℕ × List ℕ) → Within N M p q (f .0) (f .1) → countsOf N M p q (some f) ≡ answered f
+  unfolding countsOf
+  first-taken f w =
+      let n = f .0 in
+      let m = f .1 in
+      rw (
+        or-false (ltb n 1) (ltb N n) (le-ltb n 1 (w .some-node)) (le-ltb N n (w .size)),
+        le-ltb M m (w .few),
+        or-false (ltb p (n + 1)) (ltb q (2 * m)) (le-ltb p (n + 1) (w .room)) (le-ltb q (2 * m) (w .list-room)),
+      ) refl
+
+  pub of-first-taken : (o : Option (ℕ × ℕ × List ℕ)) (x : ℕ × ℕ × List ℕ) → countsOf N M p q o ≡ answered x → (o ≡ some x) × Within N M p q (x .0) (x .1)
+  unfolding countsOf
+  of-first-taken missing x e = never e
+  of-first-taken (some f) x e = two (ltb n 1 || ltb N n) refl e
+    where
+      n : ℕ
+      n = f .0
+
+      m : ℕ
+      m = f .1
+
+      Taken : Type 0
+      Taken = (some f ≡ some x) × Within N M p q (x .0) (x .1)
+
+      eight : (1 ≤ n) × (n ≤ N) → m ≤ M → (t : Bool) → (ltb p (n + 1) || ltb q (2 * m)) ≡ t
+          → if_then_else_ {A = Outcome (ℕ × ℕ × List ℕ)} t (refused 8) (answered f) ≡ answered x → Taken
+      eight s w true k e = never e
+      eight s w false k e =
+          let i : f ≡ x = cc in
+          let r = of-or-false (ltb p (n + 1)) (ltb q (2 * m)) k in (
+            ap some i,
+            subst (λ (y : ℕ × ℕ × List ℕ). Within N M p q (y .0) (y .1)) i (record {
+              some-node = s .0;
+              size = s .1;
+              few = w;
+              room = ltb-false p (n + 1) (r .0);
+              list-room = ltb-false q (2 * m) (r .1);
+            }),
+          )
+
+      three : (1 ≤ n) × (n ≤ N) → (t : Bool) → ltb M m ≡ t
+          → if_then_else_ {A = Outcome (ℕ × ℕ × List ℕ)} t (refused 3) (if ltb p (n + 1) || ltb q (2 * m) then refused 8 else answered f) ≡ answered x → Taken
+      three s true k e = never e
+      three s false k e = eight s (ltb-false M m k) (ltb p (n + 1) || ltb q (2 * m)) refl e
+
+      two : (t : Bool) → (ltb n 1 || ltb N n) ≡ t
+          → if_then_else_ {A = Outcome (ℕ × ℕ × List ℕ)} t (refused 2) (if ltb M m then refused 3 else if ltb p (n + 1) || ltb q (2 * m) then refused 8 else answered f) ≡ answered x
+          → Taken
+      two true k e = never e
+      two false k e = let s = of-or-false (ltb n 1) (ltb N n) k in three (ltb-false n 1 (s .0), ltb-false N n (s .1)) (ltb M m) refl e
+
 -- what a text says that is taken, with lists of p and q entries: it is the text of its links, which are within the limits
 pub record TextRead (mostNodes mostLinks p q : ℕ) (text : List ℕ) (x : Parsed) : Type 0 where
-  pub some-node : 1 ≤ x .nodes
-  pub size : x .nodes ≤ mostNodes
-  pub few : length (x .links) ≤ mostLinks
-  pub room : x .nodes + 1 ≤ p
-  pub list-room : 2 * length (x .links) ≤ q
+  pub within : Within mostNodes mostLinks p q (x .nodes) (length (x .links))
   pub is-text : text ≡ surveyText (x .nodes) (length (x .links)) (x .links)
   pub fresh : AllFresh (x .nodes) [] (x .links)
 
 module _ (N M p q : ℕ) where
   pub parse-complete : N < 10 ^ 10 → M < 10 ^ 10 → (x : Parsed) (text : List ℕ) → TextRead N M p q text x → parse N M p q text ≡ answered x
-  unfolding parse parseFirst parsed surveyText
+  unfolding parse parseLinks parsed surveyText
   parse-complete hN hM x text r =
       let n = x .nodes in
       let m = length (x .links) in
+      let w = r .within in
       ap (parse N M p q) (r .is-text)
-      ∙ ap (parseFirst N M p q) (line-complete 83 (omega arith) n m (lt-of-le-of-lt (r .size) hN) (lt-of-le-of-lt (r .few) hM) (linkLines (x .links)))
-      ∙ rw (
-        or-false (ltb n 1) (ltb N n) (le-ltb n 1 (r .some-node)) (le-ltb N n (r .size)),
-        le-ltb M m (r .few),
-        or-false (ltb p (n + 1)) (ltb q (2 * m)) (le-ltb p (n + 1) (r .room)) (le-ltb q (2 * m) (r .list-room)),
-      ) (ap (parsed n) (links-complete n (lt-le hN (r .size)) (x .links) [] (r .fresh)))
+      ∙ ap (λ (o : Option (ℕ × ℕ × List ℕ)). parseLinks (countsOf N M p q o))
+      (line-complete 83 (omega arith) n m (lt-of-le-of-lt (w .size) hN) (lt-of-le-of-lt (w .few) hM) (linkLines (x .links)))
+      ∙ ap parseLinks (first-taken N M p q (n, m, linkLines (x .links)) w)
+      ∙ ap (parsed n) (links-complete n (lt-le hN (w .size)) (x .links) [] (r .fresh))
     where
       lt-le : N < 10 ^ 10 → x .nodes ≤ N → x .nodes ≤ 10 ^ 10
       lt-le h k = omega arith
 
   pub parse-sound : (text : List ℕ) (x : Parsed) → parse N M p q text ≡ answered x → TextRead N M p q text x
-  unfolding parse parseFirst parsed surveyText
-  parse-sound text x e = at (line 83 text) refl e
+  unfolding parse parseLinks parsed surveyText
+  parse-sound text x e = at (countsOf N M p q (line 83 text)) refl e
     where
-      at : (o : Option (ℕ × ℕ × List ℕ)) → line 83 text ≡ o → parseFirst N M p q o ≡ answered x → TextRead N M p q text x
-      at missing h e = never e
-      at (some f) h e = two (ltb n 1 || ltb N n) refl e
-        where
-          n : ℕ
-          n = f .0
+      links : (f : ℕ × ℕ × List ℕ) → line 83 text ≡ some f → Within N M p q (f .0) (f .1)
+          → (o : Outcome (List (ℕ × ℕ))) → readLinks (f .0) (f .1) [] (f .2) ≡ o → parsed (f .0) o ≡ answered x → TextRead N M p q text x
+      links f h w (refused k) i e = never e
+      links f h w (answered ls) i e =
+          let n = f .0 in
+          let m = f .1 in
+          let y : _≡_ {A = Parsed} (record { nodes = n; links = ls }) x = cc in
+          let g = links-sound n m [] (f .2) ls i in
+          let l = line-sound 83 text n m (f .2) h in
+          subst (λ (z : Parsed). TextRead N M p q text z) y (record {
+            within = subst (λ (k : ℕ). Within N M p q n k) (sym (g .count)) w;
+            is-text = l .is-text ∙ ap₂ (λ (k : ℕ) (t : List ℕ). lineOf 83 n k ++ t) (sym (g .count)) (g .is-text);
+            fresh = g .fresh;
+          })
 
-          m : ℕ
-          m = f .1
-
-          R : Outcome Parsed
-          R = parsed n (readLinks n m [] (f .2))
-
-          links : (1 ≤ n) × (n ≤ N) → m ≤ M → (n + 1 ≤ p) × (2 * m ≤ q) → (o : Outcome (List (ℕ × ℕ))) → readLinks n m [] (f .2) ≡ o → parsed n o ≡ answered x
-              → TextRead N M p q text x
-          links s w r (refused k) i e = never e
-          links s w r (answered ls) i e =
-              let y : _≡_ {A = Parsed} (record { nodes = n; links = ls }) x = cc in
-              let g = links-sound n m [] (f .2) ls i in
-              let l = line-sound 83 text n m (f .2) h in
-              subst (λ (z : Parsed). TextRead N M p q text z) y (record {
-                some-node = s .0;
-                size = s .1;
-                few = subst (λ (k : ℕ). k ≤ M) (sym (g .count)) w;
-                room = r .0;
-                list-room = subst (λ (k : ℕ). 2 * k ≤ q) (sym (g .count)) (r .1);
-                is-text = l .is-text ∙ ap₂ (λ (k : ℕ) (t : List ℕ). lineOf 83 n k ++ t) (sym (g .count)) (g .is-text);
-                fresh = g .fresh;
-              })
-
-          eight : (1 ≤ n) × (n ≤ N) → m ≤ M → (t : Bool) → (ltb p (n + 1) || ltb q (2 * m)) ≡ t
-              → if_then_else_ {A = Outcome Parsed} t (refused 8) R ≡ answered x → TextRead N M p q text x
-          eight s w true k e = never e
-          eight s w false k e =
-              let r = of-or-false (ltb p (n + 1)) (ltb q (2 * m)) k in
-              links s w (ltb-false p (n + 1) (r .0), ltb-false q (2 * m) (r .1)) (readLinks n m [] (f .2)) refl e
-
-          three : (1 ≤ n) × (n ≤ N) → (t : Bool) → ltb M m ≡ t
-              → if_then_else_ {A = Outcome Parsed} t (refused 3) (if ltb p (n + 1) || ltb q (2 * m) then refused 8 else R) ≡ answered x → TextRead N M p q text x
-          three s true k e = never e
-          three s false k e = eight s (ltb-false M m k) (ltb p (n + 1) || ltb q (2 * m)) refl e
-
-          two : (t : Bool) → (ltb n 1 || ltb N n) ≡ t
-              → if_then_else_ {A = Outcome Parsed} t (refused 2) (if ltb M m then refused 3 else if ltb p (n + 1) || ltb q (2 * m) then refused 8 else R) ≡ answered x
-              → TextRead N M p q text x
-          two true k e = never e
-          two false k e = let s = of-or-false (ltb n 1) (ltb N n) k in three (ltb-false n 1 (s .0), ltb-false N n (s .1)) (ltb M m) refl e
+      at : (o : Outcome (ℕ × ℕ × List ℕ)) → countsOf N M p q (line 83 text) ≡ o → parseLinks o ≡ answered x → TextRead N M p q text x
+      at (refused k) h e = never e
+      at (answered f) h e =
+          let t = of-first-taken N M p q (line 83 text) f h in
+          links f (t .0) (t .1) (readLinks (f .0) (f .1) [] (f .2)) refl e

@@ -65,7 +65,7 @@ module _ (text : List ℕ) (x : Parsed) (e : parse 128 2048 (128 + 1) (2 * 2048)
   reply a b = pair n (fullTable n s G) (lowTable n s G) (reportTable n s G) a b
 
   size : x .nodes ≤ 1024
-  size = omega (arith, parse-sound 128 2048 (128 + 1) (2 * 2048) text x e .size)
+  size = omega (arith, parse-sound 128 2048 (128 + 1) (2 * 2048) text x e .within .size)
 
   reply-is : (a b : ℕ) → a < x .nodes → b < x .nodes → (reply a b ≡ answered (valueIn (reply a b))) × (valueIn (reply a b) .report ≡ entry n (reportTable n s G) a b)
   unfolding reply pair valueIn

@@ -386,7 +386,7 @@ same-refl (x ∷ l) = and-i (eqb x x) (same l l) (eqb-refl x) (same-refl l)
 
 -- ---- the numbers below n, parted at v
 
-from-add : (k m j : ℕ) → from k (m + j) ≡ from k m ++ from (k + m) j
+pub from-add : (k m j : ℕ) → from k (m + j) ≡ from k m ++ from (k + m) j
 unfolding from
 from-add k zero j = ap₂ (λ (a b : ℕ). from a b) (sym (add-zero k)) (zero-add j)
 from-add k (suc m) j =
@@ -433,3 +433,11 @@ of-gather f (y ∷ l) x h = go (of-append x (f y) (gather f l) h) (λ r. of-gath
         → (v : ℕ) × T (has v (y ∷ l)) × T (has x (f v))
     go (inl r) rec = (y, has-head y l, r)
     go (inr r) rec = let k = rec r in (k .0, has-tail (k .0) y l (k .1), k .2)
+
+pub upTo-add : (u k n : ℕ) → u + k ≡ n → upTo n ≡ upTo u ++ from u k
+unfolding upTo
+upTo-add u k n e = ap (from 0) (sym e) ∙ from-add 0 u k ∙ ap (λ (x : ℕ). from 0 u ++ from x k) (zero-add u)
+
+pub map-append : {A B : Type 0} (f : A → B) (k l : List A) → map f (k ++ l) ≡ map f k ++ map f l
+map-append f [] l = refl
+map-append {B = B} f (x ∷ k) l = ap (λ (r : List B). f x ∷ r) (map-append f k l)

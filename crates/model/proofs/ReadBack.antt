@@ -40,7 +40,7 @@ named-below n (l ∷ ls) done f a b t = at (or-e (X || Y) (named ls a b) t) (λ 
     Y : Bool
     Y = eqb (l .0) b && eqb (l .1) a
 
-    g : Fresh n done l
+    g : Fresh n (named done) (l .0) (l .1)
     g = f .0
 
     this : (u v : ℕ) → T (eqb (l .0) u && eqb (l .1) v) → (u < n) × (v < n) × (u ≡ v → ⊥)
@@ -135,11 +135,11 @@ reading-right text p q x e = at (parse 1024 16384 p q text) refl e
         let others : List ℕ = drop (length (neighboursFrom n G)) (replicate q 0) in
         let s : _≡_ {A = Size} (record { nodes = n; links = length ls }) x = cc in
         subst (λ (z : Size). IsRead text z (startsOf n G ++ more) (neighboursFrom n G ++ others)) s (record {
-          survey = lists-accepted n ls (r .some-node) (r .size) (r .few) (r .fresh) more others;
+          survey = lists-accepted n ls (r .within .some-node) (r .within .size) (r .within .few) (r .fresh) more others;
           links = ls;
           count = refl;
           lines = r .is-text;
-          exactly = links-exactly n ls (r .some-node) (r .size) (r .few) (r .fresh) more others;
+          exactly = links-exactly n ls (r .within .some-node) (r .within .size) (r .within .few) (r .fresh) more others;
         })
 
 -- ---- a graph's links in order: each once, and all of them
@@ -330,11 +330,13 @@ module _ (n : ℕ) (starts′ neighbours′ : List ℕ) (acc : Accepted n starts
       let x : Parsed = record { nodes = n; links = ls } in
       let m = length ls in
       let r = parse-complete 1024 16384 p q (omega arith) (omega arith) x (surveyText n (getD starts′ n 0 / 2) ls) (record {
-        some-node = acc .some-node;
-        size = acc .size;
-        few = omega (arith, half-count, acc .lists .links);
-        room = hp;
-        list-room = omega (arith, ordered-count);
+        within = record {
+          some-node = acc .some-node;
+          size = acc .size;
+          few = omega (arith, half-count, acc .lists .links);
+          room = hp;
+          list-room = omega (arith, ordered-count);
+        };
         is-text = ap (λ (k : ℕ). surveyText n k ls) half-count;
         fresh = all-fresh;
       }) in

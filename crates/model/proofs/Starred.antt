@@ -22,7 +22,7 @@ use Rattle.model.specs.Tables.{table, entry, fullTable, lowLinks, lowTab
 use Rattle.model.specs.Pair.{taken, attaining, choose, pairBy, pair}
 use Rattle.model.specs.Walk.{before, next, steps, byLow, toHub, join, nodes}
 use Rattle.model.specs.TwoOrFour.{sources, verdictOf, tested}
-use Rattle.model.specs.Reading.{named, onLinks, readLink, readLinks, parsed, parseFirst, parse, graphOf, startsOf, neighboursFrom, Reading, readingOf, reading}
+use Rattle.model.specs.Reading.{named, onLinks, linkOf, readOn, readLinks, parsed, countsOf, parseLinks, parse, graphOf, startsOf, neighboursFrom, Reading, readingOf, reading}
 use Rattle.model.specs.Building.{Building, built, building}
 use Rattle.model.specs.Asking.{asking}
 use Rattle.model.specs.Walking.{refuseWalk, fit, walkOf, walking}
@@ -134,6 +134,6 @@ unfolding starred allHold holds graph longAtAll shortAfter isLong isShort report
     onFirst split onFront cut twoNumbers withRest lineIn line lineOf linkLines surveyText neighboursOf linked ascending badSize isSurvey
     bitLength threshold isHigh isLow closed gain best greedy hubs hubList reach fewest table entry fullTable lowLinks lowTable sum via reportTable
     taken attaining choose pairBy pair before next steps byLow toHub join nodes sources verdictOf tested
-    named onLinks readLink readLinks parsed parseFirst parse graphOf startsOf neighboursFrom readingOf reading
+    named onLinks linkOf readOn readLinks parsed countsOf parseLinks parse graphOf startsOf neighboursFrom readingOf reading
     built building asking refuseWalk fit walkOf walking testing
 starred-cases = tt

@@ -112,7 +112,7 @@ either true true f = absurd (f tt tt)
 either true false f = refl
 either false y f = sym (zero-add (bit y))
 
-module _ (n : ℕ) (done : List (ℕ × ℕ)) (l : ℕ × ℕ) (f : Fresh n done l) where
+module _ (n : ℕ) (done : List (ℕ × ℕ)) (l : ℕ × ℕ) (f : Fresh n (named done) (l .0) (l .1)) where
   there : ℕ → ℕ → Bool
   there u v = eqb (l .0) u && eqb (l .1) v
 

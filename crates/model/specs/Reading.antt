@@ -7,7 +7,8 @@ use Prim.Native.Nat.{ℕ, zero, suc, _+_, _*_}
 use lib.Dec.{eqb, ltb, leb}
 use lib.ListN.{length, replicate}
 use Rattle.model.specs.declared.Size.{Size}
-use Rattle.model.specs.Answers.{Outcome, refused, answered}
+use Rattle.model.specs.declared.Reading as read
+use Rattle.model.specs.Answers.{Outcome, refused, answered, readAnswer}
 use Rattle.model.specs.Basics.{if_then_else_, upTo, keep, gather, over}
 use Rattle.model.specs.SurveyText.{line}
 use Rattle.model.specs.Survey.{Graph}
@@ -23,24 +24,26 @@ onLinks l (refused k) = refused k
 onLinks l (answered ls) = answered (l ∷ ls)
 
 -- "Then line by line: 1 wrong form or text ending inside a line; 4 a node of n or more; 5 both ends equal; 6 a link already given,
--- either way round." `done` are the links given before; `next` reads on
-unfoldable pub readLink : ℕ → List (ℕ × ℕ) → (ℕ → ℕ → List ℕ → Outcome (List (ℕ × ℕ))) → Option (ℕ × ℕ × List ℕ) → Outcome (List (ℕ × ℕ))
-readLink n done next missing = refused 1
-readLink n done next (some l) =
-    let a = l .0 in
-    let b = l .1 in
-    let rest = onLinks (a, b) (next a b (l .2)) in
-    if leb n a || leb n b then refused 4
-    else if eqb a b then refused 5
-    else if named done a b then refused 6
-    else rest
+-- either way round.": the link that a line names after the links `given`, and the text behind the line
+unfoldable pub linkOf : ℕ → (given : ℕ → ℕ → Bool) → Option (ℕ × ℕ × List ℕ) → Outcome (ℕ × ℕ × List ℕ)
+linkOf n given missing = refused 1
+linkOf n given (some l) =
+    if leb n (l .0) || leb n (l .1) then refused 4
+    else if eqb (l .0) (l .1) then refused 5
+    else if given (l .0) (l .1) then refused 6
+    else answered l
 
--- "7 the text ends at a line's end before m links, or a byte follows the m-th.": the links that m lines name
+-- the link that a line names, in front of those that `next` reads behind it
+unfoldable pub readOn : (next : ℕ → ℕ → List ℕ → Outcome (List (ℕ × ℕ))) → Outcome (ℕ × ℕ × List ℕ) → Outcome (List (ℕ × ℕ))
+readOn next (refused k) = refused k
+readOn next (answered l) = onLinks (l .0, l .1) (next (l .0) (l .1) (l .2))
+
+-- "7 the text ends at a line's end before m links, or a byte follows the m-th.": the links that m lines name after those of `done`
 unfoldable pub readLinks : ℕ → ℕ → List (ℕ × ℕ) → List ℕ → Outcome (List (ℕ × ℕ))
 readLinks n zero done [] = answered []
 readLinks n zero done (c ∷ text) = refused 7
 readLinks n (suc m) done [] = refused 7
-readLinks n (suc m) done (c ∷ text) = readLink n done (λ a b rest. readLinks n m ((a, b) ∷ done) rest) (line 76 (c ∷ text))
+readLinks n (suc m) done (c ∷ text) = readOn (λ a b rest. readLinks n m ((a, b) ∷ done) rest) (linkOf n (named done) (line 76 (c ∷ text)))
 
 -- what a text says: the count of nodes, and the links in the order of their lines
 pub record Parsed : Type 0 where
@@ -52,20 +55,21 @@ parsed n (refused k) = refused k
 parsed n (answered ls) = answered (record { nodes = n; links = ls })
 
 -- "First line: 1 not in the stated form; 2 n outside 1 to 1,024; 3 m above 16,384; 8 `starts` shorter than n + 1 or `neighbours`
--- shorter than 2m." The limits, and the lengths p and q of the two lists, are parameters
-unfoldable pub parseFirst : (mostNodes mostLinks p q : ℕ) → Option (ℕ × ℕ × List ℕ) → Outcome Parsed
-parseFirst mostNodes mostLinks p q missing = refused 1
-parseFirst mostNodes mostLinks p q (some f) =
-    let n = f .0 in
-    let m = f .1 in
-    let links = parsed n (readLinks n m [] (f .2)) in
-    if ltb n 1 || ltb mostNodes n then refused 2
-    else if ltb mostLinks m then refused 3
-    else if ltb p (n + 1) || ltb q (2 * m) then refused 8
-    else links
+-- shorter than 2m.": n, m and the text behind the line. The limits, and the lengths p and q of the two lists, are parameters
+unfoldable pub countsOf : (mostNodes mostLinks p q : ℕ) → Option (ℕ × ℕ × List ℕ) → Outcome (ℕ × ℕ × List ℕ)
+countsOf mostNodes mostLinks p q missing = refused 1
+countsOf mostNodes mostLinks p q (some f) =
+    if ltb (f .0) 1 || ltb mostNodes (f .0) then refused 2
+    else if ltb mostLinks (f .1) then refused 3
+    else if ltb p (f .0 + 1) || ltb q (2 * f .1) then refused 8
+    else answered f
+
+unfoldable pub parseLinks : Outcome (ℕ × ℕ × List ℕ) → Outcome Parsed
+parseLinks (refused k) = refused k
+parseLinks (answered f) = parsed (f .0) (readLinks (f .0) (f .1) [] (f .2))
 
 unfoldable pub parse : (mostNodes mostLinks p q : ℕ) → List ℕ → Outcome Parsed
-parse mostNodes mostLinks p q text = parseFirst mostNodes mostLinks p q (line 83 text)
+parse mostNodes mostLinks p q text = parseLinks (countsOf mostNodes mostLinks p q (line 83 text))
 
 -- the two lists of n nodes with these links
 unfoldable pub graphOf : ℕ → List (ℕ × ℕ) → Graph
@@ -82,6 +86,10 @@ pub record Reading : Type 0 where
   pub answer : Outcome Size
   pub starts : List ℕ
   pub neighbours : List ℕ
+
+-- what a call of the code returned and left in the two lists
+abbrev pub returned : read.Reading → List ℕ → List ℕ → Reading
+returned r s x = record { answer = readAnswer r; starts = s; neighbours = x }
 
 -- "Every refusal leaves both lists all zero; success leaves zero past the used entries, and the answer is n and m."
 unfoldable pub readingOf : (p q : ℕ) → Outcome Parsed → Reading

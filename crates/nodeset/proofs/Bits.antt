@@ -137,4 +137,3 @@ set-with ws v h = fun-ext (λ x. at x (decEq (x / 64) (v / 64)))
         (sym e)
     at x (no e) = ap (λ (w : ℕ). bit w (x % 64)) (getD-set-other ws (v / 64) (x / 64) new 0 e)
         ∙ sym (ap (λ (b : Bool). b || bit (getD ws (x / 64) 0) (x % 64)) (ne-eqb x v (λ (q : x ≡ v). e (ap (λ (y : ℕ). y / 64) q))))
-

@@ -15,4 +15,3 @@ wrote-small n h w = rw (digits-small n h) w
 pub wrote-more : {buf buf′ buf″ : List ℕ} {at i e : ℕ} (n : ℕ) → 10 ≤ n → at + length (digits n) ≤ length buf
     → Wrote buf buf′ at i (digits (n / 10)) → Wrote buf′ buf″ i e ((48 + n % 10) ∷ []) → Wrote buf buf″ at e (digits n)
 wrote-more n h r p q = rw (digits-more n h) (wrote-then (omega (arith, length-more n h)) p q)
-

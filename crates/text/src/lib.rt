@@ -121,6 +121,33 @@ pub fn scan_line(text: &[u8], at: usize, letter: u8) -> Line
     parse_line(text, at, letter)
 }
 
+// The line reader: the text, and the start of the next line.
+pub struct LineReader<'a> {
+    pub text: &'a [u8],
+    pub at: usize,
+}
+
+// A reader of the lines from a place on.
+pub fn lines_from<'a>(text: &'a [u8], at: usize) -> LineReader<'a>
+    ensures { λ r. ⌜ (r .text ≡ text .entry) × (r .at ≡ at) ⌝ }
+{
+    LineReader { text, at }
+}
+
+// The next line, by its letter.
+pub fn next_line<'a>(r: LineReader<'a>, letter: u8) -> Line
+    ensures { λ l. ⌜ found (now (r .entry .text)) l ≡ lineBy letter (drop (r .entry .at) (now (r .entry .text))) ⌝ }
+{
+    scan_line(r.text, r.at, letter)
+}
+
+// The line at a place, through the reader: plain parameters, so that a caller needs no walk.
+pub fn line_at(text: &[u8], at: usize, letter: u8) -> Line
+    ensures { λ r. ⌜ found (now (text .entry)) r ≡ lineBy letter (drop at (now (text .entry))) ⌝ }
+{
+    next_line(lines_from(text, at), letter)
+}
+
 // The number of digits of a number.
 pub fn digit_count(x: u32) -> usize
     ensures { λ r. ⌜ r ≡ length (digits x) ⌝ }

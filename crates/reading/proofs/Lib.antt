@@ -1,0 +1,4 @@
+pub mod LinkLaws
+pub mod Members
+pub mod ListLaws
+pub mod ReadLaws

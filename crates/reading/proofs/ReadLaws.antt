@@ -1,0 +1,196 @@
+-- The first line's tests, and how the matrix gives the two lists that reading states.
+-- Assumes nothing.
+use mathlib.Core.Path.{_≡_, refl, sym, ap, ap₂, _∙_, subst}
+use mathlib.Core.Bool.{false, _||_, or-true}
+use mathlib.Core.List.{List, [], _++_, append-nil}
+use mathlib.Core.Option.{none as missing, some}
+use Prim.Native.Nat.{ℕ, _+_, _-_, _*_, _≤_, _<_}
+use native.Mathlib.Omega.{arith}
+use borrow.Author.Tests.{lt-ltb, le-ltb}
+use lib.Dec.{T, ltb}
+use lib.ListN.{length, replicate, length-replicate}
+use Rattle.model.specs.Answers.{Outcome, refused, answered, number}
+use Rattle.model.specs.declared.Refusal.{Refusal}
+use Rattle.model.specs.declared.Reading.the-variants as read
+use Rattle.model.specs.Basics.{from, upTo, has, keep, over}
+use Rattle.model.specs.SurveyText.{line}
+use Rattle.model.specs.Reading.{named, readLinks, parsed, countsOf, parseLinks, parse, graphOf, startsOf, neighboursFrom, Reading, returned, readingOf, reading}
+use Rattle.model.proofs.Lists.{keep-append, keep-same, keep-none, upTo-add, of-from, of-upTo}
+use Rattle.model.proofs.Links.{Within, AllFresh, first-taken, of-first-taken, links-sound}
+use Rattle.model.specs.Demand.{ReadRight}
+use Rattle.model.proofs.ReadBack.{named-below, reading-right}
+use Rattle.model.proofs.SurveyLists.{neighbours-length, starts-same, neighbours-same}
+use Rattle.model.proofs.Tests.{or-false as neither}
+use Rattle.model.proofs.Totals.{links-total}
+use Rattle.reading.specs.Links.{linksIn, Holds, Told, rowsIn}
+use Rattle.reading.specs.declared.Links.the-variants as links
+
+-- ---- the first line
+
+module _ (N M p q : ℕ) (s : List ℕ) where
+  pub counts-malformed : line 83 s ≡ missing → countsOf N M p q (line 83 s) ≡ refused 1
+  unfolding countsOf
+  counts-malformed l = ap (countsOf N M p q) l
+
+  module _ (n m : ℕ) (rest : List ℕ) (l : line 83 s ≡ some (n, m, rest)) where
+    pub no-node : n < 1 → countsOf N M p q (line 83 s) ≡ refused 2
+    unfolding countsOf
+    no-node k = ap (countsOf N M p q) l ∙ rw (lt-ltb n 1 k) refl
+
+    pub many-nodes : N < n → countsOf N M p q (line 83 s) ≡ refused 2
+    unfolding countsOf
+    many-nodes k = ap (countsOf N M p q) l ∙ rw (lt-ltb N n k, or-true (ltb n 1)) refl
+
+    module _ (h : 1 ≤ n) (k : n ≤ N) where
+      sized : (ltb n 1 || ltb N n) ≡ false
+      sized = neither (ltb n 1) (ltb N n) (le-ltb n 1 h) (le-ltb N n k)
+
+      pub many-links : M < m → countsOf N M p q (line 83 s) ≡ refused 3
+      unfolding countsOf
+      many-links j = ap (countsOf N M p q) l ∙ rw (sized, lt-ltb M m j) refl
+
+      module _ (i : m ≤ M) where
+        pub short-starts : p < n + 1 → countsOf N M p q (line 83 s) ≡ refused 8
+        unfolding countsOf
+        short-starts j = ap (countsOf N M p q) l ∙ rw (sized, le-ltb M m i, lt-ltb p (n + 1) j) refl
+
+        pub short-neighbours : q < 2 * m → countsOf N M p q (line 83 s) ≡ refused 8
+        unfolding countsOf
+        short-neighbours j = ap (countsOf N M p q) l ∙ rw (sized, le-ltb M m i, lt-ltb q (2 * m) j, or-true (ltb p (n + 1))) refl
+
+        pub counted : n + 1 ≤ p → 2 * m ≤ q → countsOf N M p q (line 83 s) ≡ answered (n, m, rest)
+        counted r j =
+            ap (countsOf N M p q) l
+            ∙ first-taken N M p q (n, m, rest) (record { some-node = h; size = k; few = i; room = r; list-room = j })
+
+  pub parse-refused : (k : ℕ) → countsOf N M p q (line 83 s) ≡ refused k → readingOf p q (parse N M p q s) ≡ readingOf p q (refused k)
+  unfolding parse parseLinks
+  parse-refused k e = ap (λ (o : Outcome (ℕ × ℕ × List ℕ)). readingOf p q (parseLinks o)) e
+
+  pub parse-counted : (n m : ℕ) (rest : List ℕ) → countsOf N M p q (line 83 s) ≡ answered (n, m, rest) → parse N M p q s ≡ parsed n (readLinks n m [] rest)
+  unfolding parse parseLinks
+  parse-counted n m rest e = ap parseLinks e
+
+  pub counts-within : (n m : ℕ) (rest : List ℕ) → countsOf N M p q (line 83 s) ≡ answered (n, m, rest) → Within N M p q n m
+  counts-within n m rest e = of-first-taken N M p q (line 83 s) (n, m, rest) e .1
+
+-- ---- the two lists
+
+-- the matrix has the rows of the links' graph
+module _ (n : ℕ) (size : n ≤ 1024) (ws : List ℕ) (ls : List (ℕ × ℕ)) (held : Holds ws ls) (fresh : AllFresh n [] ls) where
+  rows-same : (v : ℕ) → v < n → rowsIn ws v ≡ graphOf n ls v
+  unfolding rowsIn graphOf
+  rows-same v h =
+      let e : upTo 1024 ≡ upTo n ++ from n (1024 - n) = upTo-add n (1024 - n) 1024 (omega arith) in
+      keep-same (linksIn ws v) (named ls v) (upTo 1024) (λ u k t. subst T (says u k) t) (λ u k t. subst T (sym (says u k)) t)
+      ∙ ap (keep (named ls v)) e
+      ∙ keep-append (named ls v) (upTo n) (from n (1024 - n))
+      ∙ ap (λ (l : List ℕ). keep (named ls v) (upTo n) ++ l)
+      (keep-none (named ls v) (from n (1024 - n)) (λ u k t. omega (arith, of-from n (1024 - n) u k, named-below n ls [] fresh v u t)))
+      ∙ append-nil (keep (named ls v) (upTo n))
+    where
+      says : (u : ℕ) → T (has u (upTo 1024)) → linksIn ws v u ≡ named ls v u
+      says u k = held .says v u (omega arith) (of-upTo 1024 u k)
+
+  few-entries : length (neighboursFrom n (rowsIn ws)) ≡ 2 * length ls
+  few-entries = ap length (neighbours-same n (rowsIn ws) (graphOf n ls) rows-same) ∙ neighbours-length n (graphOf n ls) ∙ links-total n ls fresh
+
+  lists-read : (p q : ℕ) → record {
+    answer = answered (record { nodes = n; links = length ls });
+    starts = over (startsOf n (rowsIn ws)) (replicate p 0);
+    neighbours = over (neighboursFrom n (rowsIn ws)) (replicate q 0);
+  } ≡ readingOf p q (answered (record { nodes = n; links = ls }))
+  unfolding readingOf
+  lists-read p q i = record {
+    answer = answered (record { nodes = n; links = length ls });
+    starts = over (starts-same n (rowsIn ws) (graphOf n ls) rows-same i) (replicate p 0);
+    neighbours = over (neighbours-same n (rowsIn ws) (graphOf n ls) rows-same i) (replicate q 0);
+  }
+
+-- what reading answers and leaves where the link lines were read into a matrix
+pub record Filled (n m p q : ℕ) (t ws : List ℕ) : Type 0 where
+  pub long : length ws ≡ 16384
+  pub few : length (neighboursFrom n (rowsIn ws)) ≡ 2 * m
+  pub is : record {
+    answer = answered (record { nodes = n; links = m });
+    starts = over (startsOf n (rowsIn ws)) (replicate p 0);
+    neighbours = over (neighboursFrom n (rowsIn ws)) (replicate q 0);
+  } ≡ readingOf p q (parsed n (readLinks n m [] t))
+
+module _ (n m p q : ℕ) (t ws : List ℕ) where
+  pub links-refused : (r : Refusal) → Told (readLinks n m [] t) (links.Refused r) ws → readingOf p q (refused (number r)) ≡ readingOf p q (parsed n (readLinks n m [] t))
+  unfolding parsed
+  links-refused r e = at (readLinks n m [] t) e
+    where
+      at : (o : Outcome (List (ℕ × ℕ))) → Told o (links.Refused r) ws → readingOf p q (refused (number r)) ≡ readingOf p q (parsed n o)
+      at (refused k) e = ap (λ (j : ℕ). readingOf p q (refused j)) e
+      at (answered ls) e = absurd (let z : _≡_ {A = ℕ} 0 1 = cc in omega arith)
+
+  pub links-taken : n ≤ 1024 → Told (readLinks n m [] t) links.Taken ws → Filled n m p q t ws
+  unfolding parsed
+  links-taken size e = at (readLinks n m [] t) refl e
+    where
+      at : (o : Outcome (List (ℕ × ℕ))) → readLinks n m [] t ≡ o → Told o links.Taken ws → Filled n m p q t ws
+      at (refused k) h e = absurd e
+      at (answered ls) h e =
+          let g = links-sound n m [] t ls h in
+          record {
+            long = e .1 .long;
+            few = few-entries n size ws ls (e .1) (g .fresh) ∙ ap (λ (k : ℕ). 2 * k) (g .count);
+            is =
+                ap (λ (k : ℕ). record {
+                  answer = answered (record { nodes = n; links = k });
+                  starts = over (startsOf n (rowsIn ws)) (replicate p 0);
+                  neighbours = over (neighboursFrom n (rowsIn ws)) (replicate q 0);
+                }) (sym (g .count))
+                ∙ lists-read n size ws ls (e .1) (g .fresh) p q
+                ∙ ap (λ (o : Outcome (List (ℕ × ℕ))). readingOf p q (parsed n o)) (sym h);
+          }
+
+  -- lists that were all zero before the rows were written
+  pub read-written : Filled n m p q t ws → (s₀ x₀ s x : List ℕ) → s₀ ≡ replicate p 0 → x₀ ≡ replicate q 0
+      → s ≡ over (startsOf n (rowsIn ws)) s₀ → x ≡ over (neighboursFrom n (rowsIn ws)) x₀
+      → returned (read.Read (record { nodes = n; links = m })) s x ≡ readingOf p q (parsed n (readLinks n m [] t))
+  read-written f s₀ x₀ s x hs hx es ex =
+      ap₂ (λ (a b : List ℕ). returned (read.Read (record { nodes = n; links = m })) a b)
+      (es ∙ ap (over (startsOf n (rowsIn ws))) hs) (ex ∙ ap (over (neighboursFrom n (rowsIn ws))) hx)
+      ∙ f .is
+
+-- refused, the lists are as they were
+pub read-refused : (p q : ℕ) (r : Refusal) (s x : List ℕ) → s ≡ replicate p 0 → x ≡ replicate q 0 → returned (read.Refused r) s x ≡ readingOf p q (refused (number r))
+unfolding readingOf
+read-refused p q r s x hs hx = ap₂ (λ (a b : List ℕ). returned (read.Refused r) a b) hs hx
+
+-- ---- the whole text, read into lists s and x that were cleared
+
+module _ (N M : ℕ) (text s₀ x₀ s x : List ℕ) (hs : s ≡ replicate (length s₀) 0) (hx : x ≡ replicate (length x₀) 0) where
+  same-s : length s ≡ length s₀
+  same-s = ap length hs ∙ length-replicate (length s₀) 0
+
+  same-x : length x ≡ length x₀
+  same-x = ap length hx ∙ length-replicate (length x₀) 0
+
+  pub cleared : (s ≡ replicate (length s) 0) × (x ≡ replicate (length x) 0)
+  cleared = (hs ∙ ap (λ (k : ℕ). replicate k 0) (sym same-s), hx ∙ ap (λ (k : ℕ). replicate k 0) (sym same-x))
+
+  -- the lengths are those of the lists before
+  lengths : (P : ℕ → ℕ → Type 0) → P (length s) (length x) → P (length s₀) (length x₀)
+  lengths P h = subst (λ (q : ℕ). P (length s₀) q) same-x (subst (λ (p : ℕ). P p (length x)) same-s h)
+
+  pub first-refused : (r : Refusal) → refused (number r) ≡ countsOf N M (length s) (length x) (line 83 text)
+      → returned (read.Refused r) s x ≡ readingOf (length s₀) (length x₀) (parse N M (length s₀) (length x₀) text)
+  first-refused r e =
+      lengths (λ p q. returned (read.Refused r) s x ≡ readingOf p q (parse N M p q text))
+      (read-refused (length s) (length x) r s x (cleared .0) (cleared .1) ∙ sym (parse-refused N M (length s) (length x) text (number r) (sym e)))
+
+  pub first-read : (n m : ℕ) (rest : List ℕ) → answered (n, m, rest) ≡ countsOf N M (length s) (length x) (line 83 text)
+      → (r : Reading) → r ≡ readingOf (length s) (length x) (parsed n (readLinks n m [] rest))
+      → r ≡ readingOf (length s₀) (length x₀) (parse N M (length s₀) (length x₀) text)
+  first-read n m rest e r h =
+      lengths (λ p q. r ≡ readingOf p q (parse N M p q text))
+      (h ∙ sym (ap (readingOf (length s) (length x)) (parse-counted N M (length s) (length x) text n m rest (sym e))))
+
+-- within document 01's limits
+pub read-is : (text : List ℕ) (p q : ℕ) (r : Reading) → r ≡ readingOf p q (parse 1024 16384 p q text) → (r ≡ reading text p q) × ReadRight text r
+unfolding reading
+read-is text p q r e = (e, subst (λ (x : Reading). ReadRight text x) (sym e) (reading-right text p q))

@@ -1,0 +1,69 @@
+-- `reading::write_row` meets its contract: after w words the row's part below 64 * w is written.
+-- Assumes nothing.
+use Prim.Native.Nat.{_-_, _≤_}
+use native.Mathlib.Omega.{arith}
+use Rattle.lists.specs.Writing.{Wrote}
+use Rattle.reading.proofs.ListLaws.{rowTo, row-none, word-fits, word-more, row-long, row-whole}
+use Rattle.reading.proofs.write_row.Statement.{statement}
+use Rattle.reading.proofs.write_row.Tie as tie
+
+abbrev Inv-loop : tie.InvT-loop
+Inv-loop bits v neighbours₀ at pos₀ w₀ neighbours pos w = (w ≤ 16) × Wrote neighbours₀ neighbours at pos (rowTo bits v w)
+
+abbrev μ-loop : tie.MeasureT-loop
+μ-loop bits v neighbours₀ at pos₀ w₀ neighbours pos w = 16 - w
+
+loop-holds : tie.Need-loop-holds Inv-loop μ-loop
+loop-holds c = (omega arith, row-none ((c .before .before .args .bits .now)) ((c .before .before .args .v)) ((c .before .before .args .neighbours .now)) ((c .before .before .args .at)))
+
+mul-word : tie.Need-mul-word Inv-loop μ-loop
+mul-word c = omega (arith, (c .before .before .before .before .pre .0))
+
+add-word : tie.Need-add-word Inv-loop μ-loop
+add-word c = omega (arith, (c .before .before .before .before .pre .0))
+
+mul-word-2 : tie.Need-mul-word-2 Inv-loop μ-loop
+mul-word-2 c = omega (arith, (c .before .before .before .before .pre .0), (c .before .before .before .before .pre .1))
+
+shared-slice-read-word : tie.Need-shared-slice-read-word Inv-loop μ-loop
+shared-slice-read-word c = omega (arith, (c .before .before .before .before .before .pre .0), (c .before .before .before .before .before .pre .1))
+
+mul-write-word : tie.Need-mul-write-word Inv-loop μ-loop
+mul-write-word c = omega arith
+
+write-word-requires : tie.Need-write-word-requires Inv-loop μ-loop
+write-word-requires c κs = (omega arith, word-fits ((c .before .before .before .before .before .before .args .bits .now)) ((c .before .before .before .before .before .before .args .v)) ((c .before .before .before .loop .w)) ((c .before .before .loop-test .taken)) ((c .before .before .before .before .before .before .args .neighbours .now)) ((c .before .before .before .loop .neighbours)) ((c .before .before .before .before .before .before .args .at)) ((c .before .before .before .loop .pos)) ((c .before .before .before .before .before .before .pre .2)) ((c .before .before .before .loop .inv .1)))
+
+add-w : tie.Need-add-w Inv-loop μ-loop
+add-w c = omega arith
+
+loop-less : tie.Need-loop-less Inv-loop μ-loop
+loop-less c = omega arith
+
+loop-again : tie.Need-loop-again Inv-loop μ-loop
+loop-again c = (omega arith, word-more ((c .before .before .before .before .before .before .before .before .before .args .bits .now)) ((c .before .before .before .before .before .before .before .before .before .args .v)) ((c .before .before .before .before .before .before .loop .w)) ((c .before .before .before .before .before .loop-test .taken)) ((c .before .before .before .before .before .before .before .before .before .args .neighbours .now)) ((c .before .before .before .before .before .before .loop .neighbours)) ((c .before .before .before .before .before .before .before .before .before .args .at)) ((c .before .before .before .before .before .before .loop .pos)) ((c .before .before .before .before .before .before .before .before .before .pre .2)) ((c .before .before .before .before .before .before .loop .inv .1)) ((c .before .before .write-word .last .1 .1 .0)) _ ((c .before .before .write-word .ensures)))
+
+same-length : tie.Need-same-length Inv-loop μ-loop
+same-length c = row-long ((c .before .before .before .before .args .bits .now)) ((c .before .before .before .before .args .v)) ((c .before .before .before .before .args .neighbours .now)) ((c .before .before .before .before .args .at)) ((c .before .loop .w)) ((c .before .loop .neighbours)) ((c .before .loop .pos)) ((c .before .loop .inv .0)) ((c .before .before .before .before .pre .2)) ((c .before .loop .inv .1))
+
+returns : tie.Need-returns Inv-loop μ-loop
+returns c = row-whole ((c .before .before .before .before .args .bits .now)) ((c .before .before .before .before .args .v)) ((c .before .before .before .before .args .neighbours .now)) ((c .before .before .before .before .args .at)) ((c .before .loop .w)) ((c .before .loop .neighbours)) ((c .before .loop .pos)) ((c .before .loop .inv .0)) ((c .loop-test .left)) ((c .before .loop .inv .1))
+
+pub write-row-spec : {M : Type 1} → statement M
+write-row-spec =
+    tie.close
+    (tie.spec
+    Inv-loop
+    μ-loop
+    loop-holds
+    mul-word
+    add-word
+    mul-word-2
+    shared-slice-read-word
+    mul-write-word
+    write-word-requires
+    add-w
+    loop-less
+    loop-again
+    same-length
+    returns)

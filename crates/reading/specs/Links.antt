@@ -1,0 +1,58 @@
+-- The links read so far as a bit matrix, and what the next line makes of them.
+-- Assumes nothing.
+use mathlib.Core.Bool.{Bool}
+use mathlib.Core.List.{List, [], _∷_}
+use mathlib.Core.Path.{_≡_}
+use Prim.Native.Nat.{ℕ, zero, suc, _+_, _*_, _/_, _%_, _<_}
+use lib.Dec.{eqb}
+use lib.ListN.{length, drop}
+use Rattle.model.specs.Answers.{Outcome, refused, answered, number}
+use Rattle.model.specs.Basics.{if_then_else_, upTo, keep}
+use Rattle.model.specs.Survey.{Graph}
+use Rattle.model.specs.SurveyText.{line}
+use Rattle.model.specs.Reading.{named, linkOf}
+use Rattle.nodeset.specs.NodeSet.{member}
+use Rattle.reading.specs.declared.Step.{Step}
+use Rattle.reading.specs.declared.Step.the-variants as step
+use Rattle.reading.specs.declared.Links.{Links}
+use Rattle.reading.specs.declared.Links.the-variants as links
+use Rattle.reading.specs.declared.First.{First}
+use Rattle.reading.specs.declared.First.the-variants as first
+
+-- the matrix of 1,024 x 1,024 bits, row by row: link a-b is number 1024 * a + b
+unfoldable pub linksIn : List ℕ → ℕ → ℕ → Bool
+linksIn ws a b = member ws (1024 * a + b)
+
+-- a matrix with exactly these links
+pub record Holds (ws : List ℕ) (ls : List (ℕ × ℕ)) : Type 0 where
+  pub long : length ws ≡ 16384
+  pub says : (a b : ℕ) → a < 1024 → b < 1024 → linksIn ws a b ≡ named ls a b
+
+-- what the next line says after the links of E, in a text that may be at its end
+unfoldable pub linkIn : ℕ → (ℕ → ℕ → Bool) → List ℕ → Outcome (ℕ × ℕ × List ℕ)
+linkIn n E [] = refused 7
+linkIn n E (c ∷ text) = linkOf n E (line 76 (c ∷ text))
+
+-- what the cases of the code's answers stand for, in a text s
+abbrev pub stepAnswer : List ℕ → Step → Outcome (ℕ × ℕ × List ℕ)
+stepAnswer s (step.Link a b e) = answered (a, b, drop e s)
+stepAnswer s (step.Refused r) = refused (number r)
+
+-- the link lines were read into the matrix, or refused
+abbrev pub Told : Outcome (List (ℕ × ℕ)) → Links → List ℕ → Type 0
+Told (answered ls) r ws = (r ≡ links.Taken) × Holds ws ls
+Told (refused k) (links.Refused r) ws = number r ≡ k
+Told (refused k) links.Taken ws = ⊥
+
+abbrev pub firstAnswer : List ℕ → First → Outcome (ℕ × ℕ × List ℕ)
+firstAnswer s (first.Counts n m e) = answered (n, m, drop e s)
+firstAnswer s (first.Refused r) = refused (number r)
+
+-- the set bits of the k lowest of a word, ascending, where the lowest bit stands for the number u
+unfoldable pub membersFrom : ℕ → ℕ → ℕ → List ℕ
+membersFrom zero u w = []
+membersFrom (suc k) u w = let rest = membersFrom k (suc u) (w / 2) in if eqb (w % 2) 1 then u ∷ rest else rest
+
+-- the graph of the matrix: each node's neighbours, ascending
+unfoldable pub rowsIn : List ℕ → Graph
+rowsIn ws v = keep (linksIn ws v) (upTo 1024)
