@@ -1,6 +1,6 @@
 -- What demand 3 compares: chains (walks in a graph) and the fewest links (the distance) of two nodes.
 -- Assumes nothing.
-use mathlib.Core.Bool.{Bool, _||_}
+use mathlib.Core.Bool.{Bool, _&&_, _||_}
 use mathlib.Core.List.{List, [], _∷_}
 use Prim.Native.Nat.{ℕ, zero, suc, _≤_}
 use lib.Dec.{T}
@@ -9,6 +9,10 @@ use Rattle.model.specs.Basics.{none, upTo, has, any, keep, firstOf}
 -- the links taken: E a b where a and b are linked
 abbrev pub Edges : Type 0
 Edges = ℕ → ℕ → Bool
+
+-- the links whose two ends pass a test (an induced subgraph)
+abbrev pub between : (ℕ → Bool) → Edges → Edges
+between p E a b = p a && p b && E a b
 
 -- "A chain is a list of one or more nodes, each linked to the next. It joins its first node and its last": Chain E k a b is
 -- one of k links that joins a and b

@@ -8,7 +8,7 @@ use Prim.Native.Nat.{ℕ, _+_, _*_, min}
 use lib.Dec.{eqb}
 use lib.ListN.{getD, take}
 use Rattle.model.specs.Basics.{none, if_then_else_, upTo, has, gather}
-use Rattle.model.specs.Graph.{Edges, fewest}
+use Rattle.model.specs.Graph.{Edges, between, fewest}
 use Rattle.model.specs.Survey.{Graph, linked}
 use Rattle.model.specs.Hubs.{isLow, hubs, hubList}
 
@@ -25,7 +25,7 @@ fullTable n s G = let hs = hubs n s G in table n (λ h b. if has h hs then fewes
 
 -- the links whose two ends are low
 unfoldable pub lowLinks : ℕ → ℕ → Graph → Edges
-lowLinks n s G a b = isLow s G a && isLow s G b && linked n G a b
+lowLinks n s G = between (isLow s G) (linked n G)
 
 -- "entry (a, b) is the fewest links using low nodes only, if both are low and so joined; else none"
 unfoldable pub lowTable : ℕ → ℕ → Graph → List ℕ
