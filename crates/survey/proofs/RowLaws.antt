@@ -6,6 +6,7 @@ use Prim.Native.Nat.{ℕ, zero, suc, _+_, _-_, _≤_, _<_}
 use native.Mathlib.Nat.{add-zero, le-refl}
 use native.Mathlib.Omega.{arith}
 use lib.ListN.{length, getD}
+use Rattle.model.specs.Survey.{Accepted}
 use Rattle.survey.specs.Rows.{Rows}
 
 module _ (n : ℕ) (starts neighbours : List ℕ) (r : Rows n starts neighbours) where
@@ -29,3 +30,7 @@ module _ (n : ℕ) (starts neighbours : List ℕ) (r : Rows n starts neighbours)
 
   pub part : (v : ℕ) → v < n → Part v
   part v h = record { from-to = r .rising v h; end = start-within (v + 1) (omega arith) }
+
+-- an accepted survey's rows can be read
+pub rows-of : {n : ℕ} {starts neighbours : List ℕ} → Accepted n starts neighbours → Rows n starts neighbours
+rows-of a = record { few = a .size; room = a .room; first = a .lists .first; rising = a .lists .rising; within = a .lists .within }
