@@ -1,20 +1,19 @@
--- Breadth-first search finds the fewest links: the argument over the row and the queue alone, for any links. `Invariant` holds between two
--- nodes taken from the queue's head; `all-keep` visits a node's neighbours, `advance` moves the head on, `distances` reads the end.
+-- Breadth-first search finds the fewest links: the argument over the row and the queue alone, for any links.
 -- Assumes nothing.
 use mathlib.Core.Path.{_≡_, refl, sym, ap, _∙_, subst, subst₂}
 use mathlib.Core.Logic.{_⊎_, inl, inr}
 use mathlib.Core.Bool.{Bool, true, false, _&&_}
 use mathlib.Core.List.{List, [], _∷_, map}
-use Prim.Native.Nat.{ℕ, suc, _+_, _≤_, _<_}
+use Prim.Native.Nat.{ℕ, _+_, _≤_, _<_}
 use native.Mathlib.Nat.{le-refl, le-trans}
 use native.Mathlib.Numerals.{add-one}
 use native.Mathlib.Omega.{arith}
 use lib.Dec.{T, eqb}
-use lib.ListN.{length, getD, set, length-set}
+use lib.ListN.{length, getD, length-set}
 use lib.Seq.{getD-set-same, getD-set-other, ext-getD}
 use Rattle.model.specs.Basics.{none, if_then_else_, has, upTo}
 use Rattle.model.specs.Graph.{Edges, Chain, here, link, Apart, Fewest, fewest}
-use Rattle.model.proofs.Tests.{eq-or, lt-or, is, isnt}
+use Rattle.model.proofs.Tests.{eq-or, is, isnt}
 use Rattle.model.proofs.Lists.{none-in, of-single, of-cons, has-head, has-tail}
 use Rattle.model.proofs.Loops.{below-next}
 use Rattle.model.proofs.Entries.{getD-row, length-row}
@@ -36,7 +35,7 @@ Queued p v = (i : ℕ) × (i < p .tail) × (at p i ≡ v)
 abbrev pub Within : Progress → ℕ → ℕ → Type 0
 Within p d v = (i : ℕ) × (i < p .tail) × (at p i ≡ v) × (dist p i ≤ d)
 
--- a search from s over n nodes, where the nodes before the head were taken
+-- a search from s over n nodes, between two turns: the nodes of the queue before the head were taken
 pub record Invariant (E : Edges) (s n : ℕ) (p : Progress) (head : ℕ) : Type 0 where
   -- sizes: as many nodes are in the queue as have a distance
   pub few : n ≤ 1024

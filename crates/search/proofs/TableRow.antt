@@ -24,6 +24,6 @@ module _ (n s : ℕ) (table : List ℕ) (h : s < n) (room : n * n ≤ length tab
   pub part-length : length (midOf (s * n) (s * n + n - s * n) table) ≡ n
   part-length = mid-len (s * n) (s * n + n) table row-ends ∙ add-sub-cancel-left (s * n) n
 
-  pub row-put : (part row : List ℕ) → length part ≡ n → part ≡ row → putMid (s * n) (s * n + n - s * n) table part ≡ written table (s * n) row
-  row-put part row l e =
-      put-written table (s * n) (s * n + n - s * n) part (l ∙ sym (add-sub-cancel-left (s * n) n)) ∙ ap (written table (s * n)) e
+pub row-put : (n s : ℕ) (table part row : List ℕ) → length part ≡ n → part ≡ row → putMid (s * n) (s * n + n - s * n) table part ≡ written table (s * n) row
+row-put n s table part row l e =
+    put-written table (s * n) (s * n + n - s * n) part (l ∙ sym (add-sub-cancel-left (s * n) n)) ∙ ap (written table (s * n)) e

@@ -15,7 +15,7 @@ use Rattle.model.specs.Graph.{Edges, between, Chain, here, link, fewest}
 use Rattle.model.specs.Survey.{Graph, linked, IsGraph}
 use Rattle.model.proofs.Tests.{and-l, and-r, and-i, eq-or}
 use Rattle.model.proofs.Acceptance.{linked-has, linked-of, linked-ends}
-use Rattle.search.specs.Visiting.{unreached, Progress, progress, visitedAll}
+use Rattle.search.specs.Visiting.{Progress, progress, visitedAll}
 use Rattle.search.proofs.Visiting.{unreached-set, unreached-all}
 use Rattle.search.proofs.Bfs.{at, dist, Queued, Invariant, Kept, all-keep, advance, distances}
 

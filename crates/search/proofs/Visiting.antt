@@ -13,7 +13,7 @@ use Rattle.model.specs.Basics.{none, if_then_else_, has, keep}
 use Rattle.model.proofs.Tests.{picked, and-l, true-T}
 use Rattle.model.proofs.Ascending.{getD-has}
 use Rattle.model.proofs.Loops.{drop-next}
-use Rattle.search.specs.Visiting.{unreached, Progress, progress, joined, visited, visitedAll}
+use Rattle.search.specs.Visiting.{unreached, Progress, joined, visited, visitedAll}
 
 -- ---- nodes without a distance
 

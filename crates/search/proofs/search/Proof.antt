@@ -2,9 +2,9 @@
 -- Assumes nothing.
 use mathlib.Core.Path.{refl, sym, ap, _∙_}
 use mathlib.Core.Bool.{Bool}
-use Prim.Native.Nat.{ℕ, _-_}
+use Prim.Native.Nat.{ℕ, _-_, _<_}
 use native.Mathlib.Omega.{arith}
-use lib.ListN.{replicate}
+use lib.ListN.{getD, replicate}
 use borrow.Author.Needs.{needs}
 use Rattle.model.specs.Basics.{none}
 use Rattle.model.specs.Graph.{between}
@@ -24,30 +24,56 @@ Inv-loop n starts neighbours allowed source row₀ queue₀ head₀ tail₀ row 
 abbrev μ-loop : tie.MeasureT-loop
 μ-loop n starts neighbours allowed source row₀ queue₀ head₀ tail₀ row queue head tail = n - head
 
--- the allowed nodes, and the graph
+-- where the loop begins, and where one of its turns does
+abbrev Begun : Type 0
+Begun = tie.After-slice-known2 Inv-loop μ-loop
+
+abbrev Turn : Type 0
+Turn = tie.In-loop Inv-loop μ-loop
+
+abbrev start : Begun → tie.Start Inv-loop μ-loop
+start c = c .before .before .before .before .before .before .before .before
+
+-- the allowed nodes and the graph
 abbrev allowed-by : tie.Start Inv-loop μ-loop → ℕ → Bool
 allowed-by s = member (s .args .allowed .now)
 
 abbrev graph : tie.Start Inv-loop μ-loop → Graph
 graph s = neighboursOf (s .args .starts .now) (s .args .neighbours .now)
 
+-- the node at the head
+abbrev node : Turn → ℕ
+node c = getD (c .before .loop .queue) (c .before .loop .head) 0
+
+ahead : (c : Turn) → c .before .loop .head < c .before .loop .tail
+ahead c = omega arith
+
+below : (c : Turn) → node c < start (c .before .before) .args .n
+below c = c .before .loop .inv .node (c .before .loop .head) (ahead c)
+
+near : (c : Turn) → getD (c .before .loop .row) (node c) 0 < 1024
+near c = let S = c .before .loop .inv in omega (arith, S .small (c .before .loop .head) (ahead c), S .count, S .few)
+
 fill16-requires : tie.Need-fill16-requires Inv-loop μ-loop
 fill16-requires c κs = search needs
 
 mul-row : tie.Need-mul-row Inv-loop μ-loop
-mul-row c = omega (arith, (c .before .before .fill16 .kept .0))
+mul-row c = omega (arith, c .before .before .fill16 .kept .0)
 
 slice-write-row : tie.Need-slice-write-row Inv-loop μ-loop
-slice-write-row c = omega (arith, (c .before .before .fill16 .kept .0))
+slice-write-row c = omega (arith, c .before .before .fill16 .kept .0)
 
 cast-queue : tie.Need-cast-queue Inv-loop μ-loop
-cast-queue c = omega (arith, (c .before .before .before .before .before .before .before .before .pre .0 .0 .size))
+cast-queue c = omega (arith, start c .pre .0 .0 .size)
 
 array-write-queue : tie.Need-array-write-queue Inv-loop μ-loop
 array-write-queue c = search needs
 
 loop-holds : tie.Need-loop-holds Inv-loop μ-loop
-loop-holds c = search-start _ (c .before .before .before .before .before .before .before .before .args .source) (c .before .before .before .before .before .before .before .before .args .n) (c .before .before .before .before .before .before .before .before .pre .0 .0 .size) (c .before .before .before .before .before .before .before .before .pre .1 .0) _ refl refl _ ((c .before .before .fill16 .ensures) ∙ ap (λ (k : ℕ). replicate k none) (c .before .before .before .before .before .before .before .before .pre .1 .2))
+loop-holds c =
+    let s = start c in
+    search-start _ (s .args .source) (s .args .n) (s .pre .0 .0 .size) (s .pre .1 .0) _ refl refl _
+    (c .before .before .fill16 .ensures ∙ ap (λ (k : ℕ). replicate k none) (s .pre .1 .2))
 
 mul-v : tie.Need-mul-v Inv-loop μ-loop
 mul-v c = omega arith
@@ -56,37 +82,49 @@ array-read-v : tie.Need-array-read-v Inv-loop μ-loop
 array-read-v c = omega arith
 
 cast-v : tie.Need-cast-v Inv-loop μ-loop
-cast-v c = omega (arith, (c .before .loop .inv .node) (c .before .loop .head) (c .loop-test .taken), (c .before .loop .inv .few))
+cast-v c = omega (arith, below c)
 
 mul-d : tie.Need-mul-d Inv-loop μ-loop
-mul-d c = omega (arith, (c .before .loop .inv .node) (c .before .loop .head) (c .loop-test .taken), (c .before .loop .inv .few))
+mul-d c = omega (arith, below c)
 
 slice-read-d : tie.Need-slice-read-d Inv-loop μ-loop
-slice-read-d c = omega (arith, (c .before .before .loop .inv .node) (c .before .before .loop .head) (c .before .loop-test .taken), (c .before .before .loop .inv .row-length))
+slice-read-d c = omega (arith, below (c .before))
 
 add-d : tie.Need-add-d Inv-loop μ-loop
-add-d c = omega (arith, (c .before .before .loop .inv .small) (c .before .before .loop .head) (c .before .loop-test .taken), (c .before .before .loop .inv .count), (c .before .before .loop .inv .few))
+add-d c = omega (arith, near (c .before))
 
 own-requires : tie.Need-own-requires Inv-loop μ-loop
-own-requires c κs = (rows-of (c .before .before .before .before .before .before .before .before .before .before .before .pre .0 .0), (c .before .before .loop .inv .node) (c .before .before .loop .head) (c .before .loop-test .taken))
+own-requires c κs = (rows-of (start (c .before .before .before) .pre .0 .0), below (c .before))
 
 visit-all-requires : tie.Need-visit-all-requires Inv-loop μ-loop
-visit-all-requires c κs = ((own-below (allowed-by (c .before .before .before .before .before .before .before .before .before .before .before .before .before .before)) (c .before .before .before .before .before .before .before .before .before .before .before .before .before .before .args .n) (graph (c .before .before .before .before .before .before .before .before .before .before .before .before .before .before)) _ _ _ (c .before .before .before .before .before .loop .inv) (c .before .before .before .before .loop-test .taken) (c .before .before .before .before .before .before .before .before .before .before .before .before .before .before .pre .0 .0 .lists .graph) _ (c .before .before .own .ensures), omega (arith, (c .before .before .before .before .before .loop .inv .small) (c .before .before .before .before .before .loop .head) (c .before .before .before .before .loop-test .taken), (c .before .before .before .before .before .loop .inv .count), (c .before .before .before .before .before .loop .inv .few))), (omega (arith, (c .before .before .before .before .before .loop .inv .few), (c .before .before .before .before .before .loop .inv .row-length)), (c .before .before .before .before .before .before .before .before .before .before .before .before .before .before .pre .0 .1), (c .before .before .before .before .before .loop .inv .count) ∙ sym (c .before .before .before .before .before .loop .inv .row-length)))
+visit-all-requires c κs =
+    let t : Turn = c .before .before .before .before in
+    let s = start (t .before .before) in
+    let S = t .before .loop .inv in (
+      (own-below (allowed-by s) (s .args .n) (graph s) _ _ _ S (ahead t) (s .pre .0 .0 .lists .graph) _ (c .before .before .own .ensures), omega (arith, near t)),
+      (omega (arith, S .few, S .row-length), s .pre .0 .1, S .count ∙ sym (S .row-length)),
+    )
 
 add-head : tie.Need-add-head Inv-loop μ-loop
 add-head c = omega arith
 
 loop-less : tie.Need-loop-less Inv-loop μ-loop
-loop-less c = omega (arith, (c .before .before .before .before .before .before .before .before .loop .inv .count))
+loop-less c = let t : Turn = c .before .before .before .before .before .before .before in omega (arith, ahead t, t .before .loop .inv .count)
 
 loop-again : tie.Need-loop-again Inv-loop μ-loop
-loop-again c = search-turn (allowed-by (c .before .before .before .before .before .before .before .before .before .before .before .before .before .before .before .before .before)) (c .before .before .before .before .before .before .before .before .before .before .before .before .before .before .before .before .before .args .n) (graph (c .before .before .before .before .before .before .before .before .before .before .before .before .before .before .before .before .before)) _ _ _ (c .before .before .before .before .before .before .before .before .loop .inv) (c .before .before .before .before .before .before .before .loop-test .taken) (c .before .before .before .before .before .before .before .before .before .before .before .before .before .before .before .before .before .pre .0 .0 .lists .graph) _ (c .before .before .before .before .before .own .ensures) (c .before .before .before .before .before .before .before .before .before .before .before .before .before .before .before .before .before .pre .1 .1) _ (c .before .before .visit-all .ensures)
+loop-again c =
+    let t : Turn = c .before .before .before .before .before .before .before in
+    let s = start (t .before .before) in
+    search-turn (allowed-by s) (s .args .n) (graph s) _ _ _ (t .before .loop .inv) (ahead t) (s .pre .0 .0 .lists .graph) _
+    (c .before .before .before .before .before .own .ensures) (s .pre .1 .1) _ (c .before .before .visit-all .ensures)
 
 same-length : tie.Need-same-length Inv-loop μ-loop
-same-length c = (c .before .loop .inv .row-length) ∙ sym (c .before .before .before .before .before .before .before .before .before .before .pre .1 .2)
+same-length c = c .before .loop .inv .row-length ∙ sym (start (c .before .before) .pre .1 .2)
 
 returns : tie.Need-returns Inv-loop μ-loop
-returns c = search-end (allowed-by (c .before .before .before .before .before .before .before .before .before .before)) (c .before .before .before .before .before .before .before .before .before .before .args .n) (graph (c .before .before .before .before .before .before .before .before .before .before)) _ _ _ (c .before .loop .inv) (c .loop-test .left) (c .before .before .before .before .before .before .before .before .before .before .pre .1 .0)
+returns c =
+    let s = start (c .before .before) in
+    search-end (allowed-by s) (s .args .n) (graph s) _ _ _ (c .before .loop .inv) (omega arith) (s .pre .1 .0)
 
 pub search-spec : {M : Type 1} → statement M
 search-spec =

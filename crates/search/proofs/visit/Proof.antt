@@ -36,7 +36,9 @@ mul-queue : tie.Need-mul-queue
 mul-queue c = search needs
 
 element-write-queue : tie.Need-element-write-queue
-element-write-queue c = omega (arith, unreached-set (c .before .before .before .before .before .before .args .row .now) (c .before .before .before .before .before .before .args .w) 0 (search needs) (c .before .before .if1 .left) (λ e. omega arith))
+element-write-queue c =
+    let s = c .before .before .before .before .before .before in
+    omega (arith, unreached-set (s .args .row .now) (s .args .w) 0 (s .pre .0) (c .before .before .if1 .left) (λ e. omega arith))
 
 add-result : tie.Need-add-result
 add-result c = search needs

@@ -18,6 +18,13 @@ Inv-loop nodes d allowed row₀ queue₀ tail end₀ i₀ row queue end i =
 abbrev μ-loop : tie.MeasureT-loop
 μ-loop nodes d allowed row₀ queue₀ tail end₀ i₀ row queue end i = length nodes - i
 
+-- where a turn of the loop begins
+abbrev Turn : Type 0
+Turn = tie.In-loop Inv-loop μ-loop
+
+abbrev start : Turn → tie.Start Inv-loop μ-loop
+start c = c .before .before .before .before .before
+
 loop-holds : tie.Need-loop-holds Inv-loop μ-loop
 loop-holds c = visiting-none _ _ _ _ (c .before .before .before .pre .1 .2)
 
@@ -28,10 +35,14 @@ shared-slice-read-visit : tie.Need-shared-slice-read-visit Inv-loop μ-loop
 shared-slice-read-visit c = search needs
 
 cast-visit : tie.Need-cast-visit Inv-loop μ-loop
-cast-visit c = omega (arith, (c .shared-slice-known3 .given) (c .before .before .loop .i))
+cast-visit c = omega (arith, c .shared-slice-known3 .given (c .before .before .loop .i))
 
 visit-requires : tie.Need-visit-requires Inv-loop μ-loop
-visit-requires c κs = (next-below _ _ _ _ (c .before .before .before .before .before .before .before .before .pre .0 .0) (c .before .before .before .before .loop .i) _ (c .before .before .before .before .loop .inv) (c .before .before .before .loop-test .taken), omega (arith, (c .before .before .before .before .loop .inv .same)), (c .before .before .before .before .before .before .before .before .pre .1 .1), (c .before .before .before .before .loop .inv .count) ∙ sym (c .before .before .before .before .loop .inv .same))
+visit-requires c κs =
+    let t : Turn = c .before .before .before in
+    let s = start t in
+    let l = t .before .loop in
+    (next-below _ _ _ _ (s .pre .0 .0) (l .i) _ (l .inv) (t .loop-test .taken), omega (arith, l .inv .same), s .pre .1 .1, l .inv .count ∙ sym (l .inv .same))
 
 add-i : tie.Need-add-i Inv-loop μ-loop
 add-i c = search needs
@@ -40,10 +51,14 @@ loop-less : tie.Need-loop-less Inv-loop μ-loop
 loop-less c = search needs
 
 loop-again : tie.Need-loop-again Inv-loop μ-loop
-loop-again c = visiting-next _ _ _ _ (c .before .before .before .before .before .before .before .before .before .before .before .pre .0 .0) (c .before .before .before .before .before .before .before .loop .i) _ (c .before .before .before .before .before .before .before .loop .inv) (c .before .before .before .before .before .before .before .before .before .before .before .pre .0 .1) (c .before .before .before .before .before .before .loop-test .taken) _ (c .before .before .visit .ensures)
+loop-again c =
+    let t : Turn = c .before .before .before .before .before .before in
+    let s = start t in
+    let l = t .before .loop in
+    visiting-next _ _ _ _ (s .pre .0 .0) (l .i) _ (l .inv) (s .pre .0 .1) (t .loop-test .taken) _ (c .before .before .visit .ensures)
 
 same-length : tie.Need-same-length Inv-loop μ-loop
-same-length c = (c .before .loop .inv .same)
+same-length c = c .before .loop .inv .same
 
 returns : tie.Need-returns Inv-loop μ-loop
 returns c = visiting-all _ _ _ _ (c .before .loop .i) _ (c .loop-test .left) (c .before .loop .inv)
