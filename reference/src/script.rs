@@ -3,7 +3,6 @@
 //! no survey's.
 
 use crate::common::{small_samples, Random, Sample, COURSE};
-use reference::{read, write};
 
 const COURSE_TURNED: &str = "S,6,6\nL,2,1\nL,5,4\nL,3,5\nL,5,0\nL,2,5\nL,5,1\n";
 
