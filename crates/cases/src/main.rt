@@ -91,12 +91,7 @@ fn print_line(letter: u8, numbers: &[u64]) {
     io::write_all(1, b"\n");
 }
 
-fn run_read(
-    script: &[u8],
-    c: Command,
-    starts: &mut [u32],
-    neighbours: &mut [u16],
-) -> usize {
+fn run_read(script: &[u8], c: Command, starts: &mut [u32], neighbours: &mut [u16]) -> usize {
     let p = at_most(c.x, starts.len());
     let q = at_most(c.y, neighbours.len());
     let k = read_command(script, c.next);
@@ -107,7 +102,10 @@ fn run_read(
     let t = sum16(neighbours);
     match answer {
         Reading::Refused(r) => print_line(c.letter, &[refusal_number(r) as u64, 0, 0, s, t]),
-        Reading::Read(size) => print_line(c.letter, &[0, size.nodes as u64, size.links as u64, s, t]),
+        Reading::Read(size) => print_line(
+            c.letter,
+            &[0, size.nodes as u64, size.links as u64, s, t],
+        ),
     }
     end
 }
@@ -134,7 +132,12 @@ fn run_write(
     let p = at_most(l.x, starts.len());
     let q = at_most(l.y, neighbours.len());
     let b = at_most(c.y, buffer.len());
-    let answer = writing::write_survey(c.x as usize, &starts[..p], &neighbours[..q], &mut buffer[..b]);
+    let answer = writing::write_survey(
+        c.x as usize,
+        &starts[..p],
+        &neighbours[..q],
+        &mut buffer[..b],
+    );
     let s = sum8(buffer);
     match answer {
         Counting::Refused(r) => print_line(c.letter, &[refusal_number(r) as u64, 0, s]),

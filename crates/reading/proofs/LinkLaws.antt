@@ -2,20 +2,20 @@
 -- Assumes nothing.
 use mathlib.Core.Path.{_≡_, refl, sym, ap, ap₂, _∙_, subst}
 use mathlib.Core.Logic.{_⊎_, inl, inr}
-use mathlib.Core.Bool.{Bool, true, false, _&&_, _||_, or-true, or-comm, or-assoc, or-false}
+use mathlib.Core.Bool.{Bool, true, false, not, _&&_, _||_, or-true, or-comm, or-assoc, or-false}
 use mathlib.Core.List.{List, [], _∷_}
 use mathlib.Core.Option.{Option, none as missing, some}
 use Prim.Native.Nat.{ℕ, suc, _+_, _-_, _*_, _≤_, _<_}
 use native.Mathlib.Omega.{arith}
-use borrow.Author.Tests.{lt-leb, le-leb, leb-false, eq-eqb, ne-eqb}
-use lib.Dec.{eqb, leb}
+use borrow.Author.Tests.{lt-ltb, le-ltb, lt-leb, le-leb, leb-false, eq-eqb, ne-eqb}
+use lib.Dec.{eqb, ltb, leb, ltb→lt}
 use lib.ListN.{length, drop, replicate, length-replicate, drop-of-length-le}
 use Rattle.model.specs.Answers.{Outcome, refused, answered, number}
 use Rattle.model.specs.declared.Refusal.{Refusal}
 use Rattle.model.specs.Basics.{if_then_else_}
 use Rattle.model.specs.SurveyText.{line}
 use Rattle.model.specs.Reading.{named, onLinks, linkOf, readOn, readLinks}
-use Rattle.model.proofs.Tests.{or-false as neither, eq-or, of-or-false}
+use Rattle.model.proofs.Tests.{true-T, and-l, and-r, eq-or, lt-or, of-or-false}
 use Rattle.model.proofs.Loops.{drop-next}
 use Rattle.model.proofs.Links.{of-link-taken}
 use Rattle.model.proofs.Outcomes.{never}
@@ -25,6 +25,20 @@ use Rattle.reading.specs.Links.{linksIn, Holds, linkIn, Told}
 use Rattle.reading.specs.declared.Links.the-variants as links
 
 -- ---- one line
+
+-- not both below n: one of n or more
+not-both : (a b n : ℕ) → not (ltb a n && ltb b n) ≡ (leb n a || leb n b)
+not-both a b n = at (lt-or a n) (lt-or b n)
+  where
+    at : (a < n) ⊎ (n ≤ a) → (b < n) ⊎ (n ≤ b) → not (ltb a n && ltb b n) ≡ (leb n a || leb n b)
+    at (inl p) (inl q) = rw (lt-ltb a n p, lt-ltb b n q, lt-leb n a p, lt-leb n b q) refl
+    at (inl p) (inr q) = rw (lt-ltb a n p, le-ltb b n q, lt-leb n a p, le-leb n b q) refl
+    at (inr p) q = rw (le-ltb a n p, le-leb n a p) refl
+
+pub both-below : (a b n : ℕ) → (ltb a n && ltb b n) ≡ true → (a < n) × (b < n)
+both-below a b n e =
+    let t = true-T (ltb a n && ltb b n) e in
+    (ltb→lt a n (and-l (ltb a n) (ltb b n) t), ltb→lt b n (and-r (ltb a n) (ltb b n) t))
 
 module _ (s : List ℕ) (at n : ℕ) (E : ℕ → ℕ → Bool) where
   pub link-end : length s ≤ at → linkIn n E (drop at s) ≡ refused 7
@@ -44,17 +58,13 @@ module _ (s : List ℕ) (at n : ℕ) (E : ℕ → ℕ → Bool) where
       link-is : linkIn n E (drop at s) ≡ linkOf n E (some (a, b, rest))
       link-is = begun ∙ ap (linkOf n E) l
 
-      pub link-far : n ≤ a → linkIn n E (drop at s) ≡ refused 4
+      pub link-far : (ltb a n && ltb b n) ≡ false → linkIn n E (drop at s) ≡ refused 4
       unfolding linkOf
-      link-far k = link-is ∙ rw (le-leb n a k)
+      link-far k = link-is ∙ rw (sym (not-both a b n) ∙ ap not k) refl
 
-      pub link-far-b : n ≤ b → linkIn n E (drop at s) ≡ refused 4
-      unfolding linkOf
-      link-far-b k = link-is ∙ rw (le-leb n b k, or-true (leb n a))
-
-      module _ (ka : a < n) (kb : b < n) where
+      module _ (k : (ltb a n && ltb b n) ≡ true) where
         near : (leb n a || leb n b) ≡ false
-        near = neither (leb n a) (leb n b) (lt-leb n a ka) (lt-leb n b kb)
+        near = sym (not-both a b n) ∙ ap not k
 
         pub link-loop : a ≡ b → linkIn n E (drop at s) ≡ refused 5
         unfolding linkOf

@@ -44,10 +44,8 @@ fn link_at(text: &[u8], at: usize, n: usize, bits: &[u64]) -> Step
     let Line::Pair(a, b, next) = text::line_at(text, at, 76) else {
         return Step::Refused(Refusal::Form);
     };
-    if n as u64 <= a {
-        return Step::Refused(Refusal::LineNode);
-    }
-    if n as u64 <= b {
+    let near = (a < n as u64) & (b < n as u64);
+    if !near {
         return Step::Refused(Refusal::LineNode);
     }
     if a == b {

@@ -17,10 +17,10 @@ fn link_length(a: usize, b: u16) -> usize
     requires { ⌜ a < 1024 ⌝ }
     ensures { λ r. ⌜ (r ≡ length (linesOf a (b ∷ []))) × (r ≤ 24) ⌝ }
 {
-    if b as usize <= a {
-        return 0;
+    if a < b as usize {
+        return text::line_length(a as u32, b as u32);
     }
-    text::line_length(a as u32, b as u32)
+    0
 }
 
 // The length of the lines of a node's links to larger nodes.

@@ -27,7 +27,7 @@ slice-aggregate-all-matched : tie.Need-slice-aggregate-all-matched
 slice-aggregate-all-matched c = search needs
 
 all-matched-requires : tie.Need-all-matched-requires
-all-matched-requires c κs = ((c .before .before .before .before .before .before .before .pre) .rows .room, omega (arith, (c .before .before .before .before .before .before .before .pre) .rows .few, (c .before .before .before .match-rows .kept .1 .1 .1 .0)))
+all-matched-requires c κs = (omega (arith, (c .before .before .before .before .before .before .before .pre) .rows .room), omega (arith, (c .before .before .before .before .before .before .before .pre) .rows .few, (c .before .before .before .match-rows .kept .1 .1 .1 .0)))
 
 returns-2 : tie.Need-returns-2
 returns-2 c =
