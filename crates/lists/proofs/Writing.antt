@@ -2,10 +2,11 @@
 -- Assumes nothing.
 use mathlib.Core.Path.{_≡_, refl, sym, ap, _∙_}
 use mathlib.Core.List.{List, [], _∷_, _++_, append-assoc}
-use Prim.Native.Nat.{ℕ, _+_, _/_, _%_, _≤_, _<_}
+use Prim.Native.Nat.{ℕ, _+_, _-_, _/_, _%_, _≤_, _<_}
 use native.Mathlib.Nat.{add-assoc}
 use native.Mathlib.Numerals.{add-one}
 use native.Mathlib.Omega.{arith}
+use borrow.Rule.Slice.PartMut.{putMid, postOf, post-is}
 use lib.ListN.{length, take, drop, set, length-append, length-drop}
 use lib.Seq.{set-split, append-snoc, length-take-le, take-at, drop-at, drop-append-add, drop-drop, paste-zero}
 use Rattle.model.specs.Basics.{over}
@@ -84,3 +85,13 @@ unfolding written over
 wrote-over {buf} t w =
     let z : 0 + length t ≡ length t = omega arith in
     (w .text ∙ ap (λ (k : ℕ). t ++ drop k buf) z, w .ends ∙ z)
+
+-- a part of the list was lent and came back as the text
+pub wrote-part : (buf : List ℕ) (at e : ℕ) (t : List ℕ) → at ≤ e → length t ≡ e - at → Wrote buf (putMid at (e - at) buf t) at e t
+unfolding written
+wrote-part buf at e t h l =
+    let f : at + length t ≡ e = omega arith in
+    record {
+      ends = sym f;
+      text = sym (append-assoc (take at buf) t (postOf at (e - at) buf)) ∙ ap (λ (d : List ℕ). take at buf ++ t ++ d) (post-is at e buf h ∙ ap (λ (k : ℕ). drop k buf) (sym f));
+    }
