@@ -94,6 +94,8 @@ module _ (n : ℕ) (G : Graph) where
 
 -- the hubs chosen so far are written, and the greedy choice for the uncovered nodes gives the others
 pub record Choosing (n s : ℕ) (G : Graph) (list₀ list us : List ℕ) (count : ℕ) : Type 0 where
+  pub size : n ≤ 1024
+  pub entries : n ≤ length list₀
   pub long : length us ≡ 16
   pub done : List ℕ
   pub turns : ℕ
@@ -102,12 +104,15 @@ pub record Choosing (n s : ℕ) (G : Graph) (list₀ list us : List ℕ) (count 
   pub enough : length (keep (member us) (upTo n)) ≤ turns
   pub room : count + turns ≤ n
 
-pub choosing-none : (n s : ℕ) (G : Graph) (list us : List ℕ) → length us ≡ 16 → member us ≡ (λ x. ltb x n && isHigh s G x) → Choosing n s G list list us 0
+pub choosing-none : (n s : ℕ) (G : Graph) (list us : List ℕ) → n ≤ 1024 → n ≤ length list → length us ≡ 16
+    → member us ≡ (λ x. ltb x n && isHigh s G x) → Choosing n s G list list us 0
 unfolding hubs
-choosing-none n s G list us l e =
+choosing-none n s G list us size entries l e =
     let U = keep (isHigh s G) (upTo n) in
     let k = high-kept n s G us e in
     record {
+      size = size;
+      entries = entries;
       long = l;
       done = [];
       turns = length U;
@@ -117,54 +122,58 @@ choosing-none n s G list us l e =
       room = omega (arith, keep-length (isHigh s G) (upTo n), length-upTo n);
     }
 
-module _ (n s : ℕ) (G : Graph) (list₀ list us : List ℕ) (count : ℕ) (size : n ≤ 1024) (room : n ≤ length list₀) (c : Choosing n s G list₀ list us count) where
-  pub choosing-long : (length list ≡ length list₀) × (count ≤ n)
-  choosing-long = (wrote-length (omega (arith, c .wrote .ends, c .room)) (c .wrote), omega (arith, c .room))
+module _ {n s : ℕ} {G : Graph} {list₀ list us : List ℕ} {count : ℕ} (c : Choosing n s G list₀ list us count) where
+  pub choosing-long : length list ≡ length list₀
+  choosing-long = wrote-length (omega (arith, c .wrote .ends, c .room, c .entries)) (c .wrote)
+
+  -- the rest of the first n entries can be lent
+  pub choosing-part : (count ≤ n) × (n ≤ length list)
+  choosing-part = (omega (arith, c .room), omega (arith, choosing-long, c .entries))
 
   pub choosing-same : (t : List ℕ) → length t ≡ length (midOf count (n - count) list) → length (putMid count (n - count) list t) ≡ length list₀
-  choosing-same t e = same-len-mid count (n - count) list t e ∙ choosing-long .0
+  choosing-same t e = same-len-mid count (n - count) list t e ∙ choosing-long
 
-  module _ (r : ℕ) (e : r ≡ firstOf (member us) (64 * length us) (upTo (64 * length us))) where
-    -- some node is uncovered: one hub more
+  module _ {r : ℕ} (e : r ≡ firstOf (member us) (64 * length us) (upTo (64 * length us))) where
+    -- some node is uncovered: there is room for one hub more
     module _ (h : r < n) where
-      U : List ℕ
-      U = keep (member us) (upTo n)
-
       some : 0 < length (keep (member us) (upTo n))
-      some = length-pos r (keep (member us) (upTo n)) (some-left n us (c .long) size r e h)
+      some = length-pos r (keep (member us) (upTo n)) (some-left n us (c .long) (c .size) r e h)
 
-      pub choosing-room : count < n
-      choosing-room = omega (arith, c .room, c .enough, some)
+      pub choosing-room : (count < n) × (count < length list)
+      choosing-room = let l : count < n = omega (arith, c .room, c .enough, some) in (l, omega (arith, choosing-part .1))
 
       pub choosing-node : best n G (keep (member us) (upTo n)) < n
       choosing-node = best-is n G (keep (member us) (upTo n)) (omega arith) .below
 
       one-room : 0 + length (c .done) + 1 ≤ length list₀
-      one-room = omega (arith, c .wrote .ends, choosing-room)
+      one-room = omega (arith, c .wrote .ends, choosing-room .0, c .entries)
 
       chosen : (us′ : List ℕ) → length us′ ≡ length us → member us′ ≡ without (member us) (λ x. has x (closed G (best n G (keep (member us) (upTo n)))))
           → Choosing n s G list₀ (set list count (best n G (keep (member us) (upTo n)))) us′ (count + 1)
       chosen us′ l m =
-          let hub = best n G (keep (member us) (upTo n)) in
+          let U = keep (member us) (upTo n) in
+          let hub = best n G U in
           let k = covered-kept n us us′ (λ x. has x (closed G hub)) m in
-          let less = fewer n G (keep (member us) (upTo n)) some (λ u q. of-upTo n u (of-keep (member us) (upTo n) u q .0)) in
+          let less = fewer n G U some (λ u q. of-upTo n u (of-keep (member us) (upTo n) u q .0)) in
           record {
+            size = c .size;
+            entries = c .entries;
             long = l ∙ c .long;
             done = c .done ++ hub ∷ [];
             turns = c .turns - 1;
             wrote = wrote-then one-room (c .wrote) (wrote-one list count hub (wrote-room (hub ∷ []) one-room (c .wrote)));
             rest =
                 append-assoc (c .done) (hub ∷ []) (greedy n G (c .turns - 1) (keep (member us′) (upTo n)))
-                ∙ ap (λ (U : List ℕ). c .done ++ hub ∷ greedy n G (c .turns - 1) U) k
-                ∙ ap (λ (l : List ℕ). c .done ++ l) (sym (greedy-more n G (c .turns) (keep (member us) (upTo n)) some (c .enough)))
+                ∙ ap (λ (left : List ℕ). c .done ++ hub ∷ greedy n G (c .turns - 1) left) k
+                ∙ ap (λ (l : List ℕ). c .done ++ l) (sym (greedy-more n G (c .turns) U some (c .enough)))
                 ∙ c .rest;
             enough = omega (arith, ap length k, less, c .enough);
             room = omega (arith, c .room, c .enough, some);
           }
 
-      pub choosing-more : (hub : ℕ) (us′ : List ℕ) → hub ≡ best n G (keep (member us) (upTo n)) → length us′ ≡ length us
+      pub choosing-more : {hub : ℕ} {us′ : List ℕ} → hub ≡ best n G (keep (member us) (upTo n)) → length us′ ≡ length us
           → member us′ ≡ without (member us) (λ x. has x (closed G hub)) → Choosing n s G list₀ (set list count hub) us′ (count + 1)
-      choosing-more hub us′ q l m =
+      choosing-more {us′ = us′} q l m =
           subst (λ (v : ℕ). Choosing n s G list₀ (set list count v) us′ (count + 1)) (sym q)
           (chosen us′ l (m ∙ ap (λ (v : ℕ). without (member us) (λ x. has x (closed G v))) q))
 
@@ -173,18 +182,22 @@ module _ (n s : ℕ) (G : Graph) (list₀ list us : List ℕ) (count : ℕ) (siz
       whole : c .done ≡ hubs n s G
       whole =
           sym (append-nil (c .done))
-          ∙ ap (λ (l : List ℕ). c .done ++ l) (sym (ap (greedy n G (c .turns)) (none-left n us (c .long) size r e h) ∙ greedy-none n G (c .turns)))
+          ∙ ap (λ (l : List ℕ). c .done ++ l) (sym (ap (greedy n G (c .turns)) (none-left n us (c .long) (c .size) r e h) ∙ greedy-none n G (c .turns)))
           ∙ c .rest
 
-      pub choosing-count : count ≡ length (hubs n s G)
+      choosing-count : count ≡ length (hubs n s G)
       choosing-count = omega (arith, c .wrote .ends, ap length whole)
 
-      pub choosing-all : (t : List ℕ) → t ≡ replicate (length (midOf count (n - count) list)) none → putMid count (n - count) list t ≡ over (hubList n s G) list₀
+      pub choosing-all : (t : List ℕ) → t ≡ replicate (length (midOf count (n - count) list)) none
+          → (count ≡ length (hubs n s G)) × (putMid count (n - count) list t ≡ over (hubList n s G) list₀)
       unfolding hubList
       choosing-all t q =
-          let f : t ≡ replicate (n - count) none = q ∙ ap (λ (j : ℕ). replicate j none) (mid-len count n list (omega (arith, choosing-long .0))) in
+          let f : t ≡ replicate (n - count) none = q ∙ ap (λ (j : ℕ). replicate j none) (mid-len count n list (choosing-part .1)) in
           let k : length t ≡ n - count = ap length f ∙ length-replicate (n - count) none in
-          let w = wrote-part list count n t (choosing-long .1) k in
-          let m : c .done ++ t ≡ hubs n s G ++ replicate (n - length (hubs n s G)) none = ap₂ (λ (a b : List ℕ). a ++ b) whole (f ∙ ap (λ (j : ℕ). replicate (n - j) none) choosing-count) in
-          wrote-over (c .done ++ t) (wrote-then (omega (arith, c .wrote .ends, choosing-long .1, k)) (c .wrote) w) .0
-          ∙ ap (λ (l : List ℕ). over l list₀) m
+          let w = wrote-part list count n t (choosing-part .0) k in
+          let m : c .done ++ t ≡ hubs n s G ++ replicate (n - length (hubs n s G)) none =
+          ap₂ (λ (a b : List ℕ). a ++ b) whole (f ∙ ap (λ (j : ℕ). replicate (n - j) none) choosing-count) in (
+            choosing-count,
+            wrote-over (c .done ++ t) (wrote-then (omega (arith, c .wrote .ends, choosing-part .0, c .entries, k)) (c .wrote) w) .0
+                ∙ ap (λ (l : List ℕ). over l list₀) m,
+          )

@@ -25,25 +25,25 @@ pub fn high_nodes(n: usize, s: usize, starts: &[u32], neighbours: &[u16], words:
 }
 
 // Puts the nodes of a list into the set.
-fn insert_list(list: &[u16], words: &mut [u64])
-    requires { ⌜ ((x : ℕ) → T (has x (now list)) → x / 64 < length (now words)) ⌝ }
-    ensures { λ _. ⌜ member (now (words .exit)) ≡ (λ x. has x (now (list .entry)) || member (now (words .entry)) x) ⌝ }
+fn insert_list(list: &[u16], set: &mut [u64])
+    requires { ⌜ ((x : ℕ) → T (has x (now list)) → x / 64 < length (now set)) ⌝ }
+    ensures { λ _. ⌜ member (now (set .exit)) ≡ (λ x. has x (now (list .entry)) || member (now (set .entry)) x) ⌝ }
 {
     let mut i = 0;
     while i < list.len() {
-        nodeset::insert(words, list[i] as usize);
+        nodeset::insert(set, list[i] as usize);
         i += 1;
     }
 }
 
 // The closed neighbourhood of a node, put into the empty set.
-fn insert_closed(n: usize, starts: &[u32], neighbours: &[u16], v: usize, words: &mut [u64])
-    requires { ⌜ Accepted n (now starts) (now neighbours) × (v < n) × (now words ≡ replicate 16 0) ⌝ }
-    ensures { λ _. ⌜ member (now (words .exit)) ≡ (λ x. has x (closed (neighboursOf (now (starts .entry)) (now (neighbours .entry))) v)) ⌝ }
+fn insert_closed(n: usize, starts: &[u32], neighbours: &[u16], v: usize, set: &mut [u64])
+    requires { ⌜ Accepted n (now starts) (now neighbours) × (v < n) × (now set ≡ replicate 16 0) ⌝ }
+    ensures { λ _. ⌜ member (now (set .exit)) ≡ (λ x. has x (closed (neighboursOf (now (starts .entry)) (now (neighbours .entry))) v)) ⌝ }
 {
-    nodeset::insert(words, v);
+    nodeset::insert(set, v);
     let row = survey::own(n, starts, neighbours, v);
-    insert_list(row, words);
+    insert_list(row, set);
 }
 
 // How many uncovered nodes the closed neighbourhood of a node holds.
@@ -51,9 +51,9 @@ fn gain_of(n: usize, starts: &[u32], neighbours: &[u16], v: usize, uncovered: &[
     requires { ⌜ Accepted n (now starts) (now neighbours) × (v < n) × (length (now uncovered) ≡ 16) ⌝ }
     ensures { λ r. ⌜ r ≡ gain (neighboursOf (now (starts .entry)) (now (neighbours .entry))) (keep (member (now (uncovered .entry))) (upTo n)) v ⌝ }
 {
-    let mut words = [0u64; 16];
-    insert_closed(n, starts, neighbours, v, &mut words);
-    nodeset::common(&words, uncovered)
+    let mut near = [0u64; 16];
+    insert_closed(n, starts, neighbours, v, &mut near);
+    nodeset::common(&near, uncovered)
 }
 
 // The node whose closed neighbourhood holds most uncovered nodes, the smallest number on a tie.
@@ -80,9 +80,9 @@ fn cover(n: usize, starts: &[u32], neighbours: &[u16], v: usize, uncovered: &mut
     requires { ⌜ Accepted n (now starts) (now neighbours) × (v < n) × (length (now uncovered) ≡ 16) ⌝ }
     ensures { λ _. ⌜ member (now (uncovered .exit)) ≡ without (member (now (uncovered .entry))) (λ x. has x (closed (neighboursOf (now (starts .entry)) (now (neighbours .entry))) v)) ⌝ }
 {
-    let mut words = [0u64; 16];
-    insert_closed(n, starts, neighbours, v, &mut words);
-    nodeset::remove(uncovered, &words);
+    let mut near = [0u64; 16];
+    insert_closed(n, starts, neighbours, v, &mut near);
+    nodeset::remove(uncovered, &near);
 }
 
 // The hubs for threshold s in the order chosen, then none, in the first n entries of the list; their count is returned.
@@ -100,7 +100,11 @@ pub fn choose_hubs(
     let mut uncovered = [0u64; 16];
     high_nodes(n, s, starts, neighbours, &mut uncovered);
     let mut count = 0;
-    while nodeset::smallest(&uncovered) < n {
+    loop {
+        let first = nodeset::smallest(&uncovered);
+        if n <= first {
+            break;
+        }
         let hub = best_node(n, starts, neighbours, &uncovered);
         list[count] = hub as u16;
         count += 1;

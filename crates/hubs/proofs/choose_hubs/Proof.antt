@@ -4,7 +4,7 @@ use mathlib.Core.Path.{refl, sym}
 use Prim.Native.Nat.{_-_}
 use native.Mathlib.Omega.{arith}
 use Rattle.model.specs.Survey.{neighboursOf}
-use Rattle.hubs.proofs.Greedy.{Choosing, choosing-none, choosing-long, choosing-same, choosing-room, choosing-node, choosing-more, choosing-count, choosing-all}
+use Rattle.hubs.proofs.Greedy.{Choosing, choosing-none, choosing-part, choosing-same, choosing-room, choosing-node, choosing-more, choosing-all}
 use borrow.Author.Needs.{needs}
 use Rattle.hubs.proofs.choose_hubs.Statement.{statement}
 use Rattle.hubs.proofs.choose_hubs.Tie as tie
@@ -22,7 +22,7 @@ high-nodes-requires : tie.Need-high-nodes-requires Inv-loop μ-loop
 high-nodes-requires c κs = ((c .before .before .before .before .pre .0), refl)
 
 loop-holds : tie.Need-loop-holds Inv-loop μ-loop
-loop-holds c = choosing-none _ _ _ _ _ (c .before .high-nodes .kept .1 .1 .1 .1 .0) (c .before .high-nodes .ensures)
+loop-holds c = choosing-none _ _ _ _ _ ((c .before .before .before .before .before .before .pre .0) .size) (c .before .before .before .before .before .before .pre .1) (c .before .high-nodes .kept .1 .1 .1 .1 .0) (c .before .high-nodes .ensures)
 
 slice-aggregate-smallest : tie.Need-slice-aggregate-smallest Inv-loop μ-loop
 slice-aggregate-smallest c = sym ((c .before .loop .inv) .long)
@@ -37,49 +37,49 @@ best-node-requires : tie.Need-best-node-requires Inv-loop μ-loop
 best-node-requires c κs = ((c .before .before .before .before .before .before .before .before .before .before .before .pre .0), (c .before .before .before .before .loop .inv) .long)
 
 cast-list : tie.Need-cast-list Inv-loop μ-loop
-cast-list c = omega (arith, choosing-node _ _ _ _ _ _ _ ((c .before .before .before .before .before .before .before .before .before .before .before .before .pre .0) .size) (c .before .before .before .before .before .before .before .before .before .before .before .before .pre .1) (c .before .before .before .before .before .loop .inv) _ (c .before .before .before .smallest .ensures) (c .before .before .if1 .taken), (c .best-node .ensures), (c .before .before .before .before .before .before .before .before .before .before .before .before .pre .0) .size)
+cast-list c = omega (arith, choosing-node (c .before .before .before .before .before .loop .inv) (c .before .before .before .smallest .ensures) (c .before .before .if1 .left), (c .best-node .ensures), (c .before .before .before .before .before .loop .inv) .size)
 
 mul-list : tie.Need-mul-list Inv-loop μ-loop
-mul-list c = omega (arith, choosing-room _ _ _ _ _ _ _ ((c .before .before .before .before .before .before .before .before .before .before .before .before .pre .0) .size) (c .before .before .before .before .before .before .before .before .before .before .before .before .pre .1) (c .before .before .before .before .before .loop .inv) _ (c .before .before .before .smallest .ensures) (c .before .before .if1 .taken), (c .before .before .before .before .before .before .before .before .before .before .before .before .pre .0) .size)
+mul-list c = omega (arith, choosing-room (c .before .before .before .before .before .loop .inv) (c .before .before .before .smallest .ensures) (c .before .before .if1 .left) .0, (c .before .before .before .before .before .loop .inv) .size)
 
 slice-write-list : tie.Need-slice-write-list Inv-loop μ-loop
-slice-write-list c = omega (arith, choosing-room _ _ _ _ _ _ _ ((c .before .before .before .before .before .before .before .before .before .before .before .before .pre .0) .size) (c .before .before .before .before .before .before .before .before .before .before .before .before .pre .1) (c .before .before .before .before .before .loop .inv) _ (c .before .before .before .smallest .ensures) (c .before .before .if1 .taken), choosing-long _ _ _ _ _ _ _ ((c .before .before .before .before .before .before .before .before .before .before .before .before .pre .0) .size) (c .before .before .before .before .before .before .before .before .before .before .before .before .pre .1) (c .before .before .before .before .before .loop .inv) .0, (c .before .before .before .before .before .before .before .before .before .before .before .before .pre .1))
+slice-write-list c = choosing-room (c .before .before .before .before .before .loop .inv) (c .before .before .before .smallest .ensures) (c .before .before .if1 .left) .1
 
 add-count : tie.Need-add-count Inv-loop μ-loop
-add-count c = omega (arith, choosing-room _ _ _ _ _ _ _ ((c .before .before .before .before .before .before .before .before .before .before .before .before .pre .0) .size) (c .before .before .before .before .before .before .before .before .before .before .before .before .pre .1) (c .before .before .before .before .before .loop .inv) _ (c .before .before .before .smallest .ensures) (c .before .before .if1 .taken), (c .before .before .before .before .before .before .before .before .before .before .before .before .pre .0) .size)
+add-count c = omega (arith, choosing-room (c .before .before .before .before .before .loop .inv) (c .before .before .before .smallest .ensures) (c .before .before .if1 .left) .0, (c .before .before .before .before .before .loop .inv) .size)
 
 slice-aggregate-cover : tie.Need-slice-aggregate-cover Inv-loop μ-loop
 slice-aggregate-cover c = sym ((c .before .before .before .before .before .before .loop .inv) .long)
 
 cover-requires : tie.Need-cover-requires Inv-loop μ-loop
-cover-requires c κs = ((c .before .before .before .before .before .before .before .before .before .before .before .before .before .pre .0), omega (arith, choosing-node _ _ _ _ _ _ _ ((c .before .before .before .before .before .before .before .before .before .before .before .before .before .pre .0) .size) (c .before .before .before .before .before .before .before .before .before .before .before .before .before .pre .1) (c .before .before .before .before .before .before .loop .inv) _ (c .before .before .before .before .smallest .ensures) (c .before .before .before .if1 .taken), (c .before .best-node .ensures)), (c .before .before .before .before .before .before .loop .inv) .long)
+cover-requires c κs = ((c .before .before .before .before .before .before .before .before .before .before .before .before .before .pre .0), omega (arith, choosing-node (c .before .before .before .before .before .before .loop .inv) (c .before .before .before .before .smallest .ensures) (c .before .before .before .if1 .left), (c .before .best-node .ensures)), (c .before .before .before .before .before .before .loop .inv) .long)
 
 loop-less : tie.Need-loop-less Inv-loop μ-loop
-loop-less c = omega (arith, choosing-room _ _ _ _ _ _ _ ((c .before .before .before .before .before .before .before .before .before .before .before .before .before .before .before .pre .0) .size) (c .before .before .before .before .before .before .before .before .before .before .before .before .before .before .before .pre .1) (c .before .before .before .before .before .before .before .before .loop .inv) _ (c .before .before .before .before .before .before .smallest .ensures) (c .before .before .before .before .before .if1 .taken))
+loop-less c = omega (arith, choosing-room (c .before .before .before .before .before .before .before .before .loop .inv) (c .before .before .before .before .before .before .smallest .ensures) (c .before .before .before .before .before .if1 .left) .0)
 
 loop-again : tie.Need-loop-again Inv-loop μ-loop
-loop-again c = choosing-more _ _ _ _ _ _ _ ((c .before .before .before .before .before .before .before .before .before .before .before .before .before .before .before .pre .0) .size) (c .before .before .before .before .before .before .before .before .before .before .before .before .before .before .before .pre .1) (c .before .before .before .before .before .before .before .before .loop .inv) _ (c .before .before .before .before .before .before .smallest .ensures) (c .before .before .before .before .before .if1 .taken) _ _ (c .before .before .before .best-node .ensures) (c .before .cover .kept .1 .1 .1 .1 .0) (c .before .cover .ensures)
+loop-again c = choosing-more (c .before .before .before .before .before .before .before .before .loop .inv) (c .before .before .before .before .before .before .smallest .ensures) (c .before .before .before .before .before .if1 .left) (c .before .before .before .best-node .ensures) (c .before .cover .kept .1 .1 .1 .1 .0) (c .before .cover .ensures)
 
 mul-fill16 : tie.Need-mul-fill16 Inv-loop μ-loop
-mul-fill16 c = omega (arith, choosing-long _ _ _ _ _ _ _ ((c .before .before .before .before .before .before .before .before .before .before .pre .0) .size) (c .before .before .before .before .before .before .before .before .before .before .pre .1) (c .before .before .before .loop .inv) .1, (c .before .before .before .before .before .before .before .before .before .before .pre .0) .size)
+mul-fill16 c = omega (arith, choosing-part (c .before .before .before .loop .inv) .0, (c .before .before .before .loop .inv) .size)
 
 sub-fill16 : tie.Need-sub-fill16 Inv-loop μ-loop
-sub-fill16 c = choosing-long _ _ _ _ _ _ _ ((c .before .before .before .before .before .before .before .before .before .before .pre .0) .size) (c .before .before .before .before .before .before .before .before .before .before .pre .1) (c .before .before .before .loop .inv) .1
+sub-fill16 c = choosing-part (c .before .before .before .loop .inv) .0
 
 part-fill16-start : tie.Need-part-fill16-start Inv-loop μ-loop
-part-fill16-start c = choosing-long _ _ _ _ _ _ _ ((c .before .before .before .before .before .before .before .before .before .before .pre .0) .size) (c .before .before .before .before .before .before .before .before .before .before .pre .1) (c .before .before .before .loop .inv) .1
+part-fill16-start c = choosing-part (c .before .before .before .loop .inv) .0
 
 part-fill16-end : tie.Need-part-fill16-end Inv-loop μ-loop
-part-fill16-end c = omega (arith, choosing-long _ _ _ _ _ _ _ ((c .before .before .before .before .before .before .before .before .before .before .pre .0) .size) (c .before .before .before .before .before .before .before .before .before .before .pre .1) (c .before .before .before .loop .inv) .0, (c .before .before .before .before .before .before .before .before .before .before .pre .1))
+part-fill16-end c = choosing-part (c .before .before .before .loop .inv) .1
 
 fill16-requires : tie.Need-fill16-requires Inv-loop μ-loop
 fill16-requires c κs = search needs
 
 same-length : tie.Need-same-length Inv-loop μ-loop
-same-length c = choosing-same _ _ _ _ _ _ _ ((c .before .before .before .before .before .before .before .before .before .before .before .before .before .before .pre .0) .size) (c .before .before .before .before .before .before .before .before .before .before .before .before .before .before .pre .1) (c .before .before .before .before .before .before .before .loop .inv) (c .before .before .fill16 .last .0) (c .before .before .fill16 .kept .0)
+same-length c = choosing-same (c .before .before .before .before .before .before .before .loop .inv) (c .before .before .fill16 .last .0) (c .before .before .fill16 .kept .0)
 
 returns : tie.Need-returns Inv-loop μ-loop
-returns c = (choosing-count _ _ _ _ _ _ _ ((c .before .before .before .before .before .before .before .before .before .before .before .before .before .before .pre .0) .size) (c .before .before .before .before .before .before .before .before .before .before .before .before .before .before .pre .1) (c .before .before .before .before .before .before .before .loop .inv) _ (c .before .before .before .before .before .smallest .ensures) (c .before .before .before .before .if1 .left), choosing-all _ _ _ _ _ _ _ ((c .before .before .before .before .before .before .before .before .before .before .before .before .before .before .pre .0) .size) (c .before .before .before .before .before .before .before .before .before .before .before .before .before .before .pre .1) (c .before .before .before .before .before .before .before .loop .inv) _ (c .before .before .before .before .before .smallest .ensures) (c .before .before .before .before .if1 .left) _ (c .before .before .fill16 .ensures))
+returns c = choosing-all (c .before .before .before .before .before .before .before .loop .inv) (c .before .before .before .before .before .smallest .ensures) (c .before .before .before .before .if1 .taken) (c .before .before .fill16 .last .0) (c .before .before .fill16 .ensures)
 
 pub choose-hubs-spec : {M : Type 1} → statement M
 choose-hubs-spec =

@@ -10,10 +10,10 @@ use Rattle.hubs.proofs.insert_list.Statement.{statement}
 use Rattle.hubs.proofs.insert_list.Tie as tie
 
 abbrev Inv-loop : tie.InvT-loop
-Inv-loop list words₀ i₀ words i = (i ≤ length list) × Inserted list words₀ words i
+Inv-loop list set₀ i₀ set i = (i ≤ length list) × Inserted list set₀ set i
 
 abbrev μ-loop : tie.MeasureT-loop
-μ-loop list words₀ i₀ words i = length list - i
+μ-loop list set₀ i₀ set i = length list - i
 
 loop-holds : tie.Need-loop-holds Inv-loop μ-loop
 loop-holds c = (omega arith, inserted-none _ _)
