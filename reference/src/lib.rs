@@ -10,6 +10,7 @@ mod verdict;
 
 pub use answers::{ask, walk, Answer, Route};
 pub use listing::reports;
+pub use survey::accept;
 pub use tables::{build, threshold};
 pub use text::{read, write};
 pub use verdict::{test, Tested, Verdict};

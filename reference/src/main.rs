@@ -1,6 +1,10 @@
-//! Command line: `reference examples` and `reference reports`.
+//! Command line: `reference examples`, `reference reports`, `reference script` and `reference cases`.
 
+mod cases;
+#[path = "../tests/common/mod.rs"]
+mod common;
 mod examples;
+mod script;
 
 use std::io::{self, Read, Write};
 use std::process::ExitCode;
@@ -10,8 +14,10 @@ fn main() -> ExitCode {
     let outcome = match arguments.iter().map(String::as_str).collect::<Vec<_>>()[..] {
         ["examples"] => print_examples(),
         ["reports"] => print_reports(),
+        ["script"] => print_bytes(&script::make()),
+        ["cases"] => print_cases(),
         _ => Err(String::from(
-            "usage: reference examples | reference reports",
+            "usage: reference examples | reports | script | cases",
         )),
     };
     match outcome {
@@ -29,11 +35,19 @@ fn print_examples() -> Result<(), String> {
 }
 
 fn print_reports() -> Result<(), String> {
-    let mut text = Vec::new();
+    print_bytes(&reference::reports(&standard_input()?))
+}
+
+fn print_cases() -> Result<(), String> {
+    print_bytes(cases::run(&standard_input()?).as_bytes())
+}
+
+fn standard_input() -> Result<Vec<u8>, String> {
+    let mut bytes = Vec::new();
     io::stdin()
-        .read_to_end(&mut text)
+        .read_to_end(&mut bytes)
         .map_err(|error| error.to_string())?;
-    print_bytes(&reference::reports(&text))
+    Ok(bytes)
 }
 
 fn print_bytes(bytes: &[u8]) -> Result<(), String> {

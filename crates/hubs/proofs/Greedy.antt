@@ -1,21 +1,21 @@
 -- The best node found in one pass, and the greedy list written hub by hub.
 -- Assumes nothing.
-use mathlib.Core.Path.{_≡_, refl, sym, ap, ap₂, _∙_, subst}
+use mathlib.Core.Path.{_≡_, refl, sym, ap, _∙_, subst}
 use mathlib.Core.Bool.{not, _&&_}
-use mathlib.Core.List.{List, [], _∷_, _++_, append-assoc, append-nil}
+use mathlib.Core.List.{List, [], _∷_, _++_}
 use Prim.Native.Nat.{ℕ, zero, suc, _+_, _-_, _*_, _≤_, _<_}
 use native.Mathlib.Nat.{le-refl}
 use native.Mathlib.Omega.{arith}
 use borrow.Rule.Slice.PartMut.{midOf, putMid, mid-len, same-len-mid}
 use lib.Dec.{T, ltb}
-use lib.ListN.{length, set, replicate, length-replicate}
+use lib.ListN.{length, set, replicate, length-replicate, length-append}
 use Rattle.lists.specs.Writing.{Wrote}
-use Rattle.lists.proofs.Writing.{wrote-none, wrote-one, wrote-then, wrote-room, wrote-length, wrote-over, wrote-part}
+use Rattle.lists.proofs.Writing.{wrote-one, wrote-then, wrote-over, wrote-part, Left, left-all, left-length, left-more, left-none}
 use Rattle.model.specs.Basics.{none, upTo, has, keep, over, firstOf}
 use Rattle.model.specs.Survey.{Graph}
 use Rattle.model.specs.Hubs.{isHigh, closed, gain, best, greedy, hubs, hubList}
-use Rattle.model.proofs.Covering.{best-is, best-of, best-gains}
-use Rattle.model.proofs.Lists.{has-head, of-keep, of-upTo, keep-split, keep-length, length-upTo, length-pos}
+use Rattle.model.proofs.Covering.{best-is, best-of, best-gains, hubs-length}
+use Rattle.model.proofs.Lists.{has-head, of-keep, of-upTo, keep-split, length-pos}
 use Rattle.model.proofs.Loops.{below-next}
 use Rattle.nodeset.specs.NodeSet.{member, without}
 use Rattle.hubs.proofs.Sets.{some-left, none-left, high-kept, covered-kept}
@@ -97,78 +97,76 @@ pub record Choosing (n s : ℕ) (G : Graph) (list₀ list us : List ℕ) (count 
   pub size : n ≤ 1024
   pub entries : n ≤ length list₀
   pub long : length us ≡ 16
-  pub done : List ℕ
   pub turns : ℕ
-  pub wrote : Wrote list₀ list 0 count done
-  pub rest : done ++ greedy n G turns (keep (member us) (upTo n)) ≡ hubs n s G
   pub enough : length (keep (member us) (upTo n)) ≤ turns
-  pub room : count + turns ≤ n
+  pub written : Left list₀ list 0 count (hubs n s G) (greedy n G turns (keep (member us) (upTo n)))
 
 pub choosing-none : (n s : ℕ) (G : Graph) (list us : List ℕ) → n ≤ 1024 → n ≤ length list → length us ≡ 16
     → member us ≡ (λ x. ltb x n && isHigh s G x) → Choosing n s G list list us 0
 unfolding hubs
-choosing-none n s G list us size entries l e =
+choosing-none n s G list us size entries long e =
     let U = keep (isHigh s G) (upTo n) in
     let k = high-kept n s G us e in
     record {
       size = size;
       entries = entries;
-      long = l;
-      done = [];
+      long = long;
       turns = length U;
-      wrote = wrote-none list 0;
-      rest = ap (greedy n G (length U)) k;
       enough = omega (arith, ap length k);
-      room = omega (arith, keep-length (isHigh s G) (upTo n), length-upTo n);
+      written = subst (λ (l : List ℕ). Left list list 0 0 (hubs n s G) (greedy n G (length U) l)) (sym k) (left-all list 0 (hubs n s G));
     }
 
 module _ {n s : ℕ} {G : Graph} {list₀ list us : List ℕ} {count : ℕ} (c : Choosing n s G list₀ list us count) where
-  pub choosing-long : length list ≡ length list₀
-  choosing-long = wrote-length (omega (arith, c .wrote .ends, c .room, c .entries)) (c .wrote)
+  fits : 0 + length (hubs n s G) ≤ length list₀
+  fits = omega (arith, hubs-length n G s, c .entries)
+
+  -- those written and those left are at most n
+  counted : count + length (greedy n G (c .turns) (keep (member us) (upTo n))) ≤ n
+  counted =
+      let w = c .written in
+      omega (arith, w .wrote .ends, ap length (w .all), length-append (w .done) (greedy n G (c .turns) (keep (member us) (upTo n))), hubs-length n G s)
+
+  choosing-long : length list ≡ length list₀
+  choosing-long = left-length list₀ 0 (hubs n s G) fits list count (greedy n G (c .turns) (keep (member us) (upTo n))) (c .written)
 
   -- the rest of the first n entries can be lent
   pub choosing-part : (count ≤ n) × (n ≤ length list)
-  choosing-part = (omega (arith, c .room), omega (arith, choosing-long, c .entries))
+  choosing-part = (omega (arith, counted), omega (arith, choosing-long, c .entries))
 
   pub choosing-same : (t : List ℕ) → length t ≡ length (midOf count (n - count) list) → length (putMid count (n - count) list t) ≡ length list₀
   choosing-same t e = same-len-mid count (n - count) list t e ∙ choosing-long
 
   module _ {r : ℕ} (e : r ≡ firstOf (member us) (64 * length us) (upTo (64 * length us))) where
-    -- some node is uncovered: there is room for one hub more
+    -- some node is uncovered: the best node is written
     module _ (h : r < n) where
       some : 0 < length (keep (member us) (upTo n))
       some = length-pos r (keep (member us) (upTo n)) (some-left n us (c .long) (c .size) r e h)
 
+      next : greedy n G (c .turns) (keep (member us) (upTo n)) ≡ best n G (keep (member us) (upTo n)) ∷ greedy n G (c .turns - 1) (left n G (keep (member us) (upTo n)))
+      next = greedy-more n G (c .turns) (keep (member us) (upTo n)) some (c .enough)
+
       pub choosing-room : (count < n) × (count < length list)
-      choosing-room = let l : count < n = omega (arith, c .room, c .enough, some) in (l, omega (arith, choosing-part .1))
+      choosing-room = let l : count < n = omega (arith, counted, ap length next) in (l, omega (arith, choosing-part .1))
 
       pub choosing-node : best n G (keep (member us) (upTo n)) < n
       choosing-node = best-is n G (keep (member us) (upTo n)) (omega arith) .below
 
-      one-room : 0 + length (c .done) + 1 ≤ length list₀
-      one-room = omega (arith, c .wrote .ends, choosing-room .0, c .entries)
-
       chosen : (us′ : List ℕ) → length us′ ≡ length us → member us′ ≡ without (member us) (λ x. has x (closed G (best n G (keep (member us) (upTo n)))))
           → Choosing n s G list₀ (set list count (best n G (keep (member us) (upTo n)))) us′ (count + 1)
       chosen us′ l m =
-          let U = keep (member us) (upTo n) in
-          let hub = best n G U in
-          let k = covered-kept n us us′ (λ x. has x (closed G hub)) m in
-          let less = fewer n G U some (λ u q. of-upTo n u (of-keep (member us) (upTo n) u q .0)) in
+          let W = keep (member us) (upTo n) in
+          let hub = best n G W in
+          let k : keep (member us′) (upTo n) ≡ left n G W = covered-kept n us us′ (λ x. has x (closed G hub)) m in
+          let less = fewer n G W some (λ u q. of-upTo n u (of-keep (member us) (upTo n) u q .0)) in
           record {
             size = c .size;
             entries = c .entries;
             long = l ∙ c .long;
-            done = c .done ++ hub ∷ [];
             turns = c .turns - 1;
-            wrote = wrote-then one-room (c .wrote) (wrote-one list count hub (wrote-room (hub ∷ []) one-room (c .wrote)));
-            rest =
-                append-assoc (c .done) (hub ∷ []) (greedy n G (c .turns - 1) (keep (member us′) (upTo n)))
-                ∙ ap (λ (left : List ℕ). c .done ++ hub ∷ greedy n G (c .turns - 1) left) k
-                ∙ ap (λ (l : List ℕ). c .done ++ l) (sym (greedy-more n G (c .turns) U some (c .enough)))
-                ∙ c .rest;
             enough = omega (arith, ap length k, less, c .enough);
-            room = omega (arith, c .room, c .enough, some);
+            written = left-more list₀ 0 (hubs n s G) fits list count (hub ∷ []) (greedy n G (c .turns - 1) (keep (member us′) (upTo n)))
+                (subst (Left list₀ list 0 count (hubs n s G)) (next ∙ ap (λ (l : List ℕ). hub ∷ greedy n G (c .turns - 1) l) (sym k)) (c .written))
+                (set list count hub) (count + 1) (wrote-one list count hub (omega (arith, choosing-room .1)));
           }
 
       pub choosing-more : {hub : ℕ} {us′ : List ℕ} → hub ≡ best n G (keep (member us) (upTo n)) → length us′ ≡ length us
@@ -179,25 +177,19 @@ module _ {n s : ℕ} {G : Graph} {list₀ list us : List ℕ} {count : ℕ} (c :
 
     -- no node is uncovered: the hubs are written, and none behind them
     module _ (h : n ≤ r) where
-      whole : c .done ≡ hubs n s G
+      whole : Wrote list₀ list 0 count (hubs n s G)
       whole =
-          sym (append-nil (c .done))
-          ∙ ap (λ (l : List ℕ). c .done ++ l) (sym (ap (greedy n G (c .turns)) (none-left n us (c .long) (c .size) r e h) ∙ greedy-none n G (c .turns)))
-          ∙ c .rest
-
-      choosing-count : count ≡ length (hubs n s G)
-      choosing-count = omega (arith, c .wrote .ends, ap length whole)
+          left-none list₀ 0 (hubs n s G) fits list count
+          (subst (Left list₀ list 0 count (hubs n s G)) (ap (greedy n G (c .turns)) (none-left n us (c .long) (c .size) r e h) ∙ greedy-none n G (c .turns)) (c .written))
 
       pub choosing-all : (t : List ℕ) → t ≡ replicate (length (midOf count (n - count) list)) none
           → (count ≡ length (hubs n s G)) × (putMid count (n - count) list t ≡ over (hubList n s G) list₀)
       unfolding hubList
       choosing-all t q =
-          let f : t ≡ replicate (n - count) none = q ∙ ap (λ (j : ℕ). replicate j none) (mid-len count n list (choosing-part .1)) in
-          let k : length t ≡ n - count = ap length f ∙ length-replicate (n - count) none in
-          let w = wrote-part list count n t (choosing-part .0) k in
-          let m : c .done ++ t ≡ hubs n s G ++ replicate (n - length (hubs n s G)) none =
-          ap₂ (λ (a b : List ℕ). a ++ b) whole (f ∙ ap (λ (j : ℕ). replicate (n - j) none) choosing-count) in (
-            choosing-count,
-            wrote-over (c .done ++ t) (wrote-then (omega (arith, c .wrote .ends, choosing-part .0, c .entries, k)) (c .wrote) w) .0
-                ∙ ap (λ (l : List ℕ). over l list₀) m,
+          let k : count ≡ length (hubs n s G) = wrote-over (hubs n s G) whole .1 in
+          let f : length (midOf count (n - count) list) ≡ n - count = mid-len count n list (choosing-part .1) in
+          let l : length t ≡ n - count = ap length q ∙ length-replicate (length (midOf count (n - count) list)) none ∙ f in
+          let w = wrote-then (omega (arith, choosing-part .0, c .entries)) whole (wrote-part list count n t (choosing-part .0) l) in (
+            k,
+            wrote-over (hubs n s G ++ t) w .0 ∙ ap (λ (b : List ℕ). over (hubs n s G ++ b) list₀) (q ∙ ap (λ (j : ℕ). replicate j none) (f ∙ ap (λ (j : ℕ). n - j) k)),
           )

@@ -9,6 +9,9 @@ ghost use Rattle.model.specs.Survey.{neighboursOf, Accepted};
 ghost use Rattle.model.specs.Hubs.{isHigh, closed, gain, best, hubs, hubList};
 ghost use Rattle.nodeset.specs.NodeSet.{member, without};
 
+// Entries after the hubs.
+const NONE: u16 = 65535;
+
 // The nodes with at least s neighbours, put into the empty set. A node's degree is known from two starts.
 pub fn high_nodes(n: usize, s: usize, starts: &[u32], neighbours: &[u16], words: &mut [u64])
     requires { ⌜ Accepted n (now starts) (now neighbours) × (now words ≡ replicate 16 0) ⌝ }
@@ -110,6 +113,6 @@ pub fn choose_hubs(
         count += 1;
         cover(n, starts, neighbours, hub, &mut uncovered);
     }
-    lists::fill16(&mut list[count..n], 65535);
+    lists::fill16(&mut list[count..n], NONE);
     count
 }

@@ -1,12 +1,12 @@
 -- Laws of entries written into a list.
 -- Assumes nothing.
-use mathlib.Core.Path.{_≡_, refl, sym, ap, _∙_}
-use mathlib.Core.List.{List, [], _∷_, _++_, append-assoc}
-use Prim.Native.Nat.{ℕ, _+_, _-_, _/_, _%_, _≤_, _<_}
+use mathlib.Core.Path.{_≡_, refl, sym, ap, _∙_, subst}
+use mathlib.Core.List.{List, [], _∷_, _++_, append-assoc, append-nil}
+use Prim.Native.Nat.{ℕ, _+_, _-_, _≤_}
 use native.Mathlib.Nat.{add-assoc}
 use native.Mathlib.Numerals.{add-one}
 use native.Mathlib.Omega.{arith}
-use borrow.Rule.Slice.PartMut.{putMid, postOf, post-is}
+use borrow.Rule.Slice.PartMut.{putMid}
 use lib.ListN.{length, take, drop, set, length-append, length-drop}
 use lib.Seq.{set-split, append-snoc, length-take-le, take-at, drop-at, drop-append-add, drop-drop, paste-zero}
 use Rattle.model.specs.Basics.{over}
@@ -86,12 +86,44 @@ wrote-over {buf} t w =
     let z : 0 + length t ≡ length t = omega arith in
     (w .text ∙ ap (λ (k : ℕ). t ++ drop k buf) z, w .ends ∙ z)
 
--- a part of the list was lent and came back as the text
-pub wrote-part : (buf : List ℕ) (at e : ℕ) (t : List ℕ) → at ≤ e → length t ≡ e - at → Wrote buf (putMid at (e - at) buf t) at e t
+-- a part that was lent and is put back is written at its place
+pub put-written : (l : List ℕ) (at k : ℕ) (part : List ℕ) → length part ≡ k → putMid at k l part ≡ written l at part
 unfolding written
-wrote-part buf at e t h l =
-    let f : at + length t ≡ e = omega arith in
-    record {
-      ends = sym f;
-      text = sym (append-assoc (take at buf) t (postOf at (e - at) buf)) ∙ ap (λ (d : List ℕ). take at buf ++ t ++ d) (post-is at e buf h ∙ ap (λ (k : ℕ). drop k buf) (sym f));
+put-written l at k part e =
+    sym (append-assoc (take at l) part (drop k (drop at l)))
+    ∙ ap (λ (r : List ℕ). take at l ++ part ++ r) (drop-drop k at l ∙ ap (λ (i : ℕ). drop (at + i) l) (sym e))
+
+pub wrote-part : (l : List ℕ) (at e : ℕ) (part : List ℕ) → at ≤ e → length part ≡ e - at → Wrote l (putMid at (e - at) l part) at e part
+wrote-part l at e part h k = record { ends = omega arith; text = put-written l at (e - at) part k }
+
+-- ---- a text that is written piece by piece: what is written, and what is left, are the whole
+pub record Left (buf buf′ : List ℕ) (at pos : ℕ) (whole left : List ℕ) : Type 0 where
+  pub done : List ℕ
+  pub wrote : Wrote buf buf′ at pos done
+  pub all : done ++ left ≡ whole
+
+module _ (buf : List ℕ) (at : ℕ) (whole : List ℕ) where
+  pub left-all : Left buf buf at at whole whole
+  left-all = record { done = []; wrote = wrote-none buf at; all = refl }
+
+  module _ (room : at + length whole ≤ length buf) (buf′ : List ℕ) (pos : ℕ) where
+    module _ (left : List ℕ) (l : Left buf buf′ at pos whole left) where
+      left-part : at + length (l .done) + length left ≤ length buf
+      left-part = omega (arith, ap length (sym (l .all)) ∙ length-append (l .done) left)
+
+      pub left-length : length buf′ ≡ length buf
+      left-length = wrote-length (omega (arith, left-part)) (l .wrote)
+
+      pub left-room : pos + length left ≤ length buf′
+      left-room = wrote-room left left-part (l .wrote)
+
+    -- a piece
+    pub left-more : (t left : List ℕ) → Left buf buf′ at pos whole (t ++ left) → (buf″ : List ℕ) (pos′ : ℕ) → Wrote buf′ buf″ pos pos′ t → Left buf buf″ at pos′ whole left
+    left-more t left l buf″ pos′ w = record {
+      done = l .done ++ t;
+      wrote = wrote-then (omega (arith, left-part (t ++ left) l, length-append t left)) (l .wrote) w;
+      all = append-assoc (l .done) t left ∙ l .all;
     }
+
+    pub left-none : Left buf buf′ at pos whole [] → Wrote buf buf′ at pos whole
+    left-none l = subst (λ (t : List ℕ). Wrote buf buf′ at pos t) (sym (append-nil (l .done)) ∙ l .all) (l .wrote)

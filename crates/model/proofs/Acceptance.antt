@@ -7,9 +7,10 @@ use Prim.Native.Nat.{ℕ, _+_, _/_, _%_, _≤_, _<_}
 use borrow.Author.Tests.{lt-ltb, le-ltb, ltb-false}
 use lib.Dec.{T, eqb, ltb, leb, eqb→eq, leb→le, le→leb, ltb→lt, lt→ltb, T-not, not-T}
 use lib.ListN.{length, getD}
+use Rattle.model.specs.Answers.{Outcome, answered, isAnswered}
 use Rattle.model.specs.Basics.{upTo, has, all, keep}
-use Rattle.model.specs.Survey.{Graph, neighboursOf, linked, ascending, isSurvey, badSize, accepted, IsSurvey, IsGraph, Accepted}
-use Rattle.model.proofs.Tests.{and-l, and-r, and-i, or-r, or-false, of-or-false, T-true, T-false, eq-T}
+use Rattle.model.specs.Survey.{Graph, neighboursOf, linked, ascending, isSurvey, badSize, accepting, accepted, IsSurvey, IsGraph, Accepted}
+use Rattle.model.proofs.Tests.{picked, not-not, and-l, and-r, and-i, or-r, or-false, of-or-false, T-true, eq-T}
 use Rattle.model.proofs.Lists.{of-all, all-of, has-upTo, of-upTo, keep-same}
 use Rattle.model.proofs.Ascending.{ascending-keep}
 
@@ -101,29 +102,37 @@ pub size-bounds : (n : ℕ) → badSize n ≡ false → (1 ≤ n) × (n ≤ 1024
 unfolding badSize
 size-bounds n e = let h = of-or-false (ltb n 1) (ltb 1024 n) e in (ltb-false n 1 (h .0), ltb-false 1024 n (h .1))
 
-pub accepted-facts : (n : ℕ) (starts neighbours : List ℕ) → T (accepted n starts neighbours) → Accepted n starts neighbours
-unfolding accepted
-accepted-facts n starts neighbours t =
-    let A = not (badSize n) in
-    let B = leb (n + 1) (length starts) in
-    let C = isSurvey n starts neighbours in
-    let b = size-bounds n (T-false (badSize n) (and-l A B (and-l (A && B) C t))) in
-    record {
-      some-node = b .0;
-      size = b .1;
-      room = leb→le (n + 1) (length starts) (and-r A B (and-l (A && B) C t));
-      lists = survey-facts n starts neighbours (and-r (A && B) C t);
-    }
+module _ (n : ℕ) (starts neighbours : List ℕ) where
+  pub accepted-facts : T (accepted n starts neighbours) → Accepted n starts neighbours
+  unfolding accepted accepting
+  accepted-facts =
+      let P : Outcome (Unit {0}) → Type 0 = λ o. T (isAnswered o) → Accepted n starts neighbours in
+      picked P (badSize n) _ _ (λ _ t. absurd t) (λ size.
+      picked P (ltb (length starts) (n + 1)) _ _ (λ _ t. absurd t) (λ room.
+      picked P (not (isSurvey n starts neighbours)) _ _ (λ _ t. absurd t) (λ lists t. let b = size-bounds n size in record {
+        some-node = b .0;
+        size = b .1;
+        room = ltb-false (length starts) (n + 1) room;
+        lists = survey-facts n starts neighbours (not-not (isSurvey n starts neighbours) lists);
+      })))
 
-pub facts-accepted : (n : ℕ) (starts neighbours : List ℕ) → Accepted n starts neighbours → T (accepted n starts neighbours)
-unfolding accepted
-facts-accepted n starts neighbours f =
-    let A = not (badSize n) in
-    let B = leb (n + 1) (length starts) in
-    let C = isSurvey n starts neighbours in
-    and-i (A && B) C
-    (and-i A B (subst (λ (b : Bool). T (not b)) (sym (good-size n (f .some-node) (f .size))) tt) (le→leb (n + 1) (length starts) (f .room)))
-    (survey-test n starts neighbours (f .lists))
+  -- what is accepted is not refused, and the other way round
+  pub accepting-answers : Accepted n starts neighbours → accepting n starts neighbours ≡ answered tt
+  unfolding accepting
+  accepting-answers f =
+      rw (
+        good-size n (f .some-node) (f .size),
+        le-ltb (length starts) (n + 1) (f .room),
+        T-true (isSurvey n starts neighbours) (survey-test n starts neighbours (f .lists)),
+      ) refl
+
+  pub accepting-facts : (x : Unit {0}) → accepting n starts neighbours ≡ answered x → Accepted n starts neighbours
+  unfolding accepted
+  accepting-facts x e = accepted-facts (subst (λ (o : Outcome (Unit {0})). T (isAnswered o)) (sym e) tt)
+
+  pub facts-accepted : Accepted n starts neighbours → T (accepted n starts neighbours)
+  unfolding accepted
+  facts-accepted f = subst (λ (o : Outcome (Unit {0})). T (isAnswered o)) (sym (accepting-answers f)) tt
 
 -- ---- accepted lists are an undirected graph without loops on n nodes, whatever stands past the entries used
 

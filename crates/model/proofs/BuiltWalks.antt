@@ -28,7 +28,7 @@ use Rattle.model.proofs.Acceptance.{linked-has, linked-sym, linked-ends
 use Rattle.model.proofs.Chains.{snoc, split-last, chain-zero, inside}
 use Rattle.model.proofs.Covering.{hubs-below}
 use Rattle.model.proofs.Entries.{entry-front}
-use Rattle.model.proofs.TableLaws.{full-is, full-joined, low-is, low-joined, low-ends, low-widen, fewest-unique}
+use Rattle.model.proofs.TableLaws.{full-is, full-joined, low-is, low-joined, low-ends, both-low, low-widen, fewest-unique}
 use Rattle.model.proofs.Allowance.{routes, report-entry, least-cases}
 use Rattle.model.proofs.Walks.{Chosen, to-itself, to-none, to-low, to-hub, bad-itself, bad-hub, chosen, Sound, Given, steps-given, join-given, attains, via-sum, low-sound, hub-sound}
 
@@ -122,7 +122,6 @@ module _ (n s : ℕ) (G : Graph) (g : IsGraph n G) (size : n ≤ 1024) (full low
   -- and towards b among the low nodes
   low-next : (b v d : ℕ) → b < n → v < n → suc d < none → entry n low v b ≡ suc d
       → (u : ℕ) × T (has u (G v)) × T (isLow s G u) × (entry n low u b ≡ d)
-  unfolding lowLinks
   low-next b v d hb hv z e = at (f .0) f
     where
       clash : suc d ≡ none → ⊥
@@ -137,7 +136,7 @@ module _ (n s : ℕ) (G : Graph) (g : IsGraph n G) (size : n ≤ 1024) (full low
       at : Chain (lowLinks n s G) (suc d) v b → Fewest (lowLinks n s G) v b (suc d)
           → (u : ℕ) × T (has u (G v)) × T (isLow s G u) × (entry n low u b ≡ d)
       at (link {b = u} t r) f =
-          let lu = and-r (isLow s G v) (isLow s G u) (and-l (isLow s G v && isLow s G u) (linked n G v u) t) in
+          let lu = both-low n s G g v u t .1 in
           let j = low-joined′ u b d (low-ends n s G g v u hv t) hb lu (i .1) r in
           (u, linked-has n G v u (low-widen n s G g v u t), lu, fewest-unique (j .1) (r, λ k w. le-of-suc-le-suc (f .1 (suc k) (link t w))))
 

@@ -25,11 +25,11 @@ use Rattle.model.specs.TwoOrFour.{tested}
 use Rattle.model.specs.Building.{built, building}
 use Rattle.model.specs.Asking.{asking}
 use Rattle.model.specs.Walking.{Walking, refuseWalk, walkOf, walking}
-use Rattle.model.specs.Testing.{testing}
+use Rattle.model.specs.Testing.{testingOf, testing}
 use Rattle.model.specs.Demand.{Allowed, AllowedAnswer, WalkSound, WalkAnswers, VerdictRight}
 use Rattle.model.proofs.Outcomes.{never}
-use Rattle.model.proofs.Tests.{or-false, of-or-false, picked}
-use Rattle.model.proofs.Acceptance.{survey-test, survey-facts, good-size}
+use Rattle.model.proofs.Tests.{or-false, of-or-false, picked, not-not}
+use Rattle.model.proofs.Acceptance.{survey-test, survey-facts, good-size, accepting-answers}
 use Rattle.model.proofs.Entries.{front-length, length-table}
 use Rattle.model.proofs.Covering.{hubs-length}
 use Rattle.model.proofs.Allowance.{allowed}
@@ -40,10 +40,6 @@ use Rattle.model.proofs.Verdicts.{verdict-right}
 passed : (b : Bool) → T b → not b ≡ false
 passed true t = refl
 passed false t = absurd t
-
-not-refused : (b : Bool) → not b ≡ false → T b
-not-refused true e = tt
-not-refused false e = subst T e tt
 
 -- ---- lists that tables were built into have room for them
 
@@ -102,7 +98,7 @@ walking-sound n starts neighbours full low report a b w =
     picked P (not (isSurvey n starts neighbours)) _ _ (λ _. refuses) (λ lists.
     picked P (leb n a || leb n b) _ _ (λ _. refuses) (λ below.
     let h = of-or-false (leb n a) (leb n b) below in
-    let g = survey-facts n starts neighbours (not-refused (isSurvey n starts neighbours) lists) .graph in
+    let g = survey-facts n starts neighbours (not-not (isSurvey n starts neighbours) lists) .graph in
     given-out-sound (linked n G) a b w
     (walk-given-out n (threshold n) G g full low a b (leb-false n a (h .0)) (leb-false n b (h .1)) (taken n full a b) report w)))))
   where
@@ -126,8 +122,8 @@ module _ (n : ℕ) (starts neighbours : List ℕ) (acc : Accepted n starts neigh
 
   -- the test is not refused, and its verdict is right
   pub testing-answers : testing n starts neighbours ≡ answered (tested n (threshold n) G)
-  unfolding testing
-  testing-answers = rw (good-size n (acc .some-node) (acc .size), le-ltb (length starts) (n + 1) (acc .room), is-survey) refl
+  unfolding testing testingOf
+  testing-answers = rw (accepting-answers n starts neighbours acc) refl
 
   pub testing-right : VerdictRight n (linked n G) (tested n (threshold n) G .verdict)
   testing-right = verdict-right n (threshold n) G (acc .lists .graph) (acc .size)

@@ -9,20 +9,23 @@ use Prim.Native.Nat.{ℕ, zero, suc, _+_, _*_, _/_, _≤_, _<_, zero-le}
 use native.Mathlib.Nat.{zero-add}
 use native.Mathlib.Numerals.{add-one}
 use native.Mathlib.Omega.{arith}
+use borrow.Author.Tests.{le-ltb}
 use lib.Dec.{T, eqb, ltb, eqb→eq, ltb→lt, lt→ltb}
 use lib.ListN.{length, getD, take, drop, replicate, length-append}
+use lib.Seq.{take-at}
 use Rattle.model.specs.declared.Size.{Size}
 use Rattle.model.specs.Answers.{Outcome, refused, answered}
 use Rattle.model.specs.Basics.{from, upTo, has, keep, gather, over}
 use Rattle.model.specs.SurveyText.{surveyText, ordered}
 use Rattle.model.specs.Survey.{Graph, neighboursOf, linked, ascending, Accepted}
 use Rattle.model.specs.Reading.{named, Parsed, parse, graphOf, startsOf, neighboursFrom, readingOf, reading}
-use Rattle.model.specs.Writing.{textOf}
+use Rattle.model.specs.Writing.{textOf, Writing, writingOf, writing}
 use Rattle.model.specs.Demand.{IsRead, ReadRight}
-use Rattle.model.proofs.Tests.{and-l, and-r, and-i, or-l, or-r, or-e, eq-T, no-false, same-test, lt-or}
+use Rattle.model.proofs.Tests.{picked, and-l, and-r, and-i, or-l, or-r, or-e, eq-T, no-false, same-test, lt-or}
 use Rattle.model.proofs.Lists.{has-head, has-tail, of-cons, has-keep, of-keep, has-upTo, of-upTo, none-in, keep-same}
 use Rattle.model.proofs.Ascending.{ascending-tail, ascending-above, keep-ascending, ascending-keep, keep-of-ascending}
-use Rattle.model.proofs.Acceptance.{linked-is, is-linked}
+use Rattle.model.proofs.Acceptance.{accepting-answers, linked-is, is-linked}
+use Rattle.model.proofs.Outcomes.{never}
 use Rattle.model.proofs.Links.{Fresh, AllFresh, parse-complete, parse-sound}
 use Rattle.model.proofs.SurveyLists.{total, total-zero, total-suc, starts-length, neighbours-length, start-at, own-at, gather-below, neighbours-same, starts-same, own-total, own-neighbours, own-starts}
 use Rattle.model.proofs.Totals.{named-sym, links-total}
@@ -345,3 +348,33 @@ module _ (n : ℕ) (starts′ neighbours′ : List ℕ) (acc : Accepted n starts
         starts = over ((starts-same n (graphOf n ls) G graph-back ∙ own-starts n starts′ neighbours′ (acc .lists) (acc .room)) i) (replicate p 0);
         neighbours = over ((neighbours-same n (graphOf n ls) G graph-back ∙ own-neighbours n starts′ neighbours′ (acc .lists)) i) (replicate q 0);
       })
+
+  -- writing into a buffer that is long enough: the text stands in front
+  pub writing-answers : (buffer : List ℕ) → length (textOf n starts′ neighbours′) ≤ length buffer
+      → writing n starts′ neighbours′ buffer ≡ record {
+        answer = answered (length (textOf n starts′ neighbours′));
+        buffer = over (textOf n starts′ neighbours′) buffer;
+      }
+  unfolding writing writingOf
+  writing-answers buffer h =
+      rw (accepting-answers n starts′ neighbours′ acc, le-ltb (length buffer) (length (textOf n starts′ neighbours′)) h) refl
+
+  pub written-text : (buffer : List ℕ) (k : ℕ) → writing n starts′ neighbours′ buffer .answer ≡ answered k
+      → take k (writing n starts′ neighbours′ buffer .buffer) ≡ textOf n starts′ neighbours′
+  unfolding writing writingOf over
+  written-text buffer k =
+      let text : List ℕ = textOf n starts′ neighbours′ in
+      let P : Writing → Type 0 = λ r. r .answer ≡ answered k → take k (r .buffer) ≡ text in
+      subst (λ (o : Outcome (Unit {0})). P (writingOf o text buffer)) (sym (accepting-answers n starts′ neighbours′ acc))
+      (picked P (ltb (length buffer) (length text)) _ _ (λ _ e. never e) (λ _ e.
+      let j : length text ≡ k = cc in
+      take-at text (drop (length text) buffer) k j))
+
+  -- written and read again it is the same survey
+  pub round-trip : (buffer : List ℕ) (k : ℕ) → writing n starts′ neighbours′ buffer .answer ≡ answered k → (p q : ℕ) → n + 1 ≤ p → getD starts′ n 0 ≤ q
+      → reading (take k (writing n starts′ neighbours′ buffer .buffer)) p q ≡ record {
+        answer = answered (record { nodes = n; links = getD starts′ n 0 / 2 });
+        starts = over (take (n + 1) starts′) (replicate p 0);
+        neighbours = over (take (getD starts′ n 0) neighbours′) (replicate q 0);
+      }
+  round-trip buffer k e p q hp hq = ap (λ (t : List ℕ). reading t p q) (written-text buffer k e) ∙ read-back p q hp hq

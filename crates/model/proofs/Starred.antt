@@ -14,7 +14,7 @@ use Rattle.model.specs.Answers.{Outcome, refused, answered}
 use Rattle.model.specs.Basics.{none, from, upTo, has, any, all, keep, firstOf, gather, same, over}
 use Rattle.model.specs.Numbers.{isDigit, isNumber, valueFrom, valueOf, digitsWithin, digits}
 use Rattle.model.specs.SurveyText.{onFirst, split, onFront, cut, twoNumbers, withRest, lineIn, line, lineOf, linkLines, surveyText}
-use Rattle.model.specs.Survey.{Graph, neighboursOf, linked, ascending, badSize, isSurvey}
+use Rattle.model.specs.Survey.{Graph, neighboursOf, linked, ascending, badSize, isSurvey, accepting}
 use Rattle.model.specs.Threshold.{bitLength, threshold}
 use Rattle.model.specs.Hubs.{isHigh, isLow, closed, gain, best, greedy, hubs, hubList}
 use Rattle.model.specs.Graph.{reach, fewest}
@@ -26,7 +26,7 @@ use Rattle.model.specs.Reading.{named, onLinks, linkOf, readOn, readLink
 use Rattle.model.specs.Building.{Building, built, building}
 use Rattle.model.specs.Asking.{asking}
 use Rattle.model.specs.Walking.{refuseWalk, fit, walkOf, walking}
-use Rattle.model.specs.Testing.{testing}
+use Rattle.model.specs.Testing.{testingOf, testing}
 
 -- a survey of n nodes with these links, which its text names
 pub record Example : Type 0 where
@@ -131,9 +131,9 @@ starred =
 pub starred-cases : T (allHold starred)
 unfolding starred allHold holds graph longAtAll shortAfter isLong isShort reported tables lists triangle chain single course
     from upTo has any all keep firstOf gather same over isDigit isNumber valueFrom valueOf digitsWithin digits
-    onFirst split onFront cut twoNumbers withRest lineIn line lineOf linkLines surveyText neighboursOf linked ascending badSize isSurvey
+    onFirst split onFront cut twoNumbers withRest lineIn line lineOf linkLines surveyText neighboursOf linked ascending badSize isSurvey accepting
     bitLength threshold isHigh isLow closed gain best greedy hubs hubList reach fewest table entry fullTable lowLinks lowTable sum via reportTable
     taken attaining choose pairBy pair before next steps byLow toHub join nodes sources verdictOf tested
     named onLinks linkOf readOn readLinks parsed countsOf parseLinks parse graphOf startsOf neighboursFrom readingOf reading
-    built building asking refuseWalk fit walkOf walking testing
+    built building asking refuseWalk fit walkOf walking testingOf testing
 starred-cases = tt

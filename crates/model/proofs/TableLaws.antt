@@ -56,6 +56,13 @@ module _ (n s : ℕ) (G : Graph) (g : IsGraph n G) where
   unfolding fullTable guarded
   full-joined = guarded-joined n (λ h b. has h (hubs n s G)) (linked n G) (linked-ends n G)
 
+  -- low means both ends
+  pub both-low : (u v : ℕ) → T (lowLinks n s G u v) → T (isLow s G u) × T (isLow s G v)
+  unfolding lowLinks
+  both-low u v t =
+      let both : T (isLow s G u && isLow s G v) = and-l (isLow s G u && isLow s G v) (linked n G u v) t in
+      (and-l (isLow s G u) (isLow s G v) both, and-r (isLow s G u) (isLow s G v) both)
+
   pub low-widen : (u v : ℕ) → T (lowLinks n s G u v) → T (linked n G u v)
   unfolding lowLinks
   low-widen u v t = and-r (isLow s G u && isLow s G v) (linked n G u v) t

@@ -48,6 +48,10 @@ pub T-false : (b : Bool) → T (not b) → b ≡ false
 T-false true t = absurd t
 T-false false t = refl
 
+pub not-not : (b : Bool) → not b ≡ false → T b
+not-not true e = tt
+not-not false e = subst T e tt
+
 pub no-false : (b : Bool) → (T b → ⊥) → b ≡ false
 no-false true f = absurd (f tt)
 no-false false f = refl

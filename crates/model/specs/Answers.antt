@@ -1,5 +1,6 @@
 -- The answers of the open calls as document 01 gives them: a refusal's number, or a value.
 -- Assumes nothing.
+use mathlib.Core.Bool.{Bool, true, false}
 use Prim.Native.Nat.{ℕ}
 use Rattle.model.specs.declared.Refusal.{Refusal}
 use Rattle.model.specs.declared.Refusal.the-variants.{Form, NodeCount, LinkCount, LineNode, EqualEnds, RepeatedLink, LineCount, ShortList, NotSurvey, NoNode, NotAttained, ShortBuffer}
@@ -21,6 +22,10 @@ use Rattle.model.specs.declared.Testing.the-variants as testing
 pub data Outcome (A : Type 0) : Type 0 where
   refused : ℕ → Outcome A
   answered : A → Outcome A
+
+abbrev pub isAnswered : {A : Type 0} → Outcome A → Bool
+isAnswered (refused k) = false
+isAnswered (answered x) = true
 
 -- document 01's number for each refusal
 abbrev pub number : Refusal → ℕ

@@ -6,7 +6,7 @@ use mathlib.Core.Path.{_≡_}
 use Prim.Native.Nat.{ℕ, _+_, _-_, _/_, _%_, _≤_, _<_}
 use lib.Dec.{T, eqb, ltb, leb}
 use lib.ListN.{length, getD, take, drop}
-use Rattle.model.specs.Answers.{Outcome, refused, answered}
+use Rattle.model.specs.Answers.{Outcome, refused, answered, isAnswered}
 use Rattle.model.specs.Basics.{if_then_else_, upTo, has, all}
 
 -- a graph by each node's own neighbours
@@ -55,7 +55,7 @@ accepting n starts neighbours =
 
 -- "A survey is accepted if building's 2 and 9, and its 8 for `starts`, don't apply to n and the two lists"
 unfoldable pub accepted : ℕ → List ℕ → List ℕ → Bool
-accepted n starts neighbours = not (badSize n) && leb (n + 1) (length starts) && isSurvey n starts neighbours
+accepted n starts neighbours = isAnswered (accepting n starts neighbours)
 
 -- ---- the same as facts (`accepted-facts` and `facts-accepted` of proofs/Acceptance.antt)
 

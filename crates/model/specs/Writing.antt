@@ -1,14 +1,14 @@
 -- Writing back: the answer, and what the text buffer holds at return.
 -- Assumes nothing.
-use mathlib.Core.Bool.{not}
 use mathlib.Core.List.{List}
-use Prim.Native.Nat.{ℕ, _+_, _/_}
+use Prim.Native.Nat.{ℕ, _/_}
 use lib.Dec.{ltb}
 use lib.ListN.{length, getD}
-use Rattle.model.specs.Answers.{Outcome, refused, answered}
+use Rattle.model.specs.declared.Counting.{Counting}
+use Rattle.model.specs.Answers.{Outcome, refused, answered, countAnswer}
 use Rattle.model.specs.Basics.{if_then_else_, over}
 use Rattle.model.specs.SurveyText.{surveyText, ordered}
-use Rattle.model.specs.Survey.{neighboursOf, badSize, isSurvey}
+use Rattle.model.specs.Survey.{neighboursOf, accepting}
 
 -- the text of a survey: m is half the last start
 unfoldable pub textOf : (n : ℕ) (starts neighbours : List ℕ) → List ℕ
@@ -18,14 +18,17 @@ pub record Writing : Type 0 where
   pub answer : Outcome ℕ
   pub buffer : List ℕ
 
+-- what a call of the code returned and left in the buffer
+abbrev pub returned : Counting → List ℕ → Writing
+returned r b = record { answer = countAnswer r; buffer = b }
+
 -- "2; 8 `starts` too short; 9; 12 the text buffer too short. Refused, the buffer is unaltered; accepted, the answer is the text's
 -- length. Bytes past the text keep their values."
-unfoldable pub writing : (n : ℕ) (starts neighbours buffer : List ℕ) → Writing
-writing n starts neighbours buffer =
-    let text = textOf n starts neighbours in
-    let refuse : ℕ → Writing = λ r. record { answer = refused r; buffer = buffer } in
-    if badSize n then refuse 2
-    else if ltb (length starts) (n + 1) then refuse 8
-    else if not (isSurvey n starts neighbours) then refuse 9
-    else if ltb (length buffer) (length text) then refuse 12
+unfoldable pub writingOf : Outcome (Unit {0}) → (text buffer : List ℕ) → Writing
+writingOf (refused k) text buffer = record { answer = refused k; buffer = buffer }
+writingOf (answered x) text buffer =
+    if ltb (length buffer) (length text) then record { answer = refused 12; buffer = buffer }
     else record { answer = answered (length text); buffer = over text buffer }
+
+unfoldable pub writing : (n : ℕ) (starts neighbours buffer : List ℕ) → Writing
+writing n starts neighbours buffer = writingOf (accepting n starts neighbours) (textOf n starts neighbours) buffer

@@ -1,6 +1,6 @@
 // Texts: numbers and lines, read and written.
 ghost use mathlib.Core.Path.{_≡_};
-ghost use Prim.Native.Nat.{_+_, _≤_, _<_};
+ghost use Prim.Native.Nat.{ℕ, _+_, _≤_, _<_};
 ghost use mathlib.Core.List.{[], _∷_};
 ghost use lib.Dec.{T};
 ghost use lib.ListN.{length, replicate, drop};
@@ -159,6 +159,14 @@ pub fn digit_count(x: u32) -> usize
         n += 1;
     }
     n
+}
+
+// The length of a line of two numbers.
+pub fn line_length(a: u32, b: u32) -> usize
+    ensures { λ r. ⌜ ((letter : ℕ) → r ≡ length (lineOf letter a b)) ⌝ }
+    ensures { λ r. ⌜ r ≤ 24 ⌝ }
+{
+    digit_count(a) + digit_count(b) + 4
 }
 
 // Writes a byte at a place, and returns the next place.

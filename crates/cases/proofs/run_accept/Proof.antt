@@ -1,0 +1,100 @@
+-- `cases::run_accept` ends.
+-- Assumes nothing.
+use mathlib.Core.Path.{sym}
+use native.Mathlib.Omega.{arith}
+use lib.Seq.{length-take-le}
+use borrow.Author.Needs.{needs}
+use Rattle.cases.proofs.run_accept.Statement.{statement}
+use Rattle.cases.proofs.run_accept.Tie as tie
+use Rattle.cases.proofs.run_accept.Reads as reads
+use Rattle.cases.proofs.run_accept.Lts as lts
+use Rattle.cases.proofs.at_most.Reads as at-most-reads
+use Rattle.cases.proofs.print_line.Reads as print-line-reads
+use Rattle.cases.proofs.read_command.Reads as read-command-reads
+use Rattle.refusals.proofs.refusal_number.Reads as refusal-number-reads
+use Rattle.survey.proofs.accept.Reads as accept-reads
+
+-- src/main.rt:122:9
+read-command-requires : tie.Need-read-command-requires
+read-command-requires c κs = search needs
+
+-- src/main.rt:123:9
+at-most-requires : tie.Need-at-most-requires
+at-most-requires c κs = search needs
+
+-- src/main.rt:124:9
+at-most-requires-2 : tie.Need-at-most-requires-2
+at-most-requires-2 c κs = search needs
+
+-- src/main.rt:125:40
+slice-aggregate-accept : tie.Need-slice-aggregate-accept
+slice-aggregate-accept c = sym (length-take-le ((c .before .before .at-most .result)) ((c .before .before .before .before .before .before .before .args .starts .now)) ((c .before .before .at-most .ensures)))
+
+-- src/main.rt:125:54
+slice-aggregate-accept-2 : tie.Need-slice-aggregate-accept-2
+slice-aggregate-accept-2 c = sym (length-take-le ((c .before .before .at-most2 .result)) ((c .before .before .before .before .before .before .before .before .args .neighbours .now)) ((c .before .before .at-most2 .ensures)))
+
+-- src/main.rt:125:11
+accept-requires : tie.Need-accept-requires
+accept-requires c κs = search needs
+
+-- src/main.rt:126:28
+enum-known-r : tie.Need-enum-known-r
+enum-known-r c = search needs
+
+-- src/main.rt:126:57
+refusal-number-requires : tie.Need-refusal-number-requires
+refusal-number-requires c κs = search needs
+
+-- src/main.rt:126:57
+cast-t19 : tie.Need-cast-t19
+cast-t19 c = search needs
+
+-- src/main.rt:126:55
+slice-aggregate-print-line : tie.Need-slice-aggregate-print-line
+slice-aggregate-print-line c = search needs
+
+-- src/main.rt:126:34
+print-line-requires : tie.Need-print-line-requires
+print-line-requires c κs = search needs
+
+-- src/main.rt:127:53
+enum-told : tie.Need-enum-told
+enum-told c = search needs
+
+-- src/main.rt:127:53
+slice-aggregate-print-line-2 : tie.Need-slice-aggregate-print-line-2
+slice-aggregate-print-line-2 c = search needs
+
+-- src/main.rt:127:32
+print-line-requires-2 : tie.Need-print-line-requires-2
+print-line-requires-2 c κs = search needs
+
+-- src/main.rt:121:1
+returns : tie.Need-returns
+returns c = search needs
+
+-- src/main.rt:121:1
+returns-2 : tie.Need-returns-2
+returns-2 c = search needs
+
+pub run-accept-spec : {M : Type 1} → statement M
+run-accept-spec =
+    tie.close
+    (tie.spec
+    read-command-requires
+    at-most-requires
+    at-most-requires-2
+    slice-aggregate-accept
+    slice-aggregate-accept-2
+    accept-requires
+    enum-known-r
+    refusal-number-requires
+    cast-t19
+    slice-aggregate-print-line
+    print-line-requires
+    enum-told
+    slice-aggregate-print-line-2
+    print-line-requires-2
+    returns
+    returns-2)

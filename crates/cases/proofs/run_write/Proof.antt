@@ -1,0 +1,131 @@
+-- `cases::run_write` ends.
+-- Assumes nothing.
+use mathlib.Core.Path.{sym}
+use native.Mathlib.Omega.{arith}
+use lib.Seq.{length-take-le}
+use borrow.Author.Needs.{needs}
+use Rattle.cases.proofs.run_write.Statement.{statement}
+use Rattle.cases.proofs.run_write.Tie as tie
+use Rattle.cases.proofs.run_write.Reads as reads
+use Rattle.cases.proofs.run_write.Lts as lts
+use Rattle.cases.proofs.at_most.Reads as at-most-reads
+use Rattle.cases.proofs.print_line.Reads as print-line-reads
+use Rattle.cases.proofs.read_command.Reads as read-command-reads
+use Rattle.cases.proofs.sum8.Reads as sum8-reads
+use Rattle.refusals.proofs.refusal_number.Reads as refusal-number-reads
+use Rattle.writing.proofs.write_survey.Reads as write-survey-reads
+
+-- src/main.rt:139:9
+read-command-requires : tie.Need-read-command-requires
+read-command-requires c κs = search needs
+
+-- src/main.rt:140:9
+at-most-requires : tie.Need-at-most-requires
+at-most-requires c κs = search needs
+
+-- src/main.rt:141:9
+at-most-requires-2 : tie.Need-at-most-requires-2
+at-most-requires-2 c κs = search needs
+
+-- src/main.rt:142:9
+at-most-requires-3 : tie.Need-at-most-requires-3
+at-most-requires-3 c κs = search needs
+
+-- src/main.rt:143:54
+slice-aggregate-write-survey : tie.Need-slice-aggregate-write-survey
+slice-aggregate-write-survey c = sym (length-take-le ((c .before .before .before .at-most .result)) ((c .before .before .before .before .before .before .before .before .before .args .starts .now)) ((c .before .before .before .at-most .ensures)))
+
+-- src/main.rt:143:68
+slice-aggregate-write-survey-2 : tie.Need-slice-aggregate-write-survey-2
+slice-aggregate-write-survey-2 c = sym (length-take-le ((c .before .before .before .at-most2 .result)) ((c .before .before .before .before .before .before .before .before .before .before .args .neighbours .now)) ((c .before .before .before .at-most2 .ensures)))
+
+-- src/main.rt:143:86
+slice-relend-prefix-write-survey : tie.Need-slice-relend-prefix-write-survey
+slice-relend-prefix-write-survey c = search needs
+
+-- src/main.rt:143:86
+slice-aggregate-write-survey-3 : tie.Need-slice-aggregate-write-survey-3
+slice-aggregate-write-survey-3 c = sym (length-take-le ((c .before .before .before .at-most3 .result)) ((c .before .before .before .before .before .before .before .before .before .before .before .args .buffer .now)) ((c .before .before .before .at-most3 .ensures)))
+
+-- src/main.rt:143:9
+write-survey-requires : tie.Need-write-survey-requires
+write-survey-requires c κs = search needs
+
+-- src/main.rt:144:9
+sum8-requires : tie.Need-sum8-requires
+sum8-requires c κs = search needs
+
+-- src/main.rt:146:27
+enum-known-answer : tie.Need-enum-known-answer
+enum-known-answer c = search needs
+
+-- src/main.rt:146:56
+refusal-number-requires : tie.Need-refusal-number-requires
+refusal-number-requires c κs = search needs
+
+-- src/main.rt:146:56
+cast-t26 : tie.Need-cast-t26
+cast-t26 c = search needs
+
+-- src/main.rt:146:54
+slice-aggregate-print-line : tie.Need-slice-aggregate-print-line
+slice-aggregate-print-line c = search needs
+
+-- src/main.rt:146:33
+print-line-requires : tie.Need-print-line-requires
+print-line-requires c κs = search needs
+
+-- src/main.rt:147:25
+enum-known-answer-2 : tie.Need-enum-known-answer-2
+enum-known-answer-2 c = search needs
+
+-- src/main.rt:147:52
+slice-aggregate-print-line-2 : tie.Need-slice-aggregate-print-line-2
+slice-aggregate-print-line-2 c = search needs
+
+-- src/main.rt:147:31
+print-line-requires-2 : tie.Need-print-line-requires-2
+print-line-requires-2 c κs = search needs
+
+-- src/main.rt:132:1
+same-length : tie.Need-same-length
+same-length c = search needs
+
+-- src/main.rt:132:1
+returns : tie.Need-returns
+returns c = search needs
+
+-- src/main.rt:132:1
+same-length-2 : tie.Need-same-length-2
+same-length-2 c = search needs
+
+-- src/main.rt:132:1
+returns-2 : tie.Need-returns-2
+returns-2 c = search needs
+
+pub run-write-spec : {M : Type 1} → statement M
+run-write-spec =
+    tie.close
+    (tie.spec
+    read-command-requires
+    at-most-requires
+    at-most-requires-2
+    at-most-requires-3
+    slice-aggregate-write-survey
+    slice-aggregate-write-survey-2
+    slice-relend-prefix-write-survey
+    slice-aggregate-write-survey-3
+    write-survey-requires
+    sum8-requires
+    enum-known-answer
+    refusal-number-requires
+    cast-t26
+    slice-aggregate-print-line
+    print-line-requires
+    enum-known-answer-2
+    slice-aggregate-print-line-2
+    print-line-requires-2
+    same-length
+    returns
+    same-length-2
+    returns-2)

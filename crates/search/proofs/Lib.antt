@@ -1,0 +1,4 @@
+pub mod Visiting
+pub mod Bfs
+pub mod Turns
+pub mod TableRow
