@@ -9,7 +9,7 @@ ghost use Rattle.model.specs.Survey.{neighboursOf, Accepted};
 ghost use Rattle.model.specs.Hubs.{isHigh, closed, gain, best, hubs, hubList};
 ghost use Rattle.nodeset.specs.NodeSet.{member, without};
 
-// Entries after the hubs.
+// What the list holds after the hubs.
 const NONE: u16 = 65535;
 
 // The nodes with at least s neighbours, put into the empty set. A node's degree is known from two starts.
@@ -104,6 +104,7 @@ pub fn choose_hubs(
     high_nodes(n, s, starts, neighbours, &mut uncovered);
     let mut count = 0;
     loop {
+        // the smallest uncovered node: where it is not below n, every high node is covered
         let first = nodeset::smallest(&uncovered);
         if n <= first {
             break;
