@@ -2,10 +2,11 @@
 -- Assumes nothing.
 use mathlib.Core.Path.{_≡_, refl, sym, ap, _∙_, subst}
 use mathlib.Core.List.{List, [], _∷_, _++_, append-assoc, append-nil}
-use Prim.Native.Nat.{ℕ, _+_, _≤_}
+use Prim.Native.Nat.{ℕ, _+_, _-_, _≤_}
 use native.Mathlib.Nat.{add-assoc}
 use native.Mathlib.Numerals.{add-one}
 use native.Mathlib.Omega.{arith}
+use borrow.Rule.Slice.PartMut.{putMid}
 use lib.ListN.{length, take, drop, set, length-append, length-drop}
 use lib.Seq.{set-split, append-snoc, length-take-le, take-at, drop-at, drop-append-add, drop-drop, paste-zero}
 use Rattle.model.specs.Basics.{over}
@@ -84,6 +85,16 @@ unfolding written over
 wrote-over {buf} t w =
     let z : 0 + length t ≡ length t = omega arith in
     (w .text ∙ ap (λ (k : ℕ). t ++ drop k buf) z, w .ends ∙ z)
+
+-- a part that was lent and is put back is written at its place
+pub put-written : (l : List ℕ) (at k : ℕ) (part : List ℕ) → length part ≡ k → putMid at k l part ≡ written l at part
+unfolding written
+put-written l at k part e =
+    sym (append-assoc (take at l) part (drop k (drop at l)))
+    ∙ ap (λ (r : List ℕ). take at l ++ part ++ r) (drop-drop k at l ∙ ap (λ (i : ℕ). drop (at + i) l) (sym e))
+
+pub wrote-part : (l : List ℕ) (at e : ℕ) (part : List ℕ) → at ≤ e → length part ≡ e - at → Wrote l (putMid at (e - at) l part) at e part
+wrote-part l at e part h k = record { ends = omega arith; text = put-written l at (e - at) part k }
 
 -- ---- a text that is written piece by piece: what is written, and what is left, are the whole
 pub record Left (buf buf′ : List ℕ) (at pos : ℕ) (whole left : List ℕ) : Type 0 where

@@ -94,7 +94,7 @@ module _ (n : ℕ) (G : Graph) where
       clash y p q = omega arith
 
   -- the best node holds at least one of a list that is not empty
-  best-gains : (u : ℕ) (U : List ℕ) → u < n → 0 < gain G (u ∷ U) (best n G (u ∷ U))
+  pub best-gains : (u : ℕ) (U : List ℕ) → u < n → 0 < gain G (u ∷ U) (best n G (u ∷ U))
   unfolding gain closed
   best-gains u U h =
       let b = best-is (u ∷ U) (le-trans (suc-le-suc zero-le) h) in

@@ -3,8 +3,8 @@
 use mathlib.Core.Path.{_≡_, refl, sym, ap, ap₂, _∙_, subst}
 use mathlib.Core.Logic.{_⊎_, inl, inr}
 use mathlib.Core.Bool.{Bool, true, false, not, _&&_, _||_}
-use mathlib.Core.List.{List, [], _∷_, _++_, map, append-assoc}
-use Prim.Native.Nat.{ℕ, zero, suc, _+_, _≤_, _<_, suc-le-suc, zero-le}
+use mathlib.Core.List.{List, [], _∷_, _++_, map, append-assoc, append-nil}
+use Prim.Native.Nat.{ℕ, zero, suc, _+_, _-_, _≤_, _<_, suc-le-suc, zero-le}
 use native.Mathlib.Nat.{le-step, le-refl, add-zero, add-suc, suc-add, zero-add}
 use native.Mathlib.Omega.{arith}
 use lib.Dec.{T, eqb, eqb→eq, eqb-refl}
@@ -437,6 +437,14 @@ of-gather f (y ∷ l) x h = go (of-append x (f y) (gather f l) h) (λ r. of-gath
 pub upTo-add : (u k n : ℕ) → u + k ≡ n → upTo n ≡ upTo u ++ from u k
 unfolding upTo
 upTo-add u k n e = ap (from 0) (sym e) ∙ from-add 0 u k ∙ ap (λ (x : ℕ). from 0 u ++ from x k) (zero-add u)
+
+-- where only numbers below n pass, more numbers keep no more
+pub keep-below : (p : ℕ → Bool) (n m : ℕ) → n ≤ m → ((x : ℕ) → T (p x) → x < n) → keep p (upTo m) ≡ keep p (upTo n)
+keep-below p n m h f =
+    let e : upTo m ≡ upTo n ++ from n (m - n) = upTo-add n (m - n) m (omega arith) in
+    ap (keep p) e ∙ keep-append p (upTo n) (from n (m - n))
+    ∙ ap (λ (l : List ℕ). keep p (upTo n) ++ l) (keep-none p (from n (m - n)) (λ x k t. omega (arith, of-from n (m - n) x k, f x t)))
+    ∙ append-nil (keep p (upTo n))
 
 pub map-append : {A B : Type 0} (f : A → B) (k l : List A) → map f (k ++ l) ≡ map f k ++ map f l
 map-append f [] l = refl

@@ -1,10 +1,11 @@
 -- Sets of numbers as lists of 64-bit words (bit sets).
 -- Assumes nothing.
 use mathlib.Core.Bool.{Bool, false, not, _&&_, _||_}
-use mathlib.Core.List.{List}
-use Prim.Native.Nat.{ℕ, _/_, _%_, _^_}
+use mathlib.Core.List.{List, [], _∷_}
+use Prim.Native.Nat.{ℕ, zero, suc, _/_, _%_, _^_}
 use lib.Dec.{eqb}
 use lib.ListN.{getD}
+use Rattle.model.specs.Basics.{if_then_else_}
 
 -- a set says of each number whether it is in it
 abbrev pub Nodes : Type 0
@@ -30,3 +31,8 @@ both p q x = p x && q x
 
 unfoldable pub without : Nodes → Nodes → Nodes
 without p q x = p x && not (q x)
+
+-- the set bits of the k lowest of a word, ascending, where the lowest bit stands for the number u
+unfoldable pub membersFrom : ℕ → ℕ → ℕ → List ℕ
+membersFrom zero u w = []
+membersFrom (suc k) u w = let rest = membersFrom k (suc u) (w / 2) in if eqb (w % 2) 1 then u ∷ rest else rest

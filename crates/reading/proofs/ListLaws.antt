@@ -14,9 +14,9 @@ use Rattle.model.specs.Survey.{Graph}
 use Rattle.model.specs.Reading.{startsOf, neighboursFrom}
 use Rattle.model.proofs.Lists.{keep-append, gather-append, map-append, upTo-suc, upTo-add}
 use Rattle.model.proofs.Entries.{length-row}
-use Rattle.nodeset.specs.NodeSet.{bit, member}
-use Rattle.reading.specs.Links.{linksIn, membersFrom, rowsIn}
-use Rattle.reading.proofs.Members.{row-word}
+use Rattle.nodeset.specs.NodeSet.{bit, member, membersFrom}
+use Rattle.nodeset.proofs.Members.{row-word}
+use Rattle.reading.specs.Links.{linksIn, rowsIn}
 
 -- what is kept of the numbers below u is no more than of those below n
 keep-mono : (f : ℕ → Bool) (u n : ℕ) → u ≤ n → length (keep f (upTo u)) ≤ length (keep f (upTo n))

@@ -2,9 +2,9 @@
 -- Assumes nothing.
 use mathlib.Core.Path.{_≡_, refl, sym, ap, ap₂, _∙_, subst}
 use mathlib.Core.Bool.{false, _||_, or-true}
-use mathlib.Core.List.{List, [], _++_, append-nil}
+use mathlib.Core.List.{List, []}
 use mathlib.Core.Option.{none as missing, some}
-use Prim.Native.Nat.{ℕ, _+_, _-_, _*_, _≤_, _<_}
+use Prim.Native.Nat.{ℕ, _+_, _*_, _≤_, _<_}
 use native.Mathlib.Omega.{arith}
 use borrow.Author.Tests.{lt-ltb, le-ltb}
 use lib.Dec.{T, ltb}
@@ -12,10 +12,10 @@ use lib.ListN.{length, replicate, length-replicate}
 use Rattle.model.specs.Answers.{Outcome, refused, answered, number}
 use Rattle.model.specs.declared.Refusal.{Refusal}
 use Rattle.model.specs.declared.Reading.the-variants as read
-use Rattle.model.specs.Basics.{from, upTo, has, keep, over}
+use Rattle.model.specs.Basics.{upTo, has, over}
 use Rattle.model.specs.SurveyText.{line}
 use Rattle.model.specs.Reading.{named, readLinks, parsed, countsOf, parseLinks, parse, graphOf, startsOf, neighboursFrom, Reading, returned, readingOf, reading}
-use Rattle.model.proofs.Lists.{keep-append, keep-same, keep-none, upTo-add, of-from, of-upTo}
+use Rattle.model.proofs.Lists.{keep-same, keep-below, of-upTo}
 use Rattle.model.proofs.Links.{Within, AllFresh, first-taken, of-first-taken, links-sound}
 use Rattle.model.specs.Demand.{ReadRight}
 use Rattle.model.proofs.ReadBack.{named-below, reading-right}
@@ -81,13 +81,8 @@ module _ (n : ℕ) (size : n ≤ 1024) (ws : List ℕ) (ls : List (ℕ × ℕ)) 
   rows-same : (v : ℕ) → v < n → rowsIn ws v ≡ graphOf n ls v
   unfolding rowsIn graphOf
   rows-same v h =
-      let e : upTo 1024 ≡ upTo n ++ from n (1024 - n) = upTo-add n (1024 - n) 1024 (omega arith) in
       keep-same (linksIn ws v) (named ls v) (upTo 1024) (λ u k t. subst T (says u k) t) (λ u k t. subst T (sym (says u k)) t)
-      ∙ ap (keep (named ls v)) e
-      ∙ keep-append (named ls v) (upTo n) (from n (1024 - n))
-      ∙ ap (λ (l : List ℕ). keep (named ls v) (upTo n) ++ l)
-      (keep-none (named ls v) (from n (1024 - n)) (λ u k t. omega (arith, of-from n (1024 - n) u k, named-below n ls [] fresh v u t)))
-      ∙ append-nil (keep (named ls v) (upTo n))
+      ∙ keep-below (named ls v) n 1024 size (λ u t. named-below n ls [] fresh v u t .1)
     where
       says : (u : ℕ) → T (has u (upTo 1024)) → linksIn ws v u ≡ named ls v u
       says u k = held .says v u (omega arith) (of-upTo 1024 u k)

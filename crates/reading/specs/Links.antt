@@ -3,11 +3,10 @@
 use mathlib.Core.Bool.{Bool}
 use mathlib.Core.List.{List, [], _∷_}
 use mathlib.Core.Path.{_≡_}
-use Prim.Native.Nat.{ℕ, zero, suc, _+_, _*_, _/_, _%_, _<_}
-use lib.Dec.{eqb}
+use Prim.Native.Nat.{ℕ, _+_, _*_, _<_}
 use lib.ListN.{length, drop}
 use Rattle.model.specs.Answers.{Outcome, refused, answered, number}
-use Rattle.model.specs.Basics.{if_then_else_, upTo, keep}
+use Rattle.model.specs.Basics.{upTo, keep}
 use Rattle.model.specs.Survey.{Graph}
 use Rattle.model.specs.SurveyText.{line}
 use Rattle.model.specs.Reading.{named, linkOf}
@@ -47,11 +46,6 @@ Told (refused k) links.Taken ws = ⊥
 abbrev pub firstAnswer : List ℕ → First → Outcome (ℕ × ℕ × List ℕ)
 firstAnswer s (first.Counts n m e) = answered (n, m, drop e s)
 firstAnswer s (first.Refused r) = refused (number r)
-
--- the set bits of the k lowest of a word, ascending, where the lowest bit stands for the number u
-unfoldable pub membersFrom : ℕ → ℕ → ℕ → List ℕ
-membersFrom zero u w = []
-membersFrom (suc k) u w = let rest = membersFrom k (suc u) (w / 2) in if eqb (w % 2) 1 then u ∷ rest else rest
 
 -- the graph of the matrix: each node's neighbours, ascending
 unfoldable pub rowsIn : List ℕ → Graph

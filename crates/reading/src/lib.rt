@@ -12,8 +12,8 @@ ghost use Rattle.model.specs.Basics.{over};
 ghost use Rattle.model.specs.SurveyText.{line};
 ghost use Rattle.model.specs.Reading.{readLinks, countsOf, startsOf, neighboursFrom, parsed, parse, returned, readingOf, reading};
 ghost use Rattle.model.specs.Demand.{ReadRight};
-ghost use Rattle.nodeset.specs.NodeSet.{member};
-ghost use Rattle.reading.specs.Links.{linksIn, linkIn, stepAnswer, Told, membersFrom, rowsIn, firstAnswer};
+ghost use Rattle.nodeset.specs.NodeSet.{member, membersFrom};
+ghost use Rattle.reading.specs.Links.{linksIn, linkIn, stepAnswer, Told, rowsIn, firstAnswer};
 
 // What a link line says: the link and the place after its line.
 pub enum Step {

@@ -1,21 +1,14 @@
 -- Row s of a table of n rows of n entries, as a part of the table: where it ends, how long it is, and the table with another row in its place.
 -- Assumes nothing.
 use mathlib.Core.Path.{_≡_, sym, ap, _∙_}
-use mathlib.Core.List.{List, _++_, append-assoc}
+use mathlib.Core.List.{List}
 use Prim.Native.Nat.{ℕ, _+_, _-_, _*_, _≤_, _<_}
 use native.Mathlib.Nat.{suc-mul, mul-le-mul-right, add-sub-cancel-left}
 use native.Mathlib.Omega.{arith}
-use lib.ListN.{length, take, drop}
-use lib.Seq.{drop-drop}
+use lib.ListN.{length}
 use borrow.Rule.Slice.PartMut.{midOf, putMid, mid-len}
 use Rattle.lists.specs.Writing.{written}
-
--- a part that is put back is written at its place
-pub put-written : (l : List ℕ) (at k : ℕ) (part : List ℕ) → length part ≡ k → putMid at k l part ≡ written l at part
-unfolding written
-put-written l at k part e =
-    sym (append-assoc (take at l) part (drop k (drop at l)))
-    ∙ ap (λ (r : List ℕ). take at l ++ part ++ r) (drop-drop k at l ∙ ap (λ (i : ℕ). drop (at + i) l) (sym e))
+use Rattle.lists.proofs.Writing.{put-written}
 
 module _ (n s : ℕ) (table : List ℕ) (h : s < n) (room : n * n ≤ length table) where
   pub row-ends : s * n + n ≤ length table

@@ -9,7 +9,7 @@ use native.Mathlib.Nat.{add-zero}
 use native.Mathlib.Omega.{arith}
 use borrow.Author.Tests.{leb-true, leb-false}
 use lib.Dec.{T, eqb, ltb, leb, eqb→eq, ltb→lt, lt→ltb, not-T, T-not}
-use lib.ListN.{length, getD, drop, set, length-set, length-append, length-take, length-drop, List·getD-append}
+use lib.ListN.{length, getD, drop, set, length-set, length-append, List·getD-append}
 use lib.Seq.{getD-take, getD-drop, getD-set-same, getD-set-other}
 use Rattle.model.specs.Basics.{if_then_else_, upTo, has, all, keep}
 use Rattle.model.specs.Survey.{Graph, neighboursOf, ascending}
@@ -18,7 +18,7 @@ use Rattle.model.proofs.Lists.{has-head, none-in, of-cons, of-single, has-appen
 use Rattle.model.proofs.Ascending.{getD-has, has-getD, standing, below-more, below-same, ascending-front, ascending-back}
 use Rattle.survey.specs.Rows.{SortedRows, mirrors}
 use Rattle.survey.specs.Matching.{stands, moved, Pass, pass, matchRow, matchRows}
-use Rattle.survey.proofs.RowLaws.{part, start-last}
+use Rattle.survey.proofs.RowLaws.{part, own-length, start-last}
 
 -- a pass keeps the cursors' count
 pub row-length : (starts neighbours : List ℕ) (v : ℕ) (xs : List ℕ) (k : ℕ) (cs : List ℕ) → length (matchRow starts neighbours v k xs cs .cursors) ≡ length cs
@@ -43,12 +43,6 @@ module _ (n : ℕ) (starts neighbours : List ℕ) (ok : SortedRows n starts neig
   -- the start of a row
   abbrev S : ℕ → ℕ
   S v = getD starts v 0
-
-  own-length : (v : ℕ) → v < n → length (neighboursOf starts neighbours v) ≡ getD starts (v + 1) 0 - getD starts v 0
-  unfolding neighboursOf
-  own-length v h =
-      let p = part n starts neighbours (ok .rows) v h in
-      length-take (S (v + 1) - S v) (drop (S v) neighbours) ∙ omega (arith, length-drop (S v) neighbours, p .from-to, p .end)
 
   own-at : (v i : ℕ) → getD starts v 0 + i < getD starts (v + 1) 0 → getD neighbours (getD starts v 0 + i) 0 ≡ getD (neighboursOf starts neighbours v) i 0
   unfolding neighboursOf
@@ -131,7 +125,7 @@ module _ (n : ℕ) (starts neighbours : List ℕ) (ok : SortedRows n starts neig
         let k = length (keep (λ u. ltb u v) (G x)) in
         let s = standing (G x) v (ok .sorted x hn) there in
         let c : getD cs x 0 ≡ S x + k = w .not-told M x hx new in
-        let l = own-length x hn in
+        let l = own-length n starts neighbours (ok .rows) x hn in
         let in-row : S x + k < S (x + 1) = omega (arith, s .0) in (
           omega arith,
           ap (λ (j : ℕ). getD neighbours j 0) c ∙ own-at x k in-row ∙ s .1,
@@ -158,7 +152,7 @@ module _ (n : ℕ) (starts neighbours : List ℕ) (ok : SortedRows n starts neig
       hit =
           let hn : x < n = omega arith in
           let p = w .place x hx in
-          subst (λ (z : ℕ). T (has z (G x))) entry (getD-has (G x) (getD cs x 0 - S x) (omega (arith, own-length x hn, p .0)))
+          subst (λ (z : ℕ). T (has z (G x))) entry (getD-has (G x) (getD cs x 0 - S x) (omega (arith, own-length n starts neighbours (ok .rows) x hn, p .0)))
 
       within-next : Within v (done ++ x ∷ []) (moved x cs)
       within-next = record {
@@ -297,7 +291,7 @@ module _ (n : ℕ) (starts neighbours : List ℕ) (ok : SortedRows n starts neig
     row-done = record {
       place = λ x h. ⊎-elim
           (λ q. subst (λ (z : ℕ). (S z ≤ getD placed z 0) × (getD placed z 0 ≤ S (z + 1))) (sym q)
-          (omega (arith, own-place), omega (arith, own-place, own-length v hv, ap length e ∙ length-append done rest, part n starts neighbours (ok .rows) v hv .from-to)))
+          (omega (arith, own-place), omega (arith, own-place, own-length n starts neighbours (ok .rows) v hv, ap length e ∙ length-append done rest, part n starts neighbours (ok .rows) v hv .from-to)))
           (λ d. subst (λ (z : ℕ). (S x ≤ z) × (z ≤ S (x + 1))) (sym (kept-place x d)) (w .place x (omega arith)))
           (eq-or x v);
       back = λ u x h m l. ⊎-elim
@@ -357,14 +351,14 @@ module _ (n : ℕ) (starts neighbours : List ℕ) (ok : SortedRows n starts neig
           let d : x ≡ v → ⊥ = λ e. u .self v hv (subst (λ (z : ℕ). T (has z (G v))) e m) in
           let i = has-getD (G v) x m in
           let f : getD cs v 0 ≡ S (v + 1) = eqb→eq (getD cs v 0) (S (v + 1)) (of-all p (upTo n) t v (has-upTo n v hv)) in
-          subst (λ (z : ℕ). T (has v (G z))) (i .2) (u .forth v (i .0) hv (omega (arith, i .1, own-length v hv)) (omega (arith, i .2))))
+          subst (λ (z : ℕ). T (has v (G z))) (i .2) (u .forth v (i .0) hv (omega (arith, i .1, own-length n starts neighbours (ok .rows) v hv)) (omega (arith, i .2))))
           (lt-or x v)
 
       end : Mirror → (v : ℕ) → v < n → getD cs v 0 ≡ S (v + 1)
       end M v hv =
           u .told M v hv
           ∙ ap (λ (l : List ℕ). S v + length l) (keep-all (λ y. ltb y n) (G v) (λ y m. lt→ltb y n (ok .below v y hv m)))
-          ∙ omega (arith, own-length v hv, part n starts neighbours (ok .rows) v hv .from-to)
+          ∙ omega (arith, own-length n starts neighbours (ok .rows) v hv, part n starts neighbours (ok .rows) v hv .from-to)
 
   -- the pass over all rows: it comes to the end, or the lists do not mirror
   pub rows-right : (k v : ℕ) (cs : List ℕ) → v + k ≡ n → n ≤ length cs → Upto v cs
@@ -396,4 +390,4 @@ module _ (n : ℕ) (starts neighbours : List ℕ) (ok : SortedRows n starts neig
   -- a cursor stays within the list
   pub place-small : (v k : ℕ) → v < n → k ≤ length (neighboursOf starts neighbours v) → getD starts v 0 + k ≤ 32768
   place-small v k hv l =
-      omega (arith, own-length v hv, part n starts neighbours (ok .rows) v hv .from-to, start-last n starts neighbours (ok .rows) (v + 1) (omega arith), ok .small)
+      omega (arith, own-length n starts neighbours (ok .rows) v hv, part n starts neighbours (ok .rows) v hv .from-to, start-last n starts neighbours (ok .rows) (v + 1) (omega arith), ok .small)

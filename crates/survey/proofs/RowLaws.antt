@@ -5,8 +5,8 @@ use mathlib.Core.List.{List}
 use Prim.Native.Nat.{ℕ, zero, suc, _+_, _-_, _≤_, _<_}
 use native.Mathlib.Nat.{add-zero, le-refl}
 use native.Mathlib.Omega.{arith}
-use lib.ListN.{length, getD}
-use Rattle.model.specs.Survey.{Accepted}
+use lib.ListN.{length, getD, drop, length-take, length-drop}
+use Rattle.model.specs.Survey.{Accepted, neighboursOf}
 use Rattle.survey.specs.Rows.{Rows}
 
 module _ (n : ℕ) (starts neighbours : List ℕ) (r : Rows n starts neighbours) where
@@ -30,6 +30,14 @@ module _ (n : ℕ) (starts neighbours : List ℕ) (r : Rows n starts neighbours)
 
   pub part : (v : ℕ) → v < n → Part v
   part v h = record { from-to = r .rising v h; end = start-within (v + 1) (omega arith) }
+
+  -- as many as the two starts say
+  pub own-length : (v : ℕ) → v < n → length (neighboursOf starts neighbours v) ≡ getD starts (v + 1) 0 - getD starts v 0
+  unfolding neighboursOf
+  own-length v h =
+      let p = part v h in
+      length-take (getD starts (v + 1) 0 - getD starts v 0) (drop (getD starts v 0) neighbours)
+      ∙ omega (arith, length-drop (getD starts v 0) neighbours, p .from-to, p .end)
 
 -- an accepted survey's rows can be read
 pub rows-of : {n : ℕ} {starts neighbours : List ℕ} → Accepted n starts neighbours → Rows n starts neighbours

@@ -5,22 +5,16 @@ use Rattle.nodeset.specs.NodeSet.{member, bit}
 use borrow.Author.Needs.{needs}
 use Rattle.nodeset.proofs.contains.Statement.{statement}
 use Rattle.nodeset.proofs.contains.Tie as tie
-use Rattle.nodeset.proofs.contains.Reads as reads
-use Rattle.nodeset.proofs.contains.Lts as lts
 
--- src/lib.rt:24:6
 mul-result : tie.Need-mul-result
 mul-result c = search needs
 
--- src/lib.rt:24:6
 shared-slice-read-result : tie.Need-shared-slice-read-result
 shared-slice-read-result c = search needs
 
--- src/lib.rt:24:6
 shr-result : tie.Need-shr-result
 shr-result c = search needs
 
--- src/lib.rt:18:1
 returns : tie.Need-returns
 unfolding member bit
 returns c = refl
