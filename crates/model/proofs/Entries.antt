@@ -25,10 +25,11 @@ pub length-row : (g : ℕ → ℕ) (n : ℕ) → length (map g (upTo n)) ≡ n
 length-row g n = length-map (upTo n) g ∙ length-upTo n
 
 module _ (n : ℕ) (f : ℕ → ℕ → ℕ) where
-  rows : ℕ → ℕ → List ℕ
+  -- the m rows from row k on
+  unfoldable pub rows : ℕ → ℕ → List ℕ
   rows k m = gather (λ a. map (f a) (upTo n)) (from k m)
 
-  length-rows : (k m : ℕ) → length (rows k m) ≡ m * n
+  pub length-rows : (k m : ℕ) → length (rows k m) ≡ m * n
   unfolding rows from gather
   length-rows k zero = sym (zero-mul n)
   length-rows k (suc m) = length-append (map (f k) (upTo n)) (rows (suc k) m) ∙ omega (arith, length-row (f k) n, length-rows (suc k) m, suc-mul m n)

@@ -5,7 +5,8 @@ use mathlib.Core.List.{List}
 use Prim.Native.Nat.{ℕ, _+_, _*_}
 use lib.Dec.{ltb}
 use lib.ListN.{length}
-use Rattle.model.specs.Answers.{Outcome, refused, answered}
+use Rattle.model.specs.declared.Counting.{Counting}
+use Rattle.model.specs.Answers.{Outcome, refused, answered, countAnswer}
 use Rattle.model.specs.Basics.{if_then_else_, over}
 use Rattle.model.specs.Survey.{Graph, neighboursOf, badSize, isSurvey}
 use Rattle.model.specs.Threshold.{threshold}
@@ -18,6 +19,10 @@ pub record Building : Type 0 where
   pub low : List ℕ
   pub report : List ℕ
   pub hubs : List ℕ
+
+-- what a call of the code returned and left in the tables and the hub list
+abbrev pub returned : Counting → (full low report list : List ℕ) → Building
+returned r full low report list = record { answer = countAnswer r; full = full; low = low; report = report; hubs = list }
 
 -- "accepted, entries past those named keep their values. The answer is the hub count."
 unfoldable pub built : (n s : ℕ) → Graph → (full low report list : List ℕ) → Building

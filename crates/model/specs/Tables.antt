@@ -20,8 +20,11 @@ unfoldable pub entry : ℕ → List ℕ → ℕ → ℕ → ℕ
 entry n t a b = getD t (a * n + b) 0
 
 -- "row h is the fewest links from h to each node if h is a hub; every other row is all none"
+abbrev pub fullOf : ℕ → Graph → (hs : List ℕ) → List ℕ
+fullOf n G hs = table n (λ h b. if has h hs then fewest (linked n G) n h b else none)
+
 unfoldable pub fullTable : ℕ → ℕ → Graph → List ℕ
-fullTable n s G = let hs = hubs n s G in table n (λ h b. if has h hs then fewest (linked n G) n h b else none)
+fullTable n s G = fullOf n G (hubs n s G)
 
 -- the links whose two ends are low
 unfoldable pub lowLinks : ℕ → ℕ → Graph → Edges
@@ -41,12 +44,11 @@ via n full a b h = sum (entry n full h a) (entry n full h b)
 
 -- "0 where a = b. Otherwise the least of Low(a, b) and, over all hubs h, Full(h, a) + Full(h, b), leaving out candidates with a
 -- none; none if nothing is left." "Linked nodes get no special case." (None is above every sum.)
+abbrev pub reportOf : ℕ → (full low hs : List ℕ) → List ℕ
+reportOf n full low hs = table n (λ a b. if eqb a b then 0 else foldr (λ h x. min (via n full a b h) x) (entry n low a b) hs)
+
 unfoldable pub reportTable : ℕ → ℕ → Graph → List ℕ
-reportTable n s G =
-    let full = fullTable n s G in
-    let low = lowTable n s G in
-    let hs = hubs n s G in
-    table n (λ a b. if eqb a b then 0 else foldr (λ h x. min (via n full a b h) x) (entry n low a b) hs)
+reportTable n s G = reportOf n (fullTable n s G) (lowTable n s G) (hubs n s G)
 
 -- "Its tables are the ones built from it if their first n × n entries .. are those that the rules above give"
 pub record AreBuilt (n s : ℕ) (G : Graph) (full low report : List ℕ) : Type 0 where
