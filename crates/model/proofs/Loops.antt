@@ -29,19 +29,22 @@ pub all-end : (p : ℕ → Bool) (l : List ℕ) (i : ℕ) (good : Bool) → leng
 unfolding all
 all-end p l i good h = sym (and-true good) ∙ ap (λ (k : List ℕ). good && all p k) (sym (drop-of-length-le l h))
 
--- the first element that passes a test, taken one by one
-module _ (p : ℕ → Bool) (d : ℕ) (l : List ℕ) (i : ℕ) where
-  pub first-hit : i < length l → p (getD l i 0) ≡ true → getD l i 0 ≡ firstOf p d (drop i l)
-  unfolding firstOf
-  first-hit h e = rw (drop-next l i h, e)
+-- the first element that passes a test, taken one by one: what is left still says which it is
+module _ (p : ℕ → Bool) (d : ℕ) (l : List ℕ) where
+  abbrev pub Searched : ℕ → Type 0
+  Searched i = firstOf p d (drop i l) ≡ firstOf p d l
 
-  pub first-miss : i < length l → p (getD l i 0) ≡ false → firstOf p d (drop (i + 1) l) ≡ firstOf p d (drop i l)
+  pub searched-found : (i : ℕ) → firstOf p d (drop i l) ≡ firstOf p d l → i < length l → p (getD l i 0) ≡ true → getD l i 0 ≡ firstOf p d l
   unfolding firstOf
-  first-miss h e = rw (drop-next l i h, e)
+  searched-found i s h e = rw (← s, drop-next l i h, e)
 
-  pub first-end : length l ≤ i → d ≡ firstOf p d (drop i l)
+  pub searched-more : (i : ℕ) → firstOf p d (drop i l) ≡ firstOf p d l → i < length l → p (getD l i 0) ≡ false → firstOf p d (drop (i + 1) l) ≡ firstOf p d l
   unfolding firstOf
-  first-end h = rw (drop-of-length-le l h)
+  searched-more i s h e = rw (← s, drop-next l i h, e)
+
+  pub searched-all : (i : ℕ) → firstOf p d (drop i l) ≡ firstOf p d l → length l ≤ i → d ≡ firstOf p d l
+  unfolding firstOf
+  searched-all i s h = rw (← s, drop-of-length-le l h)
 
 -- neighbouring elements, taken pair by pair
 pub ascending-next : (l : List ℕ) (i : ℕ) (good : Bool) → 1 ≤ i → i < length l

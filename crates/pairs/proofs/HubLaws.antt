@@ -1,19 +1,19 @@
 -- The search for the smallest hub that attains a report.
 -- Assumes nothing.
-use mathlib.Core.Path.{_≡_, refl, sym, ap, _∙_, subst}
+use mathlib.Core.Path.{_≡_, refl, sym, ap, _∙_}
 use mathlib.Core.Bool.{Bool, true, false, _&&_}
 use mathlib.Core.List.{List}
 use Prim.Native.Nat.{ℕ, _+_, _≤_, _<_}
 use native.Mathlib.Omega.{arith}
 use borrow.Author.Tests.{eq-eqb, ne-eqb}
 use lib.Dec.{eqb}
-use lib.ListN.{getD, drop}
-use Rattle.model.specs.Basics.{none, upTo, firstOf}
+use lib.ListN.{getD}
+use Rattle.model.specs.Basics.{none, upTo}
 use Rattle.model.specs.Tables.{entry, sum, via}
 use Rattle.model.specs.Pair.{taken, attaining}
 use Rattle.model.proofs.Lists.{length-upTo}
 use Rattle.model.proofs.Entries.{getD-upTo}
-use Rattle.model.proofs.Loops.{first-hit, first-miss, first-end}
+use Rattle.model.proofs.Loops.{Searched, searched-found, searched-more, searched-all}
 
 module _ (n : ℕ) (full : List ℕ) (a b r : ℕ) where
   -- h counts as a hub and attains r
@@ -35,25 +35,26 @@ module _ (n : ℕ) (full : List ℕ) (a b r : ℕ) where
     neither-none f g = rw (ne-eqb (entry n full h a) none f, ne-eqb (entry n full h b) none g)
 
   -- the nodes from h on still say which is the smallest
-  pub record Searched (h : ℕ) : Type 0 where
+  pub record Tried (h : ℕ) : Type 0 where
     pub within : h ≤ n
-    pub left : firstOf attains none (drop h (upTo n)) ≡ attaining (taken n full a b) n full a b r
+    pub left : Searched attains none (upTo n) h
 
-  pub searched-none : Searched 0
-  unfolding attaining
-  searched-none = record { within = omega arith; left = refl }
+  pub tried-none : Tried 0
+  tried-none = record { within = omega arith; left = refl }
 
-  module _ (h : ℕ) (s : Searched h) where
-    pub searched-found : h < n → attains h ≡ true → h ≡ attaining (taken n full a b) n full a b r
-    searched-found l e =
+  module _ (h : ℕ) (s : Tried h) where
+    pub tried-found : h < n → attains h ≡ true → h ≡ attaining (taken n full a b) n full a b r
+    unfolding attaining
+    tried-found l e =
         let g : getD (upTo n) h 0 ≡ h = getD-upTo n h 0 l in
-        sym g ∙ first-hit attains none (upTo n) h (omega (arith, length-upTo n)) (ap attains g ∙ e) ∙ s .left
+        sym g ∙ searched-found attains none (upTo n) h (s .left) (omega (arith, length-upTo n)) (ap attains g ∙ e)
 
-    pub searched-more : h < n → attains h ≡ false → Searched (h + 1)
-    searched-more l e = record {
+    pub tried-more : h < n → attains h ≡ false → Tried (h + 1)
+    tried-more l e = record {
       within = omega arith;
-      left = first-miss attains none (upTo n) h (omega (arith, length-upTo n)) (ap attains (getD-upTo n h 0 l) ∙ e) ∙ s .left;
+      left = searched-more attains none (upTo n) h (s .left) (omega (arith, length-upTo n)) (ap attains (getD-upTo n h 0 l) ∙ e);
     }
 
-    pub searched-all : n ≤ h → none ≡ attaining (taken n full a b) n full a b r
-    searched-all l = first-end attains none (upTo n) h (omega (arith, length-upTo n)) ∙ s .left
+    pub tried-all : n ≤ h → none ≡ attaining (taken n full a b) n full a b r
+    unfolding attaining
+    tried-all l = searched-all attains none (upTo n) h (s .left) (omega (arith, length-upTo n))
