@@ -1,1 +1,3 @@
 pub mod StepLaws
+pub mod PartLaws
+pub mod FitLaws

@@ -32,19 +32,27 @@ abbrev pub stepsIn : (starts neighbours : List ℕ) (limit : ℕ) (table : List 
 stepsIn starts neighbours limit table step goal d v =
     steps (neighboursOf starts neighbours) (isLow limit (neighboursOf starts neighbours)) (leftIn table step) goal d v
 
--- whether there is a part, and the count of its nodes
+-- whether there is a part
 abbrev pub given : Option (List ℕ) → Bool
 given missing = false
 given (some l) = true
-
-abbrev pub countOf : Option (List ℕ) → ℕ
-countOf missing = 0
-countOf (some l) = length l
 
 -- a part leaves its nodes turned round, each at the place that is the number of links left from it
 abbrev pub Leaves : Option (List ℕ) → (old new : List ℕ) → Type 0
 Leaves missing old new = Unit {0}
 Leaves (some l) old new = new ≡ over (reverse l) old
+
+-- the count of a part's nodes, 0 where there is none
+abbrev pub countOf : Option (List ℕ) → ℕ
+countOf missing = 0
+countOf (some l) = length l
+
+-- the part is counted and written; it has one node or more and at most n
+pub record PartIs (n : ℕ) (o : Option (List ℕ)) (count : ℕ) (old new : List ℕ) : Type 0 where
+  pub counted : count ≡ countOf o
+  pub few : count ≤ n
+  pub missed : count ≡ 0 → o ≡ missing
+  pub left : Leaves o old new
 
 -- what is known where nothing was refused before the steps
 pub record Ready (n : ℕ) (starts neighbours full low : List ℕ) (a b : ℕ) (x : Answer) : Type 0 where

@@ -21,7 +21,7 @@ ghost use Rattle.model.specs.Asking.{asking};
 ghost use Rattle.model.specs.Walk.{steps, byLow, toHub, join, nodes};
 ghost use Rattle.model.specs.Walking.{walked, fit, walkOf, walking};
 ghost use Rattle.model.specs.Demand.{AllowedAnswer, WalkSound, WalkAnswers};
-ghost use Rattle.walks.specs.Parts.{leadsOn, stepsIn, Inside, given, countOf, Leaves, Ready};
+ghost use Rattle.walks.specs.Parts.{leftIn, leadsOn, stepsIn, Inside, given, Leaves, PartIs, Ready};
 
 // Whether a walk may go on to x: it is d links from the goal and has fewer than `limit` neighbours.
 fn leads_on(
@@ -98,4 +98,131 @@ fn take_steps(
         return false;
     }
     take_steps(n, starts, neighbours, limit, table, step, goal, d - 1, x as usize, nodes)
+}
+
+// Writes the part from v to the goal into `nodes`, as `take_steps` does, and answers the count of its nodes, or 0 where there is no
+// such part. One of n links or more would enter more nodes than there are: so no recursion is deeper than n.
+fn write_part(
+    n: usize,
+    starts: &[u32],
+    neighbours: &[u16],
+    limit: usize,
+    table: &[u16],
+    step: usize,
+    goal: usize,
+    v: usize,
+    nodes: &mut [u16],
+) -> usize
+    requires { ⌜ Accepted n (now starts) (now neighbours) × Inside n (now table) step × (v < n) × (n ≤ length (now nodes)) ⌝ }
+    ensures { λ r. ⌜ PartIs n (stepsIn (now (starts .entry)) (now (neighbours .entry)) limit (now (table .entry)) step goal (leftIn (now (table .entry)) step v) v)
+        r (now (nodes .entry)) (now (nodes .exit)) ⌝ }
+{
+    let d = table[v * step] as usize;
+    if n <= d {
+        return 0;
+    }
+    if !take_steps(n, starts, neighbours, limit, table, step, goal, d, v, nodes) {
+        return 0;
+    }
+    d + 1
+}
+
+// The part from a to b over low nodes: their distances from b stand in a column of Low.
+fn low_part(
+    n: usize,
+    starts: &[u32],
+    neighbours: &[u16],
+    low: &[u16],
+    a: usize,
+    b: usize,
+    nodes: &mut [u16],
+) -> usize
+    requires { ⌜ Accepted n (now starts) (now neighbours) × (n * n ≤ length (now low)) × (a < n) × (b < n) × (n ≤ length (now nodes)) ⌝ }
+    ensures { λ r. ⌜ PartIs n (byLow n (threshold n) (neighboursOf (now (starts .entry)) (now (neighbours .entry))) (now (low .entry)) a b)
+        r (now (nodes .entry)) (now (nodes .exit)) ⌝ }
+{
+    let s = threshold::threshold_at(n);
+    write_part(n, starts, neighbours, s, &low[b..], n, b, a, nodes)
+}
+
+// The part from v to hub h: distances from h stand in a row of Full, and any node may be entered, since none has n neighbours.
+fn hub_part(
+    n: usize,
+    starts: &[u32],
+    neighbours: &[u16],
+    full: &[u16],
+    h: usize,
+    v: usize,
+    nodes: &mut [u16],
+) -> usize
+    requires { ⌜ Accepted n (now starts) (now neighbours) × (n * n ≤ length (now full)) × (h < n) × (v < n) × (n ≤ length (now nodes)) ⌝ }
+    ensures { λ r. ⌜ PartIs n (toHub n (neighboursOf (now (starts .entry)) (now (neighbours .entry))) (now (full .entry)) h v)
+        r (now (nodes .entry)) (now (nodes .exit)) ⌝ }
+{
+    let first = h * n;
+    write_part(n, starts, neighbours, n, &full[first..], 1, h, v, nodes)
+}
+
+// Writes the walk over low nodes into a list that is all none. The steps are judged before the list's length.
+fn write_low(
+    n: usize,
+    starts: &[u32],
+    neighbours: &[u16],
+    low: &[u16],
+    a: usize,
+    b: usize,
+    answer: Answer,
+    walk: &mut [u16],
+) -> Asking
+    requires { ⌜ Accepted n (now starts) (now neighbours) × (n * n ≤ length (now low)) × (a < n) × (b < n) ⌝ }
+    requires { ⌜ now walk ≡ replicate (length (now walk)) none ⌝ }
+    ensures { λ r. ⌜ walked r (now (walk .exit)) ≡ fit (length (now (walk .entry))) answer
+        (byLow n (threshold n) (neighboursOf (now (starts .entry)) (now (neighbours .entry))) (now (low .entry)) a b) ⌝ }
+{
+    let mut nodes = [0u16; 1024];
+    let count = low_part(n, starts, neighbours, low, a, b, &mut nodes);
+    if count == 0 {
+        return Asking::Refused(Refusal::NotAttained);
+    }
+    if walk.len() < count {
+        return Asking::Refused(Refusal::ShortList);
+    }
+    lists::copy16_turned(&nodes[..count], walk);
+    Asking::Answered(answer)
+}
+
+// Writes the walk through hub h into a list that is all none: the part from a to h, then the one from b to h turned round, without h.
+fn write_through(
+    n: usize,
+    starts: &[u32],
+    neighbours: &[u16],
+    full: &[u16],
+    a: usize,
+    b: usize,
+    h: usize,
+    answer: Answer,
+    walk: &mut [u16],
+) -> Asking
+    requires { ⌜ Accepted n (now starts) (now neighbours) × (n * n ≤ length (now full)) × (a < n) × (b < n) × (h < n) ⌝ }
+    requires { ⌜ now walk ≡ replicate (length (now walk)) none ⌝ }
+    ensures { λ r. ⌜ walked r (now (walk .exit)) ≡ fit (length (now (walk .entry))) answer
+        (join (toHub n (neighboursOf (now (starts .entry)) (now (neighbours .entry))) (now (full .entry)) h a)
+        (toHub n (neighboursOf (now (starts .entry)) (now (neighbours .entry))) (now (full .entry)) h b)) ⌝ }
+{
+    let mut there = [0u16; 1024];
+    let i = hub_part(n, starts, neighbours, full, h, a, &mut there);
+    if i == 0 {
+        return Asking::Refused(Refusal::NotAttained);
+    }
+    let mut back = [0u16; 1024];
+    let j = hub_part(n, starts, neighbours, full, h, b, &mut back);
+    if j == 0 {
+        return Asking::Refused(Refusal::NotAttained);
+    }
+    if walk.len() < i + j - 1 {
+        return Asking::Refused(Refusal::ShortList);
+    }
+    lists::copy16_turned(&there[..i], walk);
+    lists::copy16(&back[1..j], walk, i);
+    Asking::Answered(answer)
 }
