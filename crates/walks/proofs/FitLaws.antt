@@ -1,13 +1,13 @@
 -- The walk list at return: a part turned round, or two of them joined, in a list that was all none.
 -- Assumes nothing.
-use mathlib.Core.Path.{_≡_, refl, sym, ap, ap₂, _∙_, subst}
+use mathlib.Core.Path.{_≡_, refl, sym, ap, _∙_, subst}
 use mathlib.Core.List.{List, [], _∷_, _++_, reverse, tail, reverse-reverse}
 use mathlib.Core.Option.{Option, none as missing, some}
 use Prim.Native.Nat.{ℕ, zero, suc, _+_, _-_, _≤_, _<_}
 use native.Mathlib.Nat.{sub-zero}
 use native.Mathlib.Omega.{arith}
 use borrow.Author.Tests.{lt-ltb, le-ltb}
-use lib.ListN.{length, take, drop, replicate, length-append, length-reverse, length-replicate, length-take}
+use lib.ListN.{length, take, drop, replicate, length-append, length-reverse}
 use lib.Seq.{take-at}
 use Rattle.lists.specs.Writing.{Wrote}
 use Rattle.lists.proofs.Writing.{wrote-then, wrote-over}
@@ -16,7 +16,7 @@ use Rattle.model.specs.Answers.{Outcome, refused, answered}
 use Rattle.model.specs.Basics.{none, over}
 use Rattle.model.specs.Walk.{join}
 use Rattle.model.specs.Walking.{Walking, refuseWalk, fit}
-use Rattle.walks.specs.Parts.{Leaves, PartIs}
+use Rattle.walks.specs.Parts.{PartIs}
 
 -- ---- lists
 
@@ -70,7 +70,7 @@ module _ (x : Answer) (W : List ℕ) (blank : W ≡ replicate (length W) none) w
   unfolding fit refuseWalk
   fit-missing e = rw e (ap (outcome (refused 11)) blank)
 
-  fit-short : (l : List ℕ) → length W < length l → outcome (refused 8) W ≡ fit (length W) x (some l)
+  pub fit-short : (l : List ℕ) → length W < length l → outcome (refused 8) W ≡ fit (length W) x (some l)
   unfolding fit refuseWalk
   fit-short l h = rw (lt-ltb (length W) (length l) h) (ap (outcome (refused 8)) blank)
 

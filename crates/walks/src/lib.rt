@@ -97,7 +97,18 @@ fn take_steps(
     if x == pairs::NONE {
         return false;
     }
-    take_steps(n, starts, neighbours, limit, table, step, goal, d - 1, x as usize, nodes)
+    take_steps(
+        n,
+        starts,
+        neighbours,
+        limit,
+        table,
+        step,
+        goal,
+        d - 1,
+        x as usize,
+        nodes,
+    )
 }
 
 // Writes the part from v to the goal into `nodes`, as `take_steps` does, and answers the count of its nodes, or 0 where there is no
@@ -225,4 +236,106 @@ fn write_through(
     lists::copy16_turned(&there[..i], walk);
     lists::copy16(&back[1..j], walk, i);
     Asking::Answered(answer)
+}
+
+// Writes the walk of an answer into a list that is all none.
+fn write_route(
+    n: usize,
+    starts: &[u32],
+    neighbours: &[u16],
+    full: &[u16],
+    low: &[u16],
+    a: usize,
+    b: usize,
+    answer: Answer,
+    walk: &mut [u16],
+) -> Asking
+    requires { ⌜ Ready n (now starts) (now neighbours) (now full) (now low) a b answer ⌝ }
+    requires { ⌜ now walk ≡ replicate (length (now walk)) none ⌝ }
+    ensures { λ r. ⌜ walked r (now (walk .exit)) ≡ fit (length (now (walk .entry))) answer
+        (nodes n (threshold n) (neighboursOf (now (starts .entry)) (now (neighbours .entry))) (now (full .entry)) (now (low .entry)) a b (answer .route)) ⌝ }
+{
+    let route = answer.route;
+    match route {
+        Route::Itself => {
+            if walk.len() < 1 {
+                return Asking::Refused(Refusal::ShortList);
+            }
+            walk[0] = a as u16;
+            Asking::Answered(answer)
+        }
+        Route::Low => write_low(n, starts, neighbours, low, a, b, answer, walk),
+        Route::Through(h) => {
+            write_through(n, starts, neighbours, full, a, b, h as usize, answer, walk)
+        }
+        Route::NoRoute => Asking::Answered(answer),
+    }
+}
+
+// The answer of which a walk is wanted, or the refusal that comes before any step.
+fn judge(
+    n: usize,
+    starts: &[u32],
+    neighbours: &[u16],
+    full: &[u16],
+    low: &[u16],
+    report: &[u16],
+    a: usize,
+    b: usize,
+) -> Asking
+    ensures { λ r. ⌜ ((w : ℕ) → walking n (now (starts .entry)) (now (neighbours .entry)) (now (full .entry)) (now (low .entry)) (now (report .entry)) a b w
+        ≡ walkOf w n (threshold n) (neighboursOf (now (starts .entry)) (now (neighbours .entry))) (now (full .entry)) (now (low .entry)) a b (pairAnswer r)) ⌝ }
+    ensures { λ r. ⌜ ((x : Answer) → pairAnswer r ≡ answered x → Ready n (now (starts .entry)) (now (neighbours .entry)) (now (full .entry)) (now (low .entry)) a b x) ⌝ }
+{
+    if n < 1 {
+        return Asking::Refused(Refusal::NodeCount);
+    }
+    if 1024 < n {
+        return Asking::Refused(Refusal::NodeCount);
+    }
+    if starts.len() < n + 1 {
+        return Asking::Refused(Refusal::ShortList);
+    }
+    if pairs::tables_short(n, full, low, report) {
+        return Asking::Refused(Refusal::ShortList);
+    }
+    if !survey::is_survey(n, starts, neighbours) {
+        return Asking::Refused(Refusal::NotSurvey);
+    }
+    if n <= a {
+        return Asking::Refused(Refusal::NoNode);
+    }
+    if n <= b {
+        return Asking::Refused(Refusal::NoNode);
+    }
+    pairs::pair_answer(n, full, low, report, a, b)
+}
+
+// Writing a walk: the answer to a pair, and its walk in the list, none behind it. A walk that is given out is a chain of the survey's
+// links, whatever the tables hold; with the tables built from the survey one is given out in every list that is long enough.
+pub fn write_walk(
+    n: usize,
+    starts: &[u32],
+    neighbours: &[u16],
+    full: &[u16],
+    low: &[u16],
+    report: &[u16],
+    a: usize,
+    b: usize,
+    walk: &mut [u16],
+) -> Asking
+    ensures { λ r. ⌜ walked r (now (walk .exit))
+        ≡ walking n (now (starts .entry)) (now (neighbours .entry)) (now (full .entry)) (now (low .entry)) (now (report .entry)) a b (length (now (walk .entry))) ⌝ }
+    ensures { λ r. ⌜ WalkSound (linked n (neighboursOf (now (starts .entry)) (now (neighbours .entry)))) a b (walked r (now (walk .exit))) ⌝ }
+    ensures { λ r. ⌜ (Accepted n (now (starts .entry)) (now (neighbours .entry))
+        → AreBuilt n (threshold n) (neighboursOf (now (starts .entry)) (now (neighbours .entry))) (now (full .entry)) (now (low .entry)) (now (report .entry))
+        → a < n → b < n
+        → AllowedAnswer (linked n (neighboursOf (now (starts .entry)) (now (neighbours .entry)))) a b (asking n (now (full .entry)) (now (low .entry)) (now (report .entry)) a b)
+        × WalkAnswers (length (now (walk .entry))) (asking n (now (full .entry)) (now (low .entry)) (now (report .entry)) a b) (walked r (now (walk .exit)))) ⌝ }
+{
+    lists::fill16(walk, pairs::NONE);
+    match judge(n, starts, neighbours, full, low, report, a, b) {
+        Asking::Refused(k) => Asking::Refused(k),
+        Asking::Answered(x) => write_route(n, starts, neighbours, full, low, a, b, x, walk),
+    }
 }

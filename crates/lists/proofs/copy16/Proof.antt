@@ -7,8 +7,6 @@ use lib.ListN.{length}
 use Rattle.lists.proofs.Copying.{Copied, copied-none, copied-more, copied-all}
 use Rattle.lists.proofs.copy16.Statement.{statement}
 use Rattle.lists.proofs.copy16.Tie as tie
-use Rattle.lists.proofs.copy16.Reads as reads
-use Rattle.lists.proofs.copy16.Lts as lts
 
 abbrev Inv-loop : tie.InvT-loop
 Inv-loop from list₀ at i₀ list i = Copied from list₀ at list i
@@ -16,47 +14,36 @@ Inv-loop from list₀ at i₀ list i = Copied from list₀ at list i
 abbrev μ-loop : tie.MeasureT-loop
 μ-loop from list₀ at i₀ list i = length from - i
 
--- src/lib.rt:35:5
 loop-holds : tie.Need-loop-holds Inv-loop μ-loop
 loop-holds c = copied-none _ _ _
 
--- src/lib.rt:36:24
 mul-list : tie.Need-mul-list Inv-loop μ-loop
 mul-list c = omega arith
 
--- src/lib.rt:36:24
 shared-slice-read-list : tie.Need-shared-slice-read-list Inv-loop μ-loop
 shared-slice-read-list c = omega arith
 
--- src/lib.rt:36:14
 add-list : tie.Need-add-list Inv-loop μ-loop
 add-list c = omega (arith, (c .before .before .loop .inv .same))
 
--- src/lib.rt:36:9
 mul-list-2 : tie.Need-mul-list-2 Inv-loop μ-loop
 mul-list-2 c = omega (arith, (c .before .before .loop .inv .same))
 
--- src/lib.rt:36:9
 slice-write-list : tie.Need-slice-write-list Inv-loop μ-loop
 slice-write-list c = omega (arith, (c .before .before .loop .inv .same))
 
--- src/lib.rt:37:9
 add-i : tie.Need-add-i Inv-loop μ-loop
 add-i c = omega arith
 
--- src/lib.rt:35:5
 loop-less : tie.Need-loop-less Inv-loop μ-loop
 loop-less c = omega arith
 
--- src/lib.rt:35:5
 loop-again : tie.Need-loop-again Inv-loop μ-loop
 loop-again c = copied-more _ _ _ (c .before .before .before .pre) _ _ (c .before .before .loop .inv) (c .before .loop-test .taken) _ _ refl refl
 
--- src/lib.rt:30:1
 same-length : tie.Need-same-length Inv-loop μ-loop
 same-length c = (c .before .loop .inv .same)
 
--- src/lib.rt:30:1
 returns : tie.Need-returns Inv-loop μ-loop
 returns c = copied-all _ _ _ _ _ (c .before .loop .inv) (c .loop-test .left)
 

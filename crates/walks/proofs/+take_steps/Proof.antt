@@ -28,7 +28,6 @@ abbrev take-steps-below : ℕ → In 4 take-steps-kinds.ps
 take-steps-below t =
     and 4 take-steps-kinds.ps (falls 4 take-steps-kinds.ps _<_ μ-take-steps t) take-steps.Pre
 
--- src/lib.rt:91:16
 take-steps-cast-nodes : (t : ℕ) → take-steps-lts.Need-cast-nodes (
   own-reads.Asked,
   own-reads.Learnt,
@@ -39,7 +38,6 @@ take-steps-cast-nodes : (t : ℕ) → take-steps-lts.Need-cast-nodes (
 ) (take-steps-at t) take-steps.Post
 take-steps-cast-nodes t c = omega (arith, (c .before .before .before .before .pre .1 .0 .size))
 
--- src/lib.rt:91:5
 take-steps-mul-nodes : (t : ℕ) → take-steps-lts.Need-mul-nodes (
   own-reads.Asked,
   own-reads.Learnt,
@@ -50,7 +48,6 @@ take-steps-mul-nodes : (t : ℕ) → take-steps-lts.Need-mul-nodes (
 ) (take-steps-at t) take-steps.Post
 take-steps-mul-nodes t c = search needs
 
--- src/lib.rt:91:5
 take-steps-slice-write-nodes : (t : ℕ) → take-steps-lts.Need-slice-write-nodes (
   own-reads.Asked,
   own-reads.Learnt,
@@ -61,7 +58,6 @@ take-steps-slice-write-nodes : (t : ℕ) → take-steps-lts.Need-slice-write-nod
 ) (take-steps-at t) take-steps.Post
 take-steps-slice-write-nodes t c = search needs
 
--- src/lib.rt:93:9
 take-steps-same-length : (t : ℕ) → take-steps-lts.Need-same-length (
   own-reads.Asked,
   own-reads.Learnt,
@@ -72,7 +68,6 @@ take-steps-same-length : (t : ℕ) → take-steps-lts.Need-same-length (
 ) (take-steps-at t) take-steps.Post
 take-steps-same-length t c = simp length-set
 
--- src/lib.rt:93:9
 take-steps-returns : (t : ℕ) → take-steps-lts.Need-returns (
   own-reads.Asked,
   own-reads.Learnt,
@@ -83,7 +78,6 @@ take-steps-returns : (t : ℕ) → take-steps-lts.Need-returns (
 ) (take-steps-at t) take-steps.Post
 take-steps-returns t c = last-step (c .before .before .before .before .before .args .n) (c .before .before .before .before .before .args .starts .now) (c .before .before .before .before .before .args .neighbours .now) (c .before .before .before .before .before .pre .1 .0) (c .before .before .before .before .before .args .limit) (c .before .before .before .before .before .args .table .now) (c .before .before .before .before .before .args .step) (c .before .before .before .before .before .args .goal) (c .before .before .before .before .before .args .d) (c .before .before .before .before .before .args .v) (c .before .before .before .before .before .args .nodes .now) (c .if1 .taken) (c .before .before .before .before .before .pre .1 .3)
 
--- src/lib.rt:95:9
 take-steps-own-requires : (t : ℕ) → take-steps-lts.Need-own-requires (
   own-reads.Asked,
   own-reads.Learnt,
@@ -94,7 +88,6 @@ take-steps-own-requires : (t : ℕ) → take-steps-lts.Need-own-requires (
 ) (take-steps-at t) take-steps.Post
 take-steps-own-requires t c κs = (rows-of (c .before .before .before .before .before .pre .1 .0), (c .before .before .before .before .before .pre .1 .2))
 
--- src/lib.rt:96:71
 take-steps-sub-next-node : (t : ℕ) → take-steps-lts.Need-sub-next-node (
   own-reads.Asked,
   own-reads.Learnt,
@@ -105,7 +98,6 @@ take-steps-sub-next-node : (t : ℕ) → take-steps-lts.Need-sub-next-node (
 ) (take-steps-at t) take-steps.Post
 take-steps-sub-next-node t c = omega arith
 
--- src/lib.rt:96:9
 take-steps-next-node-requires : (t : ℕ) → take-steps-lts.Need-next-node-requires (
   own-reads.Asked,
   own-reads.Learnt,
@@ -116,7 +108,6 @@ take-steps-next-node-requires : (t : ℕ) → take-steps-lts.Need-next-node-requ
 ) (take-steps-at t) take-steps.Post
 take-steps-next-node-requires t c κs = ((rows-of (c .before .before .before .before .before .before .pre .1 .0), (c .before .before .before .before .before .before .pre .1 .1)), rw ((c .own .ensures)) (λ x m. (c .before .before .before .before .before .before .pre .1 .0 .lists .graph .below) (c .before .before .before .before .before .before .args .v) x (c .before .before .before .before .before .before .pre .1 .2) m))
 
--- src/lib.rt:98:9
 take-steps-same-length-2 : (t : ℕ) → take-steps-lts.Need-same-length-2 (
   own-reads.Asked,
   own-reads.Learnt,
@@ -127,7 +118,6 @@ take-steps-same-length-2 : (t : ℕ) → take-steps-lts.Need-same-length-2 (
 ) (take-steps-at t) take-steps.Post
 take-steps-same-length-2 t c = simp length-set
 
--- src/lib.rt:98:9
 take-steps-returns-2 : (t : ℕ) → take-steps-lts.Need-returns-2 (
   own-reads.Asked,
   own-reads.Learnt,
@@ -138,7 +128,6 @@ take-steps-returns-2 : (t : ℕ) → take-steps-lts.Need-returns-2 (
 ) (take-steps-at t) take-steps.Post
 take-steps-returns-2 t c = no-step (c .before .before .before .before .before .before .before .before .args .n) (c .before .before .before .before .before .before .before .before .args .starts .now) (c .before .before .before .before .before .before .before .before .args .neighbours .now) (c .before .before .before .before .before .before .before .before .pre .1 .0) (c .before .before .before .before .before .before .before .before .args .limit) (c .before .before .before .before .before .before .before .before .args .table .now) (c .before .before .before .before .before .before .before .before .args .step) (c .before .before .before .before .before .before .before .before .args .goal) (c .before .before .before .before .before .before .before .before .args .d) (c .before .before .before .before .before .before .before .before .args .v) (c .before .next-node .result) (c .before .before .before .if1 .left) (c .before .next-node .ensures) (c .before .before .own .ensures) (c .if2 .taken) _ _
 
--- src/lib.rt:100:65
 take-steps-sub-take-steps : (t : ℕ) → take-steps-lts.Need-sub-take-steps (
   own-reads.Asked,
   own-reads.Learnt,
@@ -149,7 +138,6 @@ take-steps-sub-take-steps : (t : ℕ) → take-steps-lts.Need-sub-take-steps (
 ) (take-steps-at t) take-steps.Post
 take-steps-sub-take-steps t c = omega arith
 
--- src/lib.rt:100:72
 take-steps-cast-take-steps : (t : ℕ) → take-steps-lts.Need-cast-take-steps (
   own-reads.Asked,
   own-reads.Learnt,
@@ -160,7 +148,6 @@ take-steps-cast-take-steps : (t : ℕ) → take-steps-lts.Need-cast-take-steps (
 ) (take-steps-at t) take-steps.Post
 take-steps-cast-take-steps t c = search needs
 
--- src/lib.rt:100:5
 take-steps-take-steps-requires : (t : ℕ) → take-steps-lts.Need-take-steps-requires (
   own-reads.Asked,
   own-reads.Learnt,
@@ -171,7 +158,6 @@ take-steps-take-steps-requires : (t : ℕ) → take-steps-lts.Need-take-steps-re
 ) (take-steps-at t) take-steps.Post
 take-steps-take-steps-requires t c κs = (omega (arith, (c .before .before .before .before .before .before .before .before .before .pre .0)), ((c .before .before .before .before .before .before .before .before .before .pre .1 .0), (c .before .before .before .before .before .before .before .before .before .pre .1 .1), step-below (c .before .before .before .before .before .before .before .before .before .args .n) (c .before .before .before .before .before .before .before .before .before .args .starts .now) (c .before .before .before .before .before .before .before .before .before .args .neighbours .now) (c .before .before .before .before .before .before .before .before .before .pre .1 .0) (c .before .before .before .before .before .before .before .before .before .args .limit) (c .before .before .before .before .before .before .before .before .before .args .table .now) (c .before .before .before .before .before .before .before .before .before .args .step) (c .before .before .before .before .before .before .before .before .before .args .goal) (c .before .before .before .before .before .before .before .before .before .args .d) (c .before .before .before .before .before .before .before .before .before .args .v) (c .before .before .next-node .result) (c .before .before .before .before .if1 .left) (c .before .before .next-node .ensures) (c .before .before .before .own .ensures) (c .before .before .before .before .before .before .before .before .before .pre .1 .2) (c .before .if2 .left), simp length-set (omega arith)))
 
--- src/lib.rt:75:1
 take-steps-same-length-3 : (t : ℕ) → take-steps-lts.Need-same-length-3 (
   own-reads.Asked,
   own-reads.Learnt,
@@ -182,7 +168,6 @@ take-steps-same-length-3 : (t : ℕ) → take-steps-lts.Need-same-length-3 (
 ) (take-steps-at t) take-steps.Post
 take-steps-same-length-3 t c = (c .before .before .take-steps .kept .1 .1 .1 .1 .1 .1 .1 .1 .1 .0) ∙ simp length-set
 
--- src/lib.rt:75:1
 take-steps-returns-3 : (t : ℕ) → take-steps-lts.Need-returns-3 (
   own-reads.Asked,
   own-reads.Learnt,

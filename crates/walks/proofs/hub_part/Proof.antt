@@ -1,49 +1,33 @@
 -- `walks::hub_part` meets its contract.
 -- Assumes nothing.
-use mathlib.Core.Path.{subst}
-use mathlib.Core.List.{List}
-use mathlib.Core.Option.{Option}
-use Prim.Native.Nat.{ℕ}
 use native.Mathlib.Omega.{arith}
 use Rattle.model.proofs.Entries.{place-inside, square-small}
-use Rattle.walks.specs.Parts.{PartIs}
 use Rattle.walks.proofs.PartLaws.{row-inside, hub-part}
 use borrow.Author.Needs.{needs}
 use Rattle.walks.proofs.hub_part.Statement.{statement}
 use Rattle.walks.proofs.hub_part.Tie as tie
-use Rattle.walks.proofs.hub_part.Reads as reads
-use Rattle.walks.proofs.hub_part.Lts as lts
-use Rattle.walks.proofs.write_part.Reads as write-part-reads
 
--- src/lib.rt:162:17
 mul-first : tie.Need-mul-first
 mul-first c = omega (arith, place-inside (c .before .before .before .before .args .n) (c .before .before .before .before .args .h) (c .before .before .before .before .args .v) (c .before .before .before .before .pre .2) (c .before .before .before .before .pre .3), square-small (c .before .before .before .before .args .n) (c .before .before .before .before .pre .0 .size))
 
--- src/lib.rt:163:42
 mul-write-part : tie.Need-mul-write-part
 mul-write-part c = omega (arith, place-inside (c .before .before .before .before .args .n) (c .before .before .before .before .args .h) (c .before .before .before .before .args .v) (c .before .before .before .before .pre .2) (c .before .before .before .before .pre .3), square-small (c .before .before .before .before .args .n) (c .before .before .before .before .pre .0 .size))
 
--- src/lib.rt:163:42
 sub-write-part : tie.Need-sub-write-part
 sub-write-part c = omega (arith, place-inside (c .before .before .before .before .args .n) (c .before .before .before .before .args .h) (c .before .before .before .before .args .v) (c .before .before .before .before .pre .2) (c .before .before .before .before .pre .3))
 
--- src/lib.rt:163:42
 part-write-part-start : tie.Need-part-write-part-start
 part-write-part-start c = omega (arith, place-inside (c .before .before .before .before .args .n) (c .before .before .before .before .args .h) (c .before .before .before .before .args .v) (c .before .before .before .before .pre .2) (c .before .before .before .before .pre .3))
 
--- src/lib.rt:163:42
 part-write-part-end : tie.Need-part-write-part-end
 part-write-part-end c = search needs
 
--- src/lib.rt:163:5
 write-part-requires : tie.Need-write-part-requires
 write-part-requires c κs = ((c .before .before .before .before .before .before .pre .0), row-inside (c .before .before .before .before .before .before .args .n) (c .before .before .before .before .before .before .pre .0 .size) (c .before .before .before .before .before .before .args .full .now) (c .before .before .before .before .before .before .pre .1) (c .before .before .before .before .before .before .args .h) (c .before .before .before .before .before .before .pre .2), (c .before .before .before .before .before .before .pre .3), (c .before .before .before .before .before .before .pre .4))
 
--- src/lib.rt:149:1
 same-length : tie.Need-same-length
 same-length c = search needs
 
--- src/lib.rt:149:1
 returns : tie.Need-returns
 returns c = hub-part (c .before .before .before .before .before .before .before .before .before .args .n) (c .before .before .before .before .before .before .before .before .before .args .starts .now) (c .before .before .before .before .before .before .before .before .before .args .neighbours .now) (c .before .before .before .before .before .before .before .before .before .pre .0) (c .before .before .before .before .before .before .before .before .before .args .full .now) (c .before .before .before .before .before .before .before .before .before .args .h) (c .before .before .before .before .before .before .before .before .before .args .v) (c .before .before .before .before .before .before .before .before .before .pre .3) (c .before .before .write-part .ensures)
 

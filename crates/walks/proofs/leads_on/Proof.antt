@@ -3,38 +3,27 @@
 use native.Mathlib.Omega.{arith}
 use Prim.Native.Nat.{_*_}
 use Rattle.walks.proofs.StepLaws.{place-small, elsewhere, nearer}
-use borrow.Author.Needs.{needs}
 use Rattle.walks.proofs.leads_on.Statement.{statement}
 use Rattle.walks.proofs.leads_on.Tie as tie
-use Rattle.walks.proofs.leads_on.Reads as reads
-use Rattle.walks.proofs.leads_on.Lts as lts
-use Rattle.survey.proofs.own.Reads as own-reads
 
--- src/lib.rt:40:14
 mul-if1 : tie.Need-mul-if1
 mul-if1 c = omega (arith, (place-small (c .before .before .before .args .n) (c .before .before .before .args .x) (c .before .before .before .args .step) ((c .before .before .before .pre .0 .few)) (c .before .before .before .pre .2) ((c .before .before .before .pre .1 .few))))
 
--- src/lib.rt:40:8
 mul-if1-2 : tie.Need-mul-if1-2
 mul-if1-2 c = omega (arith, (place-small (c .before .before .before .args .n) (c .before .before .before .args .x) (c .before .before .before .args .step) ((c .before .before .before .pre .0 .few)) (c .before .before .before .pre .2) ((c .before .before .before .pre .1 .few))))
 
--- src/lib.rt:40:8
 shared-slice-read-if1 : tie.Need-shared-slice-read-if1
 shared-slice-read-if1 c = (c .before .before .before .before .pre .1 .entry) (c .before .before .before .before .args .x) (c .before .before .before .before .pre .2)
 
--- src/lib.rt:40:8
 cast-if1 : tie.Need-cast-if1
 cast-if1 c = omega (arith, (c .shared-slice-known4 .given) ((c .before .before .before .before .args .x) * (c .before .before .before .before .args .step)))
 
--- src/lib.rt:41:9
 returns : tie.Need-returns
 returns c = elsewhere (c .before .before .before .before .before .args .starts .now) (c .before .before .before .before .before .args .neighbours .now) (c .before .before .before .before .before .args .limit) (c .before .before .before .before .before .args .table .now) (c .before .before .before .before .before .args .step) (c .before .before .before .before .before .args .d) (c .before .before .before .before .before .args .x) (c .if1 .taken)
 
--- src/lib.rt:43:9
 own-requires : tie.Need-own-requires
 own-requires c κs = ((c .before .before .before .before .before .pre .0), (c .before .before .before .before .before .pre .2))
 
--- src/lib.rt:27:1
 returns-2 : tie.Need-returns-2
 returns-2 c = nearer (c .before .before .before .before .before .before .args .starts .now) (c .before .before .before .before .before .before .args .neighbours .now) (c .before .before .before .before .before .before .args .limit) (c .before .before .before .before .before .before .args .table .now) (c .before .before .before .before .before .before .args .step) (c .before .before .before .before .before .before .args .d) (c .before .before .before .before .before .before .args .x) (c .before .if1 .left) (c .own .ensures)
 

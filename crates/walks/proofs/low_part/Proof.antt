@@ -1,52 +1,33 @@
 -- `walks::low_part` meets its contract.
 -- Assumes nothing.
-use mathlib.Core.Path.{_∙_, ap, subst}
-use mathlib.Core.List.{List}
-use mathlib.Core.Option.{Option}
-use Prim.Native.Nat.{ℕ, _-_}
-use lib.ListN.{length, take, drop}
 use native.Mathlib.Omega.{arith}
-use Rattle.model.specs.Threshold.{threshold}
 use Rattle.model.proofs.Entries.{place-inside}
-use Rattle.walks.specs.Parts.{leftIn, stepsIn, PartIs}
 use Rattle.walks.proofs.PartLaws.{column-inside, low-part}
 use borrow.Author.Needs.{needs}
 use Rattle.walks.proofs.low_part.Statement.{statement}
 use Rattle.walks.proofs.low_part.Tie as tie
-use Rattle.walks.proofs.low_part.Reads as reads
-use Rattle.walks.proofs.low_part.Lts as lts
-use Rattle.threshold.proofs.threshold_at.Reads as threshold-at-reads
-use Rattle.walks.proofs.write_part.Reads as write-part-reads
 
--- src/lib.rt:144:9
 threshold-at-requires : tie.Need-threshold-at-requires
 threshold-at-requires c κs = ((c .before .before .before .before .pre .0 .some-node), (c .before .before .before .before .pre .0 .size))
 
--- src/lib.rt:145:42
 mul-write-part : tie.Need-mul-write-part
 mul-write-part c = search needs
 
--- src/lib.rt:145:42
 sub-write-part : tie.Need-sub-write-part
 sub-write-part c = omega (arith, place-inside (c .before .before .before .before .before .args .n) (c .before .before .before .before .before .args .a) (c .before .before .before .before .before .args .b) (c .before .before .before .before .before .pre .2) (c .before .before .before .before .before .pre .3))
 
--- src/lib.rt:145:42
 part-write-part-start : tie.Need-part-write-part-start
 part-write-part-start c = omega (arith, place-inside (c .before .before .before .before .before .args .n) (c .before .before .before .before .before .args .a) (c .before .before .before .before .before .args .b) (c .before .before .before .before .before .pre .2) (c .before .before .before .before .before .pre .3))
 
--- src/lib.rt:145:42
 part-write-part-end : tie.Need-part-write-part-end
 part-write-part-end c = search needs
 
--- src/lib.rt:145:5
 write-part-requires : tie.Need-write-part-requires
 write-part-requires c κs = ((c .before .before .before .before .before .before .before .pre .0), column-inside (c .before .before .before .before .before .before .before .args .n) (c .before .before .before .before .before .before .before .pre .0 .size) (c .before .before .before .before .before .before .before .args .low .now) (c .before .before .before .before .before .before .before .pre .1) (c .before .before .before .before .before .before .before .args .b) (c .before .before .before .before .before .before .before .pre .3), (c .before .before .before .before .before .before .before .pre .2), (c .before .before .before .before .before .before .before .pre .4))
 
--- src/lib.rt:131:1
 same-length : tie.Need-same-length
 same-length c = search needs
 
--- src/lib.rt:131:1
 returns : tie.Need-returns
 returns c = low-part (c .before .before .before .before .before .before .before .before .before .before .args .n) (c .before .before .before .before .before .before .before .before .before .before .args .starts .now) (c .before .before .before .before .before .before .before .before .before .before .args .neighbours .now) (c .before .before .before .before .before .before .before .before .before .before .pre .0) (c .before .before .before .before .before .threshold-at .result) (c .before .before .before .before .before .before .before .before .before .before .args .low .now) (c .before .before .before .before .before .before .before .before .before .before .args .a) (c .before .before .before .before .before .before .before .before .before .before .args .b) (c .before .before .before .before .before .before .before .before .before .before .pre .2) (c .before .before .before .before .before .threshold-at .ensures) (c .before .before .write-part .ensures)
 

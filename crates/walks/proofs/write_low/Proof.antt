@@ -7,44 +7,31 @@ use Rattle.walks.proofs.FitLaws.{part-missed, part-short, part-fits}
 use borrow.Author.Needs.{needs}
 use Rattle.walks.proofs.write_low.Statement.{statement}
 use Rattle.walks.proofs.write_low.Tie as tie
-use Rattle.walks.proofs.write_low.Reads as reads
-use Rattle.walks.proofs.write_low.Lts as lts
-use Rattle.lists.proofs.copy16_turned.Reads as copy16-turned-reads
-use Rattle.walks.proofs.low_part.Reads as low-part-reads
 
--- src/lib.rt:183:60
 slice-aggregate-low-part : tie.Need-slice-aggregate-low-part
 slice-aggregate-low-part c = search needs
 
--- src/lib.rt:183:9
 low-part-requires : tie.Need-low-part-requires
 low-part-requires c κs = search needs
 
--- src/lib.rt:185:9
 returns : tie.Need-returns
 returns c = part-missed (c .before .before .before .before .before .before .before .before .args .answer) (c .before .before .before .before .before .before .before .before .args .walk .now) (c .before .before .before .before .before .before .before .before .pre .1) (c .before .before .low-part .ensures) (c .if1 .taken)
 
--- src/lib.rt:188:9
 returns-2 : tie.Need-returns-2
 returns-2 c = part-short (c .before .before .before .before .before .before .before .before .before .args .answer) (c .before .before .before .before .before .before .before .before .before .args .walk .now) (c .before .before .before .before .before .before .before .before .before .pre .1) _ (c .before .before .before .low-part .ensures) (c .if2 .taken)
 
--- src/lib.rt:190:26
 array-share-prefix-nodes : tie.Need-array-share-prefix-nodes
 array-share-prefix-nodes c = search needs
 
--- src/lib.rt:190:26
 slice-aggregate-copy16-turned : tie.Need-slice-aggregate-copy16-turned
 slice-aggregate-copy16-turned c = sym (length-take-le (c .before .before .before .before .low-part .result) (c .before .before .before .before .low-part .last .1 .1 .1 .1 .1 .1 .0) (omega (arith, (c .before .before .before .before .low-part .ensures .few), (c .before .before .before .before .before .before .before .before .before .before .pre .0 .0 .size), (c .before .before .before .before .low-part .kept .1 .1 .1 .1 .1 .1 .0))))
 
--- src/lib.rt:190:5
 copy16-turned-requires : tie.Need-copy16-turned-requires
 copy16-turned-requires c κs = omega (arith, (length-take-le (c .before .before .before .before .before .low-part .result) (c .before .before .before .before .before .low-part .last .1 .1 .1 .1 .1 .1 .0) (omega (arith, (c .before .before .before .before .before .low-part .ensures .few), (c .before .before .before .before .before .before .before .before .before .before .before .pre .0 .0 .size), (c .before .before .before .before .before .low-part .kept .1 .1 .1 .1 .1 .1 .0)))), (c .before .before .if2 .left))
 
--- src/lib.rt:167:1
 same-length : tie.Need-same-length
 same-length c = search needs
 
--- src/lib.rt:167:1
 returns-3 : tie.Need-returns-3
 returns-3 c = part-fits (c .before .before .before .before .before .before .before .before .before .before .before .before .before .before .args .answer) (c .before .before .before .before .before .before .before .before .before .before .before .before .before .before .args .walk .now) (c .before .before .before .before .before .before .before .before .before .before .before .before .before .before .pre .1) _ (c .before .before .before .before .before .before .before .before .low-part .ensures) (c .before .before .before .before .before .before .if1 .left) (c .before .before .before .before .before .if2 .left) (c .before .before .copy16-turned .ensures)
 
