@@ -39,7 +39,7 @@ pub fn copy16(from: &[u16], list: &mut [u16], at: usize)
 }
 
 // The first entries become those of another list, the last one first.
-pub fn copy16_turned(from: &[u16], list: &mut [u16])
+pub fn copy16_reversed(from: &[u16], list: &mut [u16])
     requires { ⌜ length (now from) ≤ length (now list) ⌝ }
     ensures { λ _. ⌜ Wrote (now (list .entry)) (now (list .exit)) 0 (length (now (from .entry))) (reverse (now (from .entry))) ⌝ }
 {

@@ -9,11 +9,11 @@ ghost use mathlib.Core.List.{List};
 ghost use Prim.Native.Nat.{ℕ, _*_, _≤_, _<_};
 ghost use lib.Dec.{eqb, ltb};
 ghost use lib.ListN.{length};
-ghost use Rattle.model.specs.Answers.{pairAnswer};
+ghost use Rattle.model.specs.Answers.{answered, pairAnswer};
 ghost use Rattle.model.specs.Survey.{neighboursOf, linked, Accepted};
 ghost use Rattle.model.specs.Threshold.{threshold};
 ghost use Rattle.model.specs.Tables.{entry, via, AreBuilt};
-ghost use Rattle.model.specs.Pair.{taken, attaining, pair};
+ghost use Rattle.model.specs.Pair.{answer, taken, attaining, pair};
 ghost use Rattle.model.specs.Asking.{asking};
 ghost use Rattle.model.specs.Demand.{AllowedAnswer};
 
@@ -60,6 +60,13 @@ fn attaining_hub(n: usize, full: &[u16], a: usize, b: usize, r: u16) -> u16
     NONE
 }
 
+// The report with its route.
+fn answer_by(report: u16, route: Route) -> Asking
+    ensures { λ r. ⌜ pairAnswer r ≡ answered (answer report route) ⌝ }
+{
+    Asking::Answered(Answer { report, route })
+}
+
 // The answer that the tables give for nodes below n.
 pub fn pair_answer(
     n: usize,
@@ -75,33 +82,21 @@ pub fn pair_answer(
     let r = entry_at(n, report, a, b);
     if a == b {
         if r == 0 {
-            return Asking::Answered(Answer {
-                report: 0,
-                route: Route::Itself,
-            });
+            return answer_by(0, Route::Itself);
         }
         return Asking::Refused(Refusal::NotAttained);
     }
     if r == NONE {
-        return Asking::Answered(Answer {
-            report: NONE,
-            route: Route::NoRoute,
-        });
+        return answer_by(NONE, Route::NoRoute);
     }
     if entry_at(n, low, a, b) == r {
-        return Asking::Answered(Answer {
-            report: r,
-            route: Route::Low,
-        });
+        return answer_by(r, Route::Low);
     }
     let h = attaining_hub(n, full, a, b, r);
     if h == NONE {
         return Asking::Refused(Refusal::NotAttained);
     }
-    Asking::Answered(Answer {
-        report: r,
-        route: Route::Through(h),
-    })
+    answer_by(r, Route::Through(h))
 }
 
 // Whether one of the three tables is shorter than n * n.

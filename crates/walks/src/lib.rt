@@ -198,7 +198,7 @@ fn write_low(
     if walk.len() < count {
         return Asking::Refused(Refusal::ShortList);
     }
-    lists::copy16_turned(&nodes[..count], walk);
+    lists::copy16_reversed(&nodes[..count], walk);
     Asking::Answered(answer)
 }
 
@@ -233,7 +233,7 @@ fn write_through(
     if walk.len() < i + j - 1 {
         return Asking::Refused(Refusal::ShortList);
     }
-    lists::copy16_turned(&there[..i], walk);
+    lists::copy16_reversed(&there[..i], walk);
     lists::copy16(&back[1..j], walk, i);
     Asking::Answered(answer)
 }

@@ -22,10 +22,10 @@ returns-3 : tie.Need-returns-3
 returns-3 c = too-short (c .before .before .before .before .before .before .before .args .n) (c .before .before .before .before .before .before .before .args .full .now) (c .before .before .before .before .before .before .before .args .low .now) (c .before .before .before .before .before .before .before .args .report .now) (c .before .before .before .before .before .before .before .args .a) (c .before .before .before .before .before .before .before .args .b) (good-size (c .before .before .before .before .before .before .before .args .n) (omega arith) (omega arith)) (sym (c .before .tables-short .ensures) ∙ (c .if3 .taken))
 
 returns-4 : tie.Need-returns-4
-returns-4 c = no-node (c .before .before .before .before .before .before .before .before .args .n) (c .before .before .before .before .before .before .before .before .args .full .now) (c .before .before .before .before .before .before .before .before .args .low .now) (c .before .before .before .before .before .before .before .before .args .report .now) (c .before .before .before .before .before .before .before .before .args .a) (c .before .before .before .before .before .before .before .before .args .b) (good-size (c .before .before .before .before .before .before .before .before .args .n) (omega arith) (omega arith)) (sym (c .before .before .tables-short .ensures) ∙ (c .before .if3 .left)) (rw (le-leb _ _ (c .if4 .taken)))
+returns-4 c = no-node (c .before .before .before .before .before .before .before .before .args .n) (c .before .before .before .before .before .before .before .before .args .full .now) (c .before .before .before .before .before .before .before .before .args .low .now) (c .before .before .before .before .before .before .before .before .args .report .now) (c .before .before .before .before .before .before .before .before .args .a) (c .before .before .before .before .before .before .before .before .args .b) (good-size (c .before .before .before .before .before .before .before .before .args .n) (omega arith) (omega arith)) (sym (c .before .before .tables-short .ensures) ∙ (c .before .if3 .left)) (rw (le-leb (c .before .before .before .before .before .before .before .before .args .n) (c .before .before .before .before .before .before .before .before .args .a) (omega arith)))
 
 returns-5 : tie.Need-returns-5
-returns-5 c = no-node (c .before .before .before .before .before .before .before .before .before .args .n) (c .before .before .before .before .before .before .before .before .before .args .full .now) (c .before .before .before .before .before .before .before .before .before .args .low .now) (c .before .before .before .before .before .before .before .before .before .args .report .now) (c .before .before .before .before .before .before .before .before .before .args .a) (c .before .before .before .before .before .before .before .before .before .args .b) (good-size (c .before .before .before .before .before .before .before .before .before .args .n) (omega arith) (omega arith)) (sym (c .before .before .before .tables-short .ensures) ∙ (c .before .before .if3 .left)) (rw (lt-leb _ _ (c .before .if4 .left), le-leb _ _ (c .if5 .taken)))
+returns-5 c = no-node (c .before .before .before .before .before .before .before .before .before .args .n) (c .before .before .before .before .before .before .before .before .before .args .full .now) (c .before .before .before .before .before .before .before .before .before .args .low .now) (c .before .before .before .before .before .before .before .before .before .args .report .now) (c .before .before .before .before .before .before .before .before .before .args .a) (c .before .before .before .before .before .before .before .before .before .args .b) (good-size (c .before .before .before .before .before .before .before .before .before .args .n) (omega arith) (omega arith)) (sym (c .before .before .before .tables-short .ensures) ∙ (c .before .before .if3 .left)) (rw (lt-leb _ _ (c .before .if4 .left), le-leb (c .before .before .before .before .before .before .before .before .before .args .n) (c .before .before .before .before .before .before .before .before .before .args .b) (omega arith)))
 
 pair-answer-requires : tie.Need-pair-answer-requires
 pair-answer-requires c κs = let r = room (c .before .before .before .before .before .before .before .before .before .args .n) (c .before .before .before .before .before .before .before .before .before .args .full .now) (c .before .before .before .before .before .before .before .before .before .args .low .now) (c .before .before .before .before .before .before .before .before .before .args .report .now) (sym (c .before .before .before .tables-short .ensures) ∙ (c .before .before .if3 .left)) in ((c .before .before .before .before .if2 .left), r .in-full, r .in-low, r .in-report, (c .before .if4 .left), (c .if5 .left))

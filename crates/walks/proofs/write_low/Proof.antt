@@ -23,17 +23,17 @@ returns-2 c = part-short (c .before .before .before .before .before .before .bef
 array-share-prefix-nodes : tie.Need-array-share-prefix-nodes
 array-share-prefix-nodes c = search needs
 
-slice-aggregate-copy16-turned : tie.Need-slice-aggregate-copy16-turned
-slice-aggregate-copy16-turned c = sym (length-take-le (c .before .before .before .before .low-part .result) (c .before .before .before .before .low-part .last .1 .1 .1 .1 .1 .1 .0) (omega (arith, (c .before .before .before .before .low-part .ensures .few), (c .before .before .before .before .before .before .before .before .before .before .pre .0 .0 .size), (c .before .before .before .before .low-part .kept .1 .1 .1 .1 .1 .1 .0))))
+slice-aggregate-copy16-reversed : tie.Need-slice-aggregate-copy16-reversed
+slice-aggregate-copy16-reversed c = sym (length-take-le (c .before .before .before .before .low-part .result) (c .before .before .before .before .low-part .last .1 .1 .1 .1 .1 .1 .0) (omega (arith, (c .before .before .before .before .low-part .ensures .few), (c .before .before .before .before .before .before .before .before .before .before .pre .0 .0 .size), (c .before .before .before .before .low-part .kept .1 .1 .1 .1 .1 .1 .0))))
 
-copy16-turned-requires : tie.Need-copy16-turned-requires
-copy16-turned-requires c κs = omega (arith, (length-take-le (c .before .before .before .before .before .low-part .result) (c .before .before .before .before .before .low-part .last .1 .1 .1 .1 .1 .1 .0) (omega (arith, (c .before .before .before .before .before .low-part .ensures .few), (c .before .before .before .before .before .before .before .before .before .before .before .pre .0 .0 .size), (c .before .before .before .before .before .low-part .kept .1 .1 .1 .1 .1 .1 .0)))), (c .before .before .if2 .left))
+copy16-reversed-requires : tie.Need-copy16-reversed-requires
+copy16-reversed-requires c κs = omega (arith, (length-take-le (c .before .before .before .before .before .low-part .result) (c .before .before .before .before .before .low-part .last .1 .1 .1 .1 .1 .1 .0) (omega (arith, (c .before .before .before .before .before .low-part .ensures .few), (c .before .before .before .before .before .before .before .before .before .before .before .pre .0 .0 .size), (c .before .before .before .before .before .low-part .kept .1 .1 .1 .1 .1 .1 .0)))), (c .before .before .if2 .left))
 
 same-length : tie.Need-same-length
 same-length c = search needs
 
 returns-3 : tie.Need-returns-3
-returns-3 c = part-fits (c .before .before .before .before .before .before .before .before .before .before .before .before .before .before .args .answer) (c .before .before .before .before .before .before .before .before .before .before .before .before .before .before .args .walk .now) (c .before .before .before .before .before .before .before .before .before .before .before .before .before .before .pre .1) _ (c .before .before .before .before .before .before .before .before .low-part .ensures) (c .before .before .before .before .before .before .if1 .left) (c .before .before .before .before .before .if2 .left) (c .before .before .copy16-turned .ensures)
+returns-3 c = part-fits (c .before .before .before .before .before .before .before .before .before .before .before .before .before .before .args .answer) (c .before .before .before .before .before .before .before .before .before .before .before .before .before .before .args .walk .now) (c .before .before .before .before .before .before .before .before .before .before .before .before .before .before .pre .1) _ (c .before .before .before .before .before .before .before .before .low-part .ensures) (c .before .before .before .before .before .before .if1 .left) (c .before .before .before .before .before .if2 .left) (c .before .before .copy16-reversed .ensures)
 
 pub write-low-spec : {M : Type 1} → statement M
 write-low-spec =
@@ -44,7 +44,7 @@ write-low-spec =
     returns
     returns-2
     array-share-prefix-nodes
-    slice-aggregate-copy16-turned
-    copy16-turned-requires
+    slice-aggregate-copy16-reversed
+    copy16-reversed-requires
     same-length
     returns-3)

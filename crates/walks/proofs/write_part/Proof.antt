@@ -23,7 +23,7 @@ cast-d : tie.Need-cast-d
 cast-d c = omega (arith, (c .shared-slice-known4 .given) ((c .before .before .before .before .before .args .v) * (c .before .before .before .before .before .args .step)))
 
 returns : tie.Need-returns
-returns c = part-long (c .before .before .before .before .before .before .args .n) (c .before .before .before .before .before .before .args .starts .now) (c .before .before .before .before .before .before .args .neighbours .now) (c .before .before .before .before .before .before .pre .0) (c .before .before .before .before .before .before .args .limit) (c .before .before .before .before .before .before .args .table .now) (c .before .before .before .before .before .before .args .step) (c .before .before .before .before .before .before .args .goal) (c .before .before .before .before .before .before .args .v) (c .before .before .before .before .before .before .pre .2) (c .if1 .taken) (c .before .before .before .before .before .before .args .nodes .now)
+returns c = part-long (c .before .before .before .before .before .before .args .n) (c .before .before .before .before .before .before .args .starts .now) (c .before .before .before .before .before .before .args .neighbours .now) (c .before .before .before .before .before .before .pre .0) (c .before .before .before .before .before .before .args .limit) (c .before .before .before .before .before .before .args .table .now) (c .before .before .before .before .before .before .args .step) (c .before .before .before .before .before .before .args .goal) (c .before .before .before .before .before .before .args .v) (c .before .before .before .before .before .before .pre .2) (omega arith) (c .before .before .before .before .before .before .args .nodes .now)
 
 take-steps-requires : tie.Need-take-steps-requires
 take-steps-requires c κs = ((c .before .before .before .before .before .before .before .pre .0), (c .before .before .before .before .before .before .before .pre .1), (c .before .before .before .before .before .before .before .pre .2), omega arith)

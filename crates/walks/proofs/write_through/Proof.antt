@@ -38,11 +38,11 @@ returns-3 c = both-short (c .before .before .before .before .before .before .bef
 array-share-prefix-there : tie.Need-array-share-prefix-there
 array-share-prefix-there c = search needs
 
-slice-aggregate-copy16-turned : tie.Need-slice-aggregate-copy16-turned
-slice-aggregate-copy16-turned c = sym (length-take-le (c .before .before .before .before .before .before .before .before .hub-part .result) (c .before .before .before .before .before .before .before .before .hub-part .last .1 .1 .1 .1 .1 .1 .0) (omega (arith, (c .before .before .before .before .before .before .before .before .hub-part .ensures .few), (c .before .before .before .before .before .before .before .before .before .before .before .before .before .before .pre .0 .0 .size), (c .before .before .before .before .before .before .before .before .hub-part .kept .1 .1 .1 .1 .1 .1 .0))))
+slice-aggregate-copy16-reversed : tie.Need-slice-aggregate-copy16-reversed
+slice-aggregate-copy16-reversed c = sym (length-take-le (c .before .before .before .before .before .before .before .before .hub-part .result) (c .before .before .before .before .before .before .before .before .hub-part .last .1 .1 .1 .1 .1 .1 .0) (omega (arith, (c .before .before .before .before .before .before .before .before .hub-part .ensures .few), (c .before .before .before .before .before .before .before .before .before .before .before .before .before .before .pre .0 .0 .size), (c .before .before .before .before .before .before .before .before .hub-part .kept .1 .1 .1 .1 .1 .1 .0))))
 
-copy16-turned-requires : tie.Need-copy16-turned-requires
-copy16-turned-requires c κs = omega (arith, (length-take-le (c .before .before .before .before .before .before .before .before .before .hub-part .result) (c .before .before .before .before .before .before .before .before .before .hub-part .last .1 .1 .1 .1 .1 .1 .0) (omega (arith, (c .before .before .before .before .before .before .before .before .before .hub-part .ensures .few), (c .before .before .before .before .before .before .before .before .before .before .before .before .before .before .before .pre .0 .0 .size), (c .before .before .before .before .before .before .before .before .before .hub-part .kept .1 .1 .1 .1 .1 .1 .0)))), (c .before .before .if3 .left), (c .before .before .before .if2 .left))
+copy16-reversed-requires : tie.Need-copy16-reversed-requires
+copy16-reversed-requires c κs = omega (arith, (length-take-le (c .before .before .before .before .before .before .before .before .before .hub-part .result) (c .before .before .before .before .before .before .before .before .before .hub-part .last .1 .1 .1 .1 .1 .1 .0) (omega (arith, (c .before .before .before .before .before .before .before .before .before .hub-part .ensures .few), (c .before .before .before .before .before .before .before .before .before .before .before .before .before .before .before .pre .0 .0 .size), (c .before .before .before .before .before .before .before .before .before .hub-part .kept .1 .1 .1 .1 .1 .1 .0)))), (c .before .before .if3 .left), (c .before .before .before .if2 .left))
 
 sub-copy16 : tie.Need-sub-copy16
 sub-copy16 c = search needs
@@ -60,7 +60,7 @@ same-length : tie.Need-same-length
 same-length c = search needs
 
 returns-4 : tie.Need-returns-4
-returns-4 c = both-fit (c .before .before .before .before .before .before .before .before .before .before .before .before .before .before .before .before .before .before .before .before .before .before .before .before .args .answer) (c .before .before .before .before .before .before .before .before .before .before .before .before .before .before .before .before .before .before .before .before .before .before .before .before .args .walk .now) (c .before .before .before .before .before .before .before .before .before .before .before .before .before .before .before .before .before .before .before .before .before .before .before .before .pre .1) _ _ (c .before .before .before .before .before .before .before .before .before .before .before .before .before .before .before .before .before .before .hub-part .ensures) (c .before .before .before .before .before .before .before .before .before .before .before .before .before .before .hub-part2 .ensures) (c .before .before .before .before .before .before .before .before .before .before .before .before .before .before .before .before .if1 .left) (c .before .before .before .before .before .before .before .before .before .before .before .before .if2 .left) (c .before .before .before .before .before .before .before .before .before .before .before .if3 .left) (c .before .before .before .before .before .before .before .before .copy16-turned .ensures) (c .before .before .copy16 .ensures)
+returns-4 c = both-fit (c .before .before .before .before .before .before .before .before .before .before .before .before .before .before .before .before .before .before .before .before .before .before .before .before .args .answer) (c .before .before .before .before .before .before .before .before .before .before .before .before .before .before .before .before .before .before .before .before .before .before .before .before .args .walk .now) (c .before .before .before .before .before .before .before .before .before .before .before .before .before .before .before .before .before .before .before .before .before .before .before .before .pre .1) _ _ (c .before .before .before .before .before .before .before .before .before .before .before .before .before .before .before .before .before .before .hub-part .ensures) (c .before .before .before .before .before .before .before .before .before .before .before .before .before .before .hub-part2 .ensures) (c .before .before .before .before .before .before .before .before .before .before .before .before .before .before .before .before .if1 .left) (c .before .before .before .before .before .before .before .before .before .before .before .before .if2 .left) (c .before .before .before .before .before .before .before .before .before .before .before .if3 .left) (c .before .before .before .before .before .before .before .before .copy16-reversed .ensures) (c .before .before .copy16 .ensures)
 
 pub write-through-spec : {M : Type 1} → statement M
 write-through-spec =
@@ -76,8 +76,8 @@ write-through-spec =
     sub-if3
     returns-3
     array-share-prefix-there
-    slice-aggregate-copy16-turned
-    copy16-turned-requires
+    slice-aggregate-copy16-reversed
+    copy16-reversed-requires
     sub-copy16
     part-copy16-start
     part-copy16-end

@@ -1,4 +1,4 @@
--- `lists::copy16_turned` meets its contract: a copy of the list turned round.
+-- `lists::copy16_reversed` meets its contract: a copy of the list turned round.
 -- Assumes nothing.
 use mathlib.Core.Path.{_≡_, sym}
 use mathlib.Core.List.{reverse}
@@ -6,8 +6,8 @@ use native.Mathlib.Omega.{arith}
 use Prim.Native.Nat.{_+_, _-_}
 use lib.ListN.{length, length-reverse}
 use Rattle.lists.proofs.Copying.{Copied, copied-none, copied-more, copied-all, getD-reverse}
-use Rattle.lists.proofs.copy16_turned.Statement.{statement}
-use Rattle.lists.proofs.copy16_turned.Tie as tie
+use Rattle.lists.proofs.copy16_reversed.Statement.{statement}
+use Rattle.lists.proofs.copy16_reversed.Tie as tie
 
 abbrev Inv-loop : tie.InvT-loop
 Inv-loop from list₀ i₀ list i = Copied (reverse from) list₀ 0 list i
@@ -51,8 +51,8 @@ same-length c = (c .before .loop .inv .same)
 returns : tie.Need-returns Inv-loop μ-loop
 returns c = let e : 0 + length (reverse (c .before .before .args .from .now)) ≡ length (c .before .before .args .from .now) = omega (arith, length-reverse (c .before .before .args .from .now)) in rw e at (copied-all (reverse (c .before .before .args .from .now)) _ 0 _ (c .before .loop .i) (c .before .loop .inv) (omega (arith, length-reverse (c .before .before .args .from .now))))
 
-pub copy16-turned-spec : {M : Type 1} → statement M
-copy16-turned-spec =
+pub copy16-reversed-spec : {M : Type 1} → statement M
+copy16-reversed-spec =
     tie.close
     (tie.spec
     Inv-loop
