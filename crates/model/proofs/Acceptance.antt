@@ -1,9 +1,11 @@
 -- The test for an accepted survey and its facts say the same, and what they give for the graph.
 -- Assumes nothing.
 use mathlib.Core.Path.{_≡_, refl, sym, ap, _∙_, subst}
+use mathlib.Core.Logic.{_⊎_, inl, inr}
 use mathlib.Core.Bool.{Bool, true, false, not, _&&_, _||_}
 use mathlib.Core.List.{List}
 use Prim.Native.Nat.{ℕ, _+_, _/_, _%_, _≤_, _<_}
+use native.Mathlib.Omega.{arith}
 use borrow.Author.Tests.{lt-ltb, le-ltb, ltb-false}
 use lib.Dec.{T, eqb, ltb, leb, eqb→eq, leb→le, le→leb, ltb→lt, lt→ltb, T-not, not-T}
 use lib.ListN.{length, getD}
@@ -11,7 +13,7 @@ use Rattle.model.specs.Answers.{Outcome, answered, isAnswered}
 use Rattle.model.specs.Basics.{upTo, has, all, keep}
 use Rattle.model.specs.Survey.{Graph, neighboursOf, linked, ascending, isSurvey, badSize, accepting, accepted, IsSurvey, IsGraph, Accepted}
 use Rattle.model.proofs.Tests.{picked, not-not, and-l, and-r, and-i, or-r, or-false, of-or-false, T-true, eq-T}
-use Rattle.model.proofs.Lists.{of-all, all-of, has-upTo, of-upTo, keep-same}
+use Rattle.model.proofs.Lists.{of-all, all-of, has-upTo, of-upTo, keep-same, keep-grows, keep-length, length-upTo}
 use Rattle.model.proofs.Ascending.{ascending-keep}
 
 module _ (n : ℕ) (starts neighbours : List ℕ) where
@@ -196,3 +198,13 @@ module _ (n : ℕ) (starts neighbours : List ℕ) (acc : Accepted n starts neigh
       (λ x m. linked-has n G v x) (λ x m. linked-of n G (acc .lists .graph) v x h)
       ∙ ascending-keep (G v) n (acc .lists .sorted v h) (λ x m. acc .lists .graph .below v x h m)
       )
+
+  -- so a node has fewer than n neighbours
+  pub few-neighbours : (v : ℕ) → v < n → length (neighboursOf starts neighbours v) < n
+  few-neighbours v h = at (keep-grows (linked n graph v) (λ x. true) (upTo n) (λ x m t. tt))
+    where
+      at : ((x : ℕ) → T (has x (upTo n)) → T true → T (linked n (neighboursOf starts neighbours) v x))
+          ⊎ (length (keep (linked n (neighboursOf starts neighbours) v) (upTo n)) < length (keep (λ x. true) (upTo n)))
+          → length (neighboursOf starts neighbours v) < n
+      at (inl f) = absurd (no-loop v (f v (has-upTo n v h) tt))
+      at (inr l) = omega (arith, degree v h, keep-length (λ x. true) (upTo n), length-upTo n)

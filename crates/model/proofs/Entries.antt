@@ -3,13 +3,24 @@
 use mathlib.Core.Path.{_≡_, sym, ap, _∙_}
 use mathlib.Core.List.{List, _++_, map}
 use Prim.Native.Nat.{ℕ, zero, suc, _+_, _*_, _≤_, _<_}
-use native.Mathlib.Nat.{add-zero, zero-add, add-suc, suc-add, suc-mul, zero-mul, mul-le-mul-right, le-of-suc-le-suc, not-suc-le-zero}
+use native.Mathlib.Nat.{add-zero, zero-add, add-suc, suc-add, suc-mul, zero-mul, mul-le-mul, mul-le-mul-right, le-of-suc-le-suc, not-suc-le-zero}
 use native.Mathlib.Omega.{arith}
 use lib.ListN.{length, getD, take, length-take, length-append, length-map, List·getD-append}
 use lib.Seq.{getD-append-add, getD-take, take-all}
 use Rattle.model.specs.Basics.{from, upTo, gather}
 use Rattle.model.specs.Tables.{table, entry}
 use Rattle.model.proofs.Lists.{length-upTo}
+
+getD-numbers : (k m i d : ℕ) → i < m → getD (from k m) i d ≡ k + i
+unfolding from
+getD-numbers k zero i d h = absurd (not-suc-le-zero h)
+getD-numbers k (suc m) zero d h = sym (add-zero k)
+getD-numbers k (suc m) (suc i) d h = getD-numbers (suc k) m i d (le-of-suc-le-suc h) ∙ suc-add k i ∙ sym (add-suc k i)
+
+-- the i-th of the numbers below n is i
+pub getD-upTo : (n i d : ℕ) → i < n → getD (upTo n) i d ≡ i
+unfolding upTo
+getD-upTo n i d h = getD-numbers 0 n i d h ∙ zero-add i
 
 getD-from : (g : ℕ → ℕ) (k m i d : ℕ) → i < m → getD (map g (from k m)) i d ≡ g (k + i)
 unfolding from
@@ -61,14 +72,18 @@ module _ (n : ℕ) (f : ℕ → ℕ → ℕ) where
   unfolding table upTo rows entry
   entry-table a b ha hb = getD-rows 0 n a b ha hb ∙ ap (λ (x : ℕ). f x b) (zero-add a)
 
+-- an entry's place in its table; and a table has at most 1,048,576 entries
+pub place-inside : (n a b : ℕ) → a < n → b < n → a * n + b < n * n
+place-inside n a b ha hb = omega (arith, suc-mul a n, mul-le-mul-right n ha)
+
+pub square-small : (n : ℕ) → n ≤ 1024 → n * n ≤ 1048576
+square-small n h = mul-le-mul h h
+
 -- entries of a longer list whose front is a table
 pub entry-front : (n : ℕ) (t u : List ℕ) → take (n * n) t ≡ u → (a b : ℕ) → a < n → b < n → entry n t a b ≡ entry n u a b
 unfolding entry
 entry-front n t u e a b ha hb =
-    sym (getD-take (n * n) t (a * n + b) 0 inside) ∙ ap (λ (l : List ℕ). getD l (a * n + b) 0) e
-  where
-    inside : a * n + b < n * n
-    inside = omega (arith, suc-mul a n, mul-le-mul-right n ha)
+    sym (getD-take (n * n) t (a * n + b) 0 (place-inside n a b ha hb)) ∙ ap (λ (l : List ℕ). getD l (a * n + b) 0) e
 
 pub front-length : (k : ℕ) (t u : List ℕ) → take k t ≡ u → length u ≡ k → k ≤ length t
 front-length k t u e l = omega (arith, length-take k t, ap length e, l)

@@ -10,7 +10,7 @@ use native.Mathlib.Omega.{arith}
 use lib.Dec.{ltb}
 use lib.ListN.{length, getD, drop, length-drop, drop-of-length-le}
 use lib.Seq.{drop-cons}
-use Rattle.model.specs.Basics.{upTo, all}
+use Rattle.model.specs.Basics.{upTo, all, firstOf}
 use Rattle.model.specs.Survey.{ascending}
 use Rattle.model.proofs.Tests.{T-true, true-T, no-false, false-no, eq-or}
 use Rattle.model.proofs.Lists.{of-all, all-of, has-upTo, of-upTo}
@@ -28,6 +28,23 @@ all-next p l i good h = and-assoc good (p (getD l i 0)) (all p (drop (i + 1) l))
 pub all-end : (p : ℕ → Bool) (l : List ℕ) (i : ℕ) (good : Bool) → length l ≤ i → good ≡ (good && all p (drop i l))
 unfolding all
 all-end p l i good h = sym (and-true good) ∙ ap (λ (k : List ℕ). good && all p k) (sym (drop-of-length-le l h))
+
+-- the first element that passes a test, taken one by one: what is left still says which it is
+module _ (p : ℕ → Bool) (d : ℕ) (l : List ℕ) where
+  abbrev pub Searched : ℕ → Type 0
+  Searched i = firstOf p d (drop i l) ≡ firstOf p d l
+
+  pub searched-found : (i : ℕ) → firstOf p d (drop i l) ≡ firstOf p d l → i < length l → p (getD l i 0) ≡ true → getD l i 0 ≡ firstOf p d l
+  unfolding firstOf
+  searched-found i s h e = rw (← s, drop-next l i h, e)
+
+  pub searched-more : (i : ℕ) → firstOf p d (drop i l) ≡ firstOf p d l → i < length l → p (getD l i 0) ≡ false → firstOf p d (drop (i + 1) l) ≡ firstOf p d l
+  unfolding firstOf
+  searched-more i s h e = rw (← s, drop-next l i h, e)
+
+  pub searched-all : (i : ℕ) → firstOf p d (drop i l) ≡ firstOf p d l → length l ≤ i → d ≡ firstOf p d l
+  unfolding firstOf
+  searched-all i s h = rw (← s, drop-of-length-le l h)
 
 -- neighbouring elements, taken pair by pair
 pub ascending-next : (l : List ℕ) (i : ℕ) (good : Bool) → 1 ≤ i → i < length l

@@ -1,7 +1,7 @@
 -- Asking and walking. A walk that is given out is a chain of the survey's links, whatever the tables hold, and no more steps are
 -- taken than there are nodes.
 -- Assumes nothing.
-use mathlib.Core.Path.{_≡_, refl, sym, ap, _∙_, subst}
+use mathlib.Core.Path.{_≡_, refl, sym, ap, ap₂, _∙_, subst}
 use mathlib.Core.Logic.{_⊎_, inl, inr}
 use mathlib.Core.Bool.{Bool, true, false, not, _&&_}
 use mathlib.Core.List.{List, [], _∷_, _++_, reverse, tail, reverse-cons}
@@ -24,7 +24,7 @@ use Rattle.model.specs.Pair.{answer, attaining, choose, pairBy}
 use Rattle.model.specs.Walk.{before, next, steps, byLow, toHub, join, nodes}
 use Rattle.model.specs.Walking.{Walking, refuseWalk, fit, walkOf}
 use Rattle.model.proofs.Tests.{and-l, and-r, and-i, is, isnt, eq-T}
-use Rattle.model.proofs.Lists.{has-upTo, first-in, first-below, First, found, nothing, keep-grows, keep-length, length-upTo}
+use Rattle.model.proofs.Lists.{has-upTo, first-in, first-below, first-same, First, found, nothing, keep-grows, keep-length, length-upTo}
 use Rattle.model.proofs.Acceptance.{linked-of, linked-sym}
 use Rattle.model.proofs.Allowance.{Sum, whole, part, sum-is}
 
@@ -137,6 +137,44 @@ module _ (n : ℕ) (G : Graph) (g : IsGraph n G) (may : ℕ → Bool) (left : �
           let u = next v d h z q in
           absurd (r .1 (u .0) (u .1) (and-i (may (u .0)) (eqb (left (u .0)) d) (u .2) (eq-T (left (u .0)) d (u .3))))
 
+-- the way on leads to a node below n
+pub next-below : (n : ℕ) (G : Graph) → IsGraph n G → (may : ℕ → Bool) (left : ℕ → ℕ) (d v : ℕ) → v < n → (next G may left d v ≡ none → ⊥) → next G may left d v < n
+unfolding next
+next-below n G g may left d v h f = at (first-in p none (G v))
+  where
+    p : ℕ → Bool
+    p x = may x && eqb (left x) d
+
+    at : (T (has (firstOf p none (G v)) (G v)) × T (p (firstOf p none (G v)))) ⊎ ((firstOf p none (G v) ≡ none) × ((y : ℕ) → T (has y (G v)) → T (p y) → ⊥))
+        → firstOf p none (G v) < n
+    at (inl r) = g .below v (firstOf p none (G v)) h (r .0)
+    at (inr r) = absurd (f (r .0))
+
+-- steps look at no node of n or more
+module _ (n : ℕ) (G : Graph) (g : IsGraph n G) (may may′ : ℕ → Bool) (left left′ : ℕ → ℕ) (goal : ℕ)
+    (same-may : (x : ℕ) → x < n → may x ≡ may′ x) (same-left : (x : ℕ) → x < n → left x ≡ left′ x) where
+  next-same : (d v : ℕ) → v < n → next G may left d v ≡ next G may′ left′ d v
+  unfolding next
+  next-same d v h = first-same (λ x. may x && eqb (left x) d) (λ x. may′ x && eqb (left′ x) d) none (G v) (λ x m.
+      let b = g .below v x h m in
+      ap₂ (λ (t : Bool) (k : ℕ). t && eqb k d) (same-may x b) (same-left x b))
+
+  pub steps-same : (d v : ℕ) → v < n → steps G may left goal d v ≡ steps G may′ left′ goal d v
+  unfolding steps
+  steps-same zero v h = refl
+  steps-same (suc d) v h = at (eqb x none) refl (λ b. steps-same d x b) ∙ ap on (next-same d v h)
+    where
+      x : ℕ
+      x = next G may left d v
+
+      on : ℕ → Option (List ℕ)
+      on y = if eqb y none then missing else before v (steps G may′ left′ goal d y)
+
+      at : (t : Bool) → eqb x none ≡ t → (x < n → steps G may left goal d x ≡ steps G may′ left′ goal d x)
+          → (if t then missing else before v (steps G may left goal d x)) ≡ (if t then missing else before v (steps G may′ left′ goal d x))
+      at true e rec = refl
+      at false e rec = ap (before v) (rec (next-below n G g may left d v h (isnt x none e)))
+
 -- ---- two parts joined
 
 module _ {E : Edges} where
@@ -222,6 +260,40 @@ module _ (n : ℕ) (G : Graph) (g : IsGraph n G) (may : ℕ → Bool) (left : �
   pub depth-bounded : (d v : ℕ) → v < n → depth G may left d v ≤ n
   unfolding under
   depth-bounded d v h = omega (arith, depth-under d v h, keep-length (λ x. ltb (left x) d) (upTo n), length-upTo n)
+
+  -- a part that is given out takes all its steps; so none of n links or more is, from a node that has as many left
+  depth-all : (goal d v : ℕ) → Given (steps G may left goal d v) → depth G may left d v ≡ d
+  unfolding steps depth before
+  depth-all goal zero v m = refl
+  depth-all goal (suc d) v m = at (eqb x none) m (λ r. depth-all goal d x r)
+    where
+      x : ℕ
+      x = next G may left d v
+
+      rest : (o : Option (List ℕ)) → Given (before v o) → Given o
+      rest missing r = r
+      rest (some l) r = tt
+
+      at : (t : Bool) → Given (if t then missing else before v (steps G may left goal d x))
+          → (Given (steps G may left goal d x) → depth G may left d x ≡ d) → (if t then 0 else suc (depth G may left d x)) ≡ suc d
+      at true r rec = absurd r
+      at false r rec = ap suc (rec (rest (steps G may left goal d x) r))
+
+  under-all : (d v : ℕ) → v < n → d ≤ left v → under d < n
+  unfolding under
+  under-all d v h l = at (keep-grows (λ x. ltb (left x) d) (λ x. true) (upTo n) (λ x m t. tt))
+    where
+      at : ((x : ℕ) → T (has x (upTo n)) → T true → T (ltb (left x) d)) ⊎ (length (keep (λ x. ltb (left x) d) (upTo n)) < length (keep (λ x. true) (upTo n)))
+          → length (keep (λ x. ltb (left x) d) (upTo n)) < n
+      at (inl f) = absurd (omega (arith, ltb→lt (left v) d (f v (has-upTo n v h) tt)))
+      at (inr k) = omega (arith, keep-length (λ x. true) (upTo n), length-upTo n)
+
+  pub too-long : (goal d v : ℕ) → v < n → d ≤ left v → n ≤ d → steps G may left goal d v ≡ missing
+  too-long goal d v h l k = at (steps G may left goal d v) refl
+    where
+      at : (o : Option (List ℕ)) → steps G may left goal d v ≡ o → o ≡ missing
+      at missing e = refl
+      at (some p) e = absurd (omega (arith, depth-all goal d v (subst Given (sym e) tt), depth-under d v h, under-all d v h l))
 
 -- ---- the whole walk, whatever the tables hold
 

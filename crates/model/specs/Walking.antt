@@ -7,7 +7,8 @@ use Prim.Native.Nat.{ℕ, _+_, _-_, _*_}
 use lib.Dec.{ltb, leb}
 use lib.ListN.{length, replicate}
 use Rattle.model.specs.declared.Answer.{Answer}
-use Rattle.model.specs.Answers.{Outcome, refused, answered}
+use Rattle.model.specs.declared.Asking.{Asking}
+use Rattle.model.specs.Answers.{Outcome, refused, answered, pairAnswer}
 use Rattle.model.specs.Basics.{none, if_then_else_}
 use Rattle.model.specs.Survey.{Graph, neighboursOf, badSize, isSurvey}
 use Rattle.model.specs.Threshold.{threshold}
@@ -17,6 +18,10 @@ use Rattle.model.specs.Walk.{nodes}
 pub record Walking : Type 0 where
   pub answer : Outcome Answer
   pub walk : List ℕ
+
+-- what a call of the code returned and left in the walk list
+abbrev pub walked : Asking → List ℕ → Walking
+walked r w = record { answer = pairAnswer r; walk = w }
 
 -- "Refused, or with no route, every entry of the walk list is none; otherwise the entries after the walk are none." w is the list's
 -- length

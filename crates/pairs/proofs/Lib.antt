@@ -1,0 +1,2 @@
+pub mod HubLaws
+pub mod PairLaws

@@ -1,0 +1,65 @@
+-- Asking a pair: the refusals in their order, and what the answer says of chains.
+-- Assumes nothing.
+use mathlib.Core.Path.{_≡_, sym, subst}
+use mathlib.Core.Bool.{Bool, true, false, _||_}
+use mathlib.Core.List.{List}
+use Prim.Native.Nat.{ℕ, _*_, _≤_, _<_}
+use borrow.Author.Tests.{ltb-false}
+use lib.Dec.{ltb, leb}
+use lib.ListN.{length}
+use Rattle.model.specs.declared.Answer.{Answer}
+use Rattle.model.specs.Answers.{Outcome, refused}
+use Rattle.model.specs.Survey.{neighboursOf, linked, badSize, Accepted}
+use Rattle.model.specs.Threshold.{threshold}
+use Rattle.model.specs.Tables.{AreBuilt}
+use Rattle.model.specs.Pair.{pair}
+use Rattle.model.specs.Asking.{asking}
+use Rattle.model.specs.Demand.{AllowedAnswer}
+use Rattle.model.proofs.Tests.{of-or-false}
+use Rattle.model.proofs.Demand.{asking-right}
+
+module _ (n : ℕ) (full low report : List ℕ) where
+  -- a table is shorter than n * n
+  abbrev pub short : Bool
+  short = ltb (length full) (n * n) || ltb (length low) (n * n) || ltb (length report) (n * n)
+
+  pub record Room : Type 0 where
+    pub in-full : n * n ≤ length full
+    pub in-low : n * n ≤ length low
+    pub in-report : n * n ≤ length report
+
+  pub room : short ≡ false → Room
+  room e =
+      let p = of-or-false (ltb (length full) (n * n) || ltb (length low) (n * n)) (ltb (length report) (n * n)) e in
+      let q = of-or-false (ltb (length full) (n * n)) (ltb (length low) (n * n)) (p .0) in
+      record { in-full = ltb-false (length full) (n * n) (q .0); in-low = ltb-false (length low) (n * n) (q .1); in-report = ltb-false (length report) (n * n) (p .1) }
+
+  module _ (a b : ℕ) where
+    -- what asking promises of its answer
+    abbrev pub Asked : Outcome Answer → Type 0
+    Asked o = (o ≡ asking n full low report a b)
+        × ((starts neighbours : List ℕ) → Accepted n starts neighbours → AreBuilt n (threshold n) (neighboursOf starts neighbours) full low report
+        → a < n → b < n → AllowedAnswer (linked n (neighboursOf starts neighbours)) a b o)
+
+    asked : {o : Outcome Answer} → o ≡ asking n full low report a b → Asked o
+    asked e = (
+      e,
+      λ starts neighbours acc own ha hb.
+          subst (AllowedAnswer (linked n (neighboursOf starts neighbours)) a b) (sym e) (asking-right n starts neighbours acc full low report own a b ha hb),
+    )
+
+    pub bad-size : badSize n ≡ true → Asked (refused 2)
+    unfolding asking
+    bad-size e = asked (rw e)
+
+    pub too-short : badSize n ≡ false → short ≡ true → Asked (refused 8)
+    unfolding asking
+    too-short e f = asked (rw (e, f))
+
+    pub no-node : badSize n ≡ false → short ≡ false → (leb n a || leb n b) ≡ true → Asked (refused 10)
+    unfolding asking
+    no-node e f g = asked (rw (e, f, g))
+
+    pub pair-asked : badSize n ≡ false → short ≡ false → (leb n a || leb n b) ≡ false → {o : Outcome Answer} → o ≡ pair n full low report a b → Asked o
+    unfolding asking
+    pair-asked e f g h = asked (rw (e, f, g) h)

@@ -1,0 +1,140 @@
+// Asking a pair: the report with its route, read off the three tables.
+use model::Answer;
+use model::Asking;
+use model::Refusal;
+use model::Route;
+ghost use mathlib.Core.Path.{_≡_};
+ghost use mathlib.Core.Bool.{_&&_, _||_};
+ghost use mathlib.Core.List.{List};
+ghost use Prim.Native.Nat.{ℕ, _*_, _≤_, _<_};
+ghost use lib.Dec.{eqb, ltb};
+ghost use lib.ListN.{length};
+ghost use Rattle.model.specs.Answers.{answered, pairAnswer};
+ghost use Rattle.model.specs.Survey.{neighboursOf, linked, Accepted};
+ghost use Rattle.model.specs.Threshold.{threshold};
+ghost use Rattle.model.specs.Tables.{entry, via, AreBuilt};
+ghost use Rattle.model.specs.Pair.{answer, taken, attaining, pair};
+ghost use Rattle.model.specs.Asking.{asking};
+ghost use Rattle.model.specs.Demand.{AllowedAnswer};
+
+// An entry of a table that means none: an infinite distance. As a node, no node.
+pub const NONE: u16 = 65535;
+
+// Entry (row, column) of a table of n nodes.
+pub fn entry_at(n: usize, table: &[u16], row: usize, column: usize) -> u16
+    requires { ⌜ (n ≤ 1024) × (n * n ≤ length (now table)) × (row < n) × (column < n) ⌝ }
+    ensures { λ r. ⌜ r ≡ entry n (now (table .entry)) row column ⌝ }
+{
+    let at = row * n + column;
+    table[at]
+}
+
+// Whether node h counts as a hub and attains the report r. The sum of two entries needs more than 16 bits.
+fn hub_attains(n: usize, full: &[u16], a: usize, b: usize, r: u16, h: usize) -> bool
+    requires { ⌜ (n ≤ 1024) × (n * n ≤ length (now full)) × (a < n) × (b < n) × (h < n) ⌝ }
+    ensures { λ t. ⌜ t ≡ (taken n (now (full .entry)) a b h && eqb (via n (now (full .entry)) a b h) r) ⌝ }
+{
+    let x = entry_at(n, full, h, a);
+    if x == NONE {
+        return false;
+    }
+    let y = entry_at(n, full, h, b);
+    if y == NONE {
+        return false;
+    }
+    x as u32 + y as u32 == r as u32
+}
+
+// The smallest hub that attains the report r, or none: every node whose two entries of Full are not none is taken as a hub.
+fn attaining_hub(n: usize, full: &[u16], a: usize, b: usize, r: u16) -> u16
+    requires { ⌜ (n ≤ 1024) × (n * n ≤ length (now full)) × (a < n) × (b < n) ⌝ }
+    ensures { λ h. ⌜ h ≡ attaining (taken n (now (full .entry)) a b) n (now (full .entry)) a b r ⌝ }
+{
+    let mut h = 0;
+    while h < n {
+        if hub_attains(n, full, a, b, r, h) {
+            return h as u16;
+        }
+        h += 1;
+    }
+    NONE
+}
+
+// The report with its route.
+fn answer_by(report: u16, route: Route) -> Asking
+    ensures { λ r. ⌜ pairAnswer r ≡ answered (answer report route) ⌝ }
+{
+    Asking::Answered(Answer { report, route })
+}
+
+// The answer that the tables give for nodes below n.
+pub fn pair_answer(
+    n: usize,
+    full: &[u16],
+    low: &[u16],
+    report: &[u16],
+    a: usize,
+    b: usize,
+) -> Asking
+    requires { ⌜ (n ≤ 1024) × (n * n ≤ length (now full)) × (n * n ≤ length (now low)) × (n * n ≤ length (now report)) × (a < n) × (b < n) ⌝ }
+    ensures { λ r. ⌜ pairAnswer r ≡ pair n (now (full .entry)) (now (low .entry)) (now (report .entry)) a b ⌝ }
+{
+    let r = entry_at(n, report, a, b);
+    if a == b {
+        if r == 0 {
+            return answer_by(0, Route::Itself);
+        }
+        return Asking::Refused(Refusal::NotAttained);
+    }
+    if r == NONE {
+        return answer_by(NONE, Route::NoRoute);
+    }
+    if entry_at(n, low, a, b) == r {
+        return answer_by(r, Route::Low);
+    }
+    let h = attaining_hub(n, full, a, b, r);
+    if h == NONE {
+        return Asking::Refused(Refusal::NotAttained);
+    }
+    answer_by(r, Route::Through(h))
+}
+
+// Whether one of the three tables is shorter than n * n.
+pub fn tables_short(n: usize, full: &[u16], low: &[u16], report: &[u16]) -> bool
+    requires { ⌜ n ≤ 1024 ⌝ }
+    ensures { λ r. ⌜ r ≡ (ltb (length (now (full .entry))) (n * n) || ltb (length (now (low .entry))) (n * n) || ltb (length (now (report .entry))) (n * n)) ⌝ }
+{
+    let size = n * n;
+    if full.len() < size {
+        return true;
+    }
+    if low.len() < size {
+        return true;
+    }
+    report.len() < size
+}
+
+// Asking a pair: the report with its route. With the tables built from a survey it is not refused, and the report is allowed.
+pub fn ask(n: usize, full: &[u16], low: &[u16], report: &[u16], a: usize, b: usize) -> Asking
+    ensures { λ r. ⌜ pairAnswer r ≡ asking n (now (full .entry)) (now (low .entry)) (now (report .entry)) a b ⌝ }
+    ensures { λ r. ⌜ ((starts neighbours : List ℕ) → Accepted n starts neighbours
+        → AreBuilt n (threshold n) (neighboursOf starts neighbours) (now (full .entry)) (now (low .entry)) (now (report .entry))
+        → a < n → b < n → AllowedAnswer (linked n (neighboursOf starts neighbours)) a b (pairAnswer r)) ⌝ }
+{
+    if n < 1 {
+        return Asking::Refused(Refusal::NodeCount);
+    }
+    if 1024 < n {
+        return Asking::Refused(Refusal::NodeCount);
+    }
+    if tables_short(n, full, low, report) {
+        return Asking::Refused(Refusal::ShortList);
+    }
+    if n <= a {
+        return Asking::Refused(Refusal::NoNode);
+    }
+    if n <= b {
+        return Asking::Refused(Refusal::NoNode);
+    }
+    pair_answer(n, full, low, report, a, b)
+}
