@@ -1,0 +1,159 @@
+-- Rows of Full and Low: what a search through allowed nodes gives for them.
+-- Assumes nothing.
+use mathlib.Core.Path.{_≡_, refl, sym, ap, ap₂, _∙_, subst, fun-ext}
+use mathlib.Core.Logic.{_⊎_, inl, inr}
+use mathlib.Core.Bool.{Bool, true, false, not, _&&_}
+use mathlib.Core.List.{List, [], _∷_, _++_, map}
+use Prim.Native.Nat.{ℕ, zero, suc, _+_, _*_, _≤_, _<_}
+use native.Mathlib.Numerals.{add-one}
+use native.Mathlib.Omega.{arith}
+use borrow.Author.Tests.{lt-ltb}
+use lib.Dec.{T, ltb}
+use lib.ListN.{length, getD, take, drop, replicate, length-append, length-drop, length-replicate}
+use lib.Seq.{take-suc, take-all, drop-at, length-take-le}
+use Rattle.lists.specs.Writing.{written}
+use Rattle.model.specs.Basics.{none, if_then_else_, upTo, has, over}
+use Rattle.model.specs.Graph.{Edges, between, Chain, fewest}
+use Rattle.model.specs.Survey.{Graph, linked, IsGraph}
+use Rattle.model.specs.Hubs.{isHigh, isLow}
+use Rattle.nodeset.specs.NodeSet.{without}
+use Rattle.model.specs.Tables.{table, fullOf, lowLinks, lowTable}
+use Rattle.model.proofs.Acceptance.{linked-is}
+use Rattle.model.proofs.Chains.{split-last, chain-zero, fewest-missing}
+use Rattle.model.proofs.Lists.{has-append, has-later, has-head, of-append, of-single}
+use Rattle.model.proofs.TableLaws.{both-low, low-ends}
+use Rattle.model.proofs.Tests.{T-true, no-false, passes, same-test}
+use Rattle.tables.proofs.TableRows.{over-length, row-same, put-row, one-value, over-same}
+
+-- links between the nodes that pass a test, where the test passes at both ends of each link or says the same there
+pub between-same : (p q : ℕ → Bool) (n : ℕ) (G : Graph) → ((v : ℕ) → v < n → p v ≡ q v) → between p (linked n G) ≡ between q (linked n G)
+between-same p q n G e = fun-ext (λ a. fun-ext (λ b. at a b (passes (linked n G a b))))
+  where
+    at : (a b : ℕ) → T (linked n G a b) ⊎ (T (linked n G a b) → ⊥) → between p (linked n G) a b ≡ between q (linked n G) a b
+    at a b (inl t) = let l = linked-is n G a b t in ap₂ (λ (x y : Bool). (x && y) && linked n G a b) (e a (l .first)) (e b (l .second))
+    at a b (inr f) = rw (no-false (linked n G a b) f) (none-left (p a && p b) ∙ sym (none-left (q a && q b)))
+      where
+        none-left : (x : Bool) → (x && false) ≡ false
+        none-left true = refl
+        none-left false = refl
+
+-- all nodes are allowed
+pub all-allowed : (p : ℕ → Bool) (n : ℕ) (G : Graph) → p ≡ (λ v. ltb v n) → between p (linked n G) ≡ linked n G
+all-allowed p n G e =
+    between-same p (λ v. true) n G (λ v h. ap (λ (f : ℕ → Bool). f v) e ∙ lt-ltb v n h)
+
+-- ---- Full, hub by hub
+
+module _ (n : ℕ) (G : Graph) (hs : List ℕ) where
+  -- Full with the first i hubs
+  unfoldable pub fullTo : ℕ → List ℕ → List ℕ
+  fullTo i t = over (fullOf n G (take i hs)) t
+
+  -- a list t whose front was filled with none
+  module _ (t front : List ℕ) (room : n * n ≤ length t) (filled : front ≡ replicate (length (take (n * n) t)) none) where
+    same-front : front ≡ replicate (n * n) none
+    same-front = filled ∙ ap (λ (k : ℕ). replicate k none) (length-take-le (n * n) t room)
+
+    same-rest : drop (n * n) (front ++ drop (n * n) t) ≡ drop (n * n) t
+    same-rest = drop-at front (drop (n * n) t) (n * n) (ap length same-front ∙ length-replicate (n * n) none)
+
+    pub full-none : front ++ drop (n * n) t ≡ fullTo 0 (front ++ drop (n * n) t)
+    unfolding fullTo has
+    full-none =
+        ap (λ (l : List ℕ). l ++ drop (n * n) t) same-front
+        ∙ one-value n none t
+        ∙ over-same n (λ a b. none) t (front ++ drop (n * n) t) (sym same-rest)
+
+    pub full-all : over (fullOf n G hs) (front ++ drop (n * n) t) ≡ over (fullOf n G hs) t
+    full-all = over-same n (λ h b. if has h hs then fewest (linked n G) n h b else none) (front ++ drop (n * n) t) t same-rest
+
+    pub full-room : length (front ++ drop (n * n) t) ≡ length t
+    full-room =
+        length-append front (drop (n * n) t)
+        ∙ omega (arith, ap length same-front ∙ length-replicate (n * n) none, length-drop (n * n) t)
+
+  module _ (i : ℕ) (h : i < length hs) where
+    more : take (i + 1) hs ≡ take i hs ++ getD hs i 0 ∷ []
+    more = ap (λ (k : ℕ). take k hs) (add-one i) ∙ take-suc hs i 0 h
+
+    taken : T (has (getD hs i 0) (take (i + 1) hs))
+    taken = subst (λ (l : List ℕ). T (has (getD hs i 0) l)) (sym more) (has-later (getD hs i 0) (take i hs) (getD hs i 0 ∷ []) (has-head (getD hs i 0) []))
+
+    others : (u : ℕ) → (u ≡ getD hs i 0 → ⊥) → has u (take i hs) ≡ has u (take (i + 1) hs)
+    others u d =
+        ap (λ (b : Bool). b) (same-test (has u (take i hs)) (has u (take i hs ++ getD hs i 0 ∷ []))
+        (λ t. has-append u (take i hs) (getD hs i 0 ∷ []) t)
+        (λ t. at (of-append u (take i hs) (getD hs i 0 ∷ []) t)))
+        ∙ ap (has u) (sym more)
+      where
+        at : T (has u (take i hs)) ⊎ T (has u (getD hs i 0 ∷ [])) → T (has u (take i hs))
+        at (inl t) = t
+        at (inr t) = absurd (d (of-single u (getD hs i 0) t))
+
+    pub full-next : (t : List ℕ) → getD hs i 0 < n → (p : ℕ → Bool) → p ≡ (λ v. ltb v n)
+        → written (fullTo i t) (getD hs i 0 * n) (map (fewest (between p (linked n G)) n (getD hs i 0)) (upTo n)) ≡ fullTo (i + 1) t
+    unfolding fullTo
+    full-next t k p e =
+        let u = getD hs i 0 in
+        let g : ℕ → ℕ → ℕ = λ a b. if has a (take (i + 1) hs) then fewest (linked n G) n a b else none in
+        ap (λ (x : List ℕ). written (fullTo i t) (u * n) x) (
+        ap (λ (E : Edges). map (fewest E n u) (upTo n)) (all-allowed p n G e)
+        ∙ row-same n (fewest (linked n G) n u) (g u) (λ b q. rw (T-true (has u (take (i + 1) hs)) taken) refl)
+        )
+        ∙ put-row n u k (λ a b. if has a (take i hs) then fewest (linked n G) n a b else none) g t (λ a b ha hb d.
+        ap (λ (x : Bool). if x then fewest (linked n G) n a b else none) (others a d))
+
+  pub full-length : (i : ℕ) (t : List ℕ) → n * n ≤ length t → length (fullTo i t) ≡ length t
+  unfolding fullTo
+  full-length i t h = over-length n (λ h b. if has h (take i hs) then fewest (linked n G) n h b else none) t h
+
+  pub full-done : (i : ℕ) (t : List ℕ) → length hs ≤ i → fullTo i t ≡ over (fullOf n G hs) t
+  unfolding fullTo
+  full-done i t h = ap (λ (l : List ℕ). over (fullOf n G l) t) (take-all i hs h)
+
+-- ---- Low, row by row
+
+-- the entry (a, b) of Low
+unfoldable pub lowEntry : (n s : ℕ) → Graph → ℕ → ℕ → ℕ
+lowEntry n s G a b = if isLow s G a && isLow s G b then fewest (lowLinks n s G) n a b else none
+
+pub low-whole : (n s : ℕ) (G : Graph) → table n (lowEntry n s G) ≡ lowTable n s G
+unfolding lowEntry lowTable
+low-whole n s G = refl
+
+-- the nodes that are not high are the low ones
+pub low-are : (n s : ℕ) (G : Graph) (all high low : ℕ → Bool) → all ≡ (λ v. ltb v n) → high ≡ (λ v. ltb v n && isHigh s G v) → low ≡ without all high
+    → (v : ℕ) → v < n → low v ≡ isLow s G v
+unfolding without isLow
+low-are n s G all high low a h l v k =
+    ap (λ (f : ℕ → Bool). f v) l
+    ∙ ap₂ (λ (f g : ℕ → Bool). f v && not (g v)) a h
+    ∙ rw (lt-ltb v n k) refl
+
+module _ (n s : ℕ) (G : Graph) (g : IsGraph n G) where
+  -- a search from a low node does not reach a high one
+  high-missed : (a b : ℕ) → a < n → T (isLow s G a) → (T (isLow s G b) → ⊥) → fewest (lowLinks n s G) n a b ≡ none
+  high-missed a b ha la nb = fewest-missing (lowLinks n s G) n a (low-ends n s G g) ha b (λ k c. at k c)
+    where
+      at : (k : ℕ) → Chain (lowLinks n s G) k a b → ⊥
+      at zero c = nb (subst (λ (x : ℕ). T (isLow s G x)) (chain-zero c) la)
+      at (suc k) c = let l = split-last c in nb (both-low n s G g (l .0) b (l .2) .1)
+
+  -- the low nodes, as the set has them
+  module _ (p : ℕ → Bool) (is : (v : ℕ) → v < n → p v ≡ isLow s G v) where
+    pub low-row-is : (a : ℕ) → a < n
+        → map (λ b. if p a then fewest (between p (linked n G)) n a b else none) (upTo n) ≡ map (lowEntry n s G a) (upTo n)
+    unfolding lowEntry lowLinks
+    low-row-is a ha =
+        row-same n (λ b. if p a then fewest (between p (linked n G)) n a b else none) (lowEntry n s G a) (λ b hb.
+        ap₂ (λ (x : Bool) (E : Edges). if x then fewest E n a b else none) (is a ha) (between-same p (isLow s G) n G is)
+        ∙ at b (isLow s G a) refl (passes (isLow s G b)))
+      where
+        at : (b : ℕ) (x : Bool) → isLow s G a ≡ x → T (isLow s G b) ⊎ (T (isLow s G b) → ⊥)
+            → (if x then fewest (between (isLow s G) (linked n G)) n a b else none) ≡ (if x && isLow s G b then fewest (between (isLow s G) (linked n G)) n a b else none)
+        at b false e t = refl
+        at b true e (inl t) = rw (T-true (isLow s G b) t) refl
+        at b true e (inr f) = rw (no-false (isLow s G b) f) (missed b (subst T (sym e) tt) f)
+          where
+            missed : (b : ℕ) → T (isLow s G a) → (T (isLow s G b) → ⊥) → fewest (between (isLow s G) (linked n G)) n a b ≡ none
+            missed b la nb = high-missed a b ha la nb

@@ -1,0 +1,135 @@
+-- The refusals of building.
+-- Assumes nothing.
+use mathlib.Core.Path.{_≡_, refl, sym, ap, ap₂, _∙_}
+use mathlib.Core.Logic.{_⊎_, inl, inr}
+use mathlib.Core.Bool.{Bool, true, false, not, _&&_, _||_}
+use mathlib.Core.List.{List, _++_, append-assoc}
+use Prim.Native.Nat.{ℕ, _+_, _-_, _*_, _≤_, _<_}
+use native.Mathlib.Omega.{arith}
+use borrow.Author.Tests.{lt-ltb, le-ltb, lt-leb, le-leb, ltb-false}
+use lib.Dec.{ltb, leb}
+use lib.ListN.{length, take, drop, replicate}
+use lib.Seq.{take-at}
+use Rattle.model.specs.declared.Refusal.the-variants.{NodeCount, ShortList, NotSurvey}
+use Rattle.model.specs.declared.Counting.the-variants as counting
+use Rattle.model.specs.Answers.{answered}
+use Rattle.model.specs.Basics.{none, over}
+use Rattle.model.specs.Survey.{Graph, neighboursOf, badSize, isSurvey, Accepted}
+use Rattle.model.specs.Threshold.{threshold}
+use Rattle.model.specs.Hubs.{hubs, hubList}
+use Rattle.model.specs.Tables.{fullOf, fullTable, lowTable, reportOf, reportTable}
+use Rattle.model.specs.Building.{built, building, returned}
+use Rattle.model.proofs.Acceptance.{good-size, survey-facts}
+use Rattle.model.proofs.Covering.{hubs-below}
+use Rattle.model.proofs.Demand.{building-answers}
+use Rattle.model.proofs.Tests.{lt-or, of-or-false, true-T}
+use Rattle.tables.proofs.Reports.{report-same}
+
+-- not at least y: less than y
+not-leb : (x y : ℕ) → not (leb y x) ≡ ltb x y
+not-leb x y = at (lt-or x y)
+  where
+    at : (x < y) ⊎ (y ≤ x) → not (leb y x) ≡ ltb x y
+    at (inl h) = rw (lt-leb y x h, lt-ltb x y h) refl
+    at (inr h) = rw (le-leb y x h, le-ltb x y h) refl
+
+not-ltb : (x n : ℕ) → not (ltb n x) ≡ ltb x (n + 1)
+not-ltb x n = at (lt-or n x)
+  where
+    at : (n < x) ⊎ (x ≤ n) → not (ltb n x) ≡ ltb x (n + 1)
+    at (inl h) = rw (lt-ltb n x h, le-ltb x (n + 1) (omega arith)) refl
+    at (inr h) = rw (le-ltb n x h, lt-ltb x (n + 1) (omega arith)) refl
+
+not-and : (x y : Bool) → not (x && y) ≡ (not x || not y)
+not-and true y = refl
+not-and false y = refl
+
+pub room-is : (n s f l r h : ℕ)
+    → not (ltb n s && leb (n * n) f && leb (n * n) l && leb (n * n) r && leb n h) ≡ (ltb s (n + 1) || ltb f (n * n) || ltb l (n * n) || ltb r (n * n) || ltb h n)
+room-is n s f l r h =
+    not-and (ltb n s && leb (n * n) f && leb (n * n) l && leb (n * n) r) (leb n h)
+    ∙ ap₂ _||_ (
+    not-and (ltb n s && leb (n * n) f && leb (n * n) l) (leb (n * n) r)
+    ∙ ap₂ _||_ (
+    not-and (ltb n s && leb (n * n) f) (leb (n * n) l)
+    ∙ ap₂ _||_ (not-and (ltb n s) (leb (n * n) f) ∙ ap₂ _||_ (not-ltb s n) (not-leb f (n * n))) (not-leb l (n * n))
+    ) (not-leb r (n * n))
+    ) (not-leb h n)
+
+-- ---- what was built
+
+-- the hubs stand in front of the hub list
+pub hubs-front : (n s : ℕ) (G : Graph) (list list′ : List ℕ) (count : ℕ) → count ≡ length (hubs n s G) → list′ ≡ over (hubList n s G) list → take count list′ ≡ hubs n s G
+unfolding over hubList
+hubs-front n s G list list′ count c e =
+    let hs : List ℕ = hubs n s G in
+    let more : List ℕ = replicate (n - length hs) none in
+    ap₂ (λ (k : ℕ) (l : List ℕ). take k l) c (e ∙ append-assoc hs more (drop (length (hs ++ more)) list))
+    ∙ take-at hs (more ++ drop (length (hs ++ more)) list) (length hs) refl
+
+pub tables-built : (n s : ℕ) (G : Graph) (full low report list full′ low′ report′ list′ : List ℕ) (count : ℕ)
+    → count ≡ length (hubs n s G) → list′ ≡ over (hubList n s G) list
+    → full′ ≡ over (fullOf n G (take count list′)) full → low′ ≡ over (lowTable n s G) low → report′ ≡ over (reportOf n full′ low′ (take count list′)) report
+    → record { answer = answered count; full = full′; low = low′; report = report′; hubs = list′ } ≡ built n s G full low report list
+unfolding built fullTable lowTable reportTable
+tables-built n s G full low report list full′ low′ report′ list′ count c e f l r =
+    let front = hubs-front n s G list list′ count c e in
+    let full-is : full′ ≡ over (fullTable n s G) full = f ∙ ap (λ (hs : List ℕ). over (fullOf n G hs) full) front in
+    let report-is : report′ ≡ over (reportTable n s G) report =
+    r ∙ ap (λ (hs : List ℕ). over (reportOf n full′ low′ hs) report) front
+    ∙ ap₂ (λ (x y : List ℕ). over (reportOf n x y (hubs n s G)) report) full-is l
+    ∙ ap (λ (t : List ℕ). over t report) (report-same n _ _ full low (hubs n s G) (hubs-below n G s)) in
+    λ i. record { answer = answered (c i); full = full-is i; low = l i; report = report-is i; hubs = e i }
+
+-- ---- the refusals, in their order
+
+module _ (n : ℕ) (starts neighbours full low report list : List ℕ) where
+  abbrev short : Bool
+  short = ltb (length starts) (n + 1) || ltb (length full) (n * n) || ltb (length low) (n * n) || ltb (length report) (n * n) || ltb (length list) n
+
+  pub build-size : badSize n ≡ true → returned (counting.Refused NodeCount) full low report list ≡ building n starts neighbours full low report list
+  unfolding building
+  build-size b = rw b refl
+
+  module _ (size : (1 ≤ n) × (n ≤ 1024)) where
+    pub build-short : short ≡ true → returned (counting.Refused ShortList) full low report list ≡ building n starts neighbours full low report list
+    unfolding building
+    build-short h = rw (good-size n (size .0) (size .1), h) refl
+
+    pub build-other : short ≡ false → isSurvey n starts neighbours ≡ false → returned (counting.Refused NotSurvey) full low report list ≡ building n starts neighbours full low report list
+    unfolding building
+    build-other h i = rw (good-size n (size .0) (size .1), h, i) refl
+
+    pub build-room : short ≡ false → (n + 1 ≤ length starts) × (n * n ≤ length full) × (n * n ≤ length low) × (n * n ≤ length report) × (n ≤ length list)
+    build-room h =
+        let A = ltb (length starts) (n + 1) in
+        let B = ltb (length full) (n * n) in
+        let C = ltb (length low) (n * n) in
+        let D = ltb (length report) (n * n) in
+        let E = ltb (length list) n in
+        let d = of-or-false (A || B || C || D) E h in
+        let c = of-or-false (A || B || C) D (d .0) in
+        let b = of-or-false (A || B) C (c .0) in
+        let a = of-or-false A B (b .0) in (
+          ltb-false (length starts) (n + 1) (a .0),
+          ltb-false (length full) (n * n) (a .1),
+          ltb-false (length low) (n * n) (b .1),
+          ltb-false (length report) (n * n) (c .1),
+          ltb-false (length list) n (d .1),
+        )
+
+    pub build-accepted : short ≡ false → isSurvey n starts neighbours ≡ true → Accepted n starts neighbours
+    build-accepted h i = record {
+      some-node = size .0;
+      size = size .1;
+      room = build-room h .0;
+      lists = survey-facts n starts neighbours (true-T (isSurvey n starts neighbours) i);
+    }
+
+    pub build-done : (h : short ≡ false) (i : isSurvey n starts neighbours ≡ true) (full′ low′ report′ list′ : List ℕ) (k s : ℕ) → s ≡ threshold n
+        → record { answer = answered k; full = full′; low = low′; report = report′; hubs = list′ } ≡ built n s (neighboursOf starts neighbours) full low report list
+        → returned (counting.Count k) full′ low′ report′ list′ ≡ building n starts neighbours full low report list
+    build-done h i full′ low′ report′ list′ k s t e =
+        let r = build-room h in
+        e ∙ ap (λ (x : ℕ). built n x (neighboursOf starts neighbours) full low report list) t
+        ∙ sym (building-answers n starts neighbours (build-accepted h i) full low report list (r .1) (r .2) (r .3) (r .4))
