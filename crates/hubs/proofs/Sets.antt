@@ -11,7 +11,7 @@ use lib.Dec.{T, eqb, ltb}
 use lib.ListN.{length, getD, drop, replicate, drop-of-length-le}
 use Rattle.model.specs.Basics.{upTo, has, keep, firstOf}
 use Rattle.model.specs.Survey.{Graph, Accepted, neighboursOf}
-use Rattle.model.specs.Hubs.{isHigh, closed, gain}
+use Rattle.model.specs.Hubs.{isHigh, isLow, closed, gain}
 use Rattle.model.proofs.Tests.{and-r, eq-or}
 use Rattle.model.proofs.Lists.{of-cons, has-keep, has-upTo, of-upTo, keep-same, keep-keep, keep-none, keep-below, First, found, nothing, first-below}
 use Rattle.model.proofs.Loops.{drop-next}
@@ -169,3 +169,14 @@ high-kept n s G ws e =
 pub covered-kept : (n : ℕ) (us us′ : List ℕ) (c : Nodes) → member us′ ≡ without (member us) c → keep (member us′) (upTo n) ≡ keep (λ x. not (c x)) (keep (member us) (upTo n))
 unfolding without
 covered-kept n us us′ c e = ap (λ (p : Nodes). keep p (upTo n)) e ∙ sym (keep-keep (λ x. not (c x)) (member us) (upTo n))
+
+-- the nodes below n that are not high are the low ones
+pub low-set : (n s : ℕ) (G : Graph) (all high low : ℕ → Bool) → all ≡ (λ v. ltb v n) → high ≡ (λ v. ltb v n && isHigh s G v) → low ≡ without all high
+    → low ≡ (λ v. ltb v n && isLow s G v)
+unfolding without isLow
+low-set n s G all high low a h l =
+    l ∙ ap₂ (λ (f g : ℕ → Bool). λ v. f v && not (g v)) a h ∙ fun-ext (λ v. at (ltb v n) (isHigh s G v))
+  where
+    at : (x y : Bool) → (x && not (x && y)) ≡ (x && not y)
+    at true y = refl
+    at false y = refl

@@ -6,7 +6,7 @@ ghost use lib.Dec.{T, ltb};
 ghost use lib.ListN.{length, replicate};
 ghost use Rattle.model.specs.Basics.{upTo, has, keep, over};
 ghost use Rattle.model.specs.Survey.{neighboursOf, Accepted};
-ghost use Rattle.model.specs.Hubs.{isHigh, closed, gain, best, hubs, hubList};
+ghost use Rattle.model.specs.Hubs.{isHigh, isLow, closed, gain, best, hubs, hubList};
 ghost use Rattle.nodeset.specs.NodeSet.{member, without};
 
 // What the list holds after the hubs.
@@ -25,6 +25,17 @@ pub fn high_nodes(n: usize, s: usize, starts: &[u32], neighbours: &[u16], words:
         }
         v += 1;
     }
+}
+
+// The nodes with fewer than s neighbours, put into the empty set.
+pub fn low_nodes(n: usize, s: usize, starts: &[u32], neighbours: &[u16], words: &mut [u64])
+    requires { ⌜ Accepted n (now starts) (now neighbours) × (now words ≡ replicate 16 0) ⌝ }
+    ensures { λ _. ⌜ member (now (words .exit)) ≡ (λ v. ltb v n && isLow s (neighboursOf (now (starts .entry)) (now (neighbours .entry))) v) ⌝ }
+{
+    let mut high = [0u64; 16];
+    high_nodes(n, s, starts, neighbours, &mut high);
+    nodeset::insert_below(words, n);
+    nodeset::remove(words, &high);
 }
 
 // Puts the nodes of a list into the set.

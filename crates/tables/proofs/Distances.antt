@@ -15,8 +15,7 @@ use Rattle.lists.specs.Writing.{written}
 use Rattle.model.specs.Basics.{none, if_then_else_, upTo, has, over}
 use Rattle.model.specs.Graph.{Edges, between, Chain, fewest}
 use Rattle.model.specs.Survey.{Graph, linked, IsGraph}
-use Rattle.model.specs.Hubs.{isHigh, isLow}
-use Rattle.nodeset.specs.NodeSet.{without}
+use Rattle.model.specs.Hubs.{isLow}
 use Rattle.model.specs.Tables.{table, fullOf, lowLinks, lowTable}
 use Rattle.model.proofs.Acceptance.{linked-is}
 use Rattle.model.proofs.Chains.{split-last, chain-zero, fewest-missing}
@@ -121,14 +120,9 @@ pub low-whole : (n s : ℕ) (G : Graph) → table n (lowEntry n s G) ≡ lowTabl
 unfolding lowEntry lowTable
 low-whole n s G = refl
 
--- the nodes that are not high are the low ones
-pub low-are : (n s : ℕ) (G : Graph) (all high low : ℕ → Bool) → all ≡ (λ v. ltb v n) → high ≡ (λ v. ltb v n && isHigh s G v) → low ≡ without all high
-    → (v : ℕ) → v < n → low v ≡ isLow s G v
-unfolding without isLow
-low-are n s G all high low a h l v k =
-    ap (λ (f : ℕ → Bool). f v) l
-    ∙ ap₂ (λ (f g : ℕ → Bool). f v && not (g v)) a h
-    ∙ rw (lt-ltb v n k) refl
+-- the low nodes, as the set has them
+pub low-are : (n s : ℕ) (G : Graph) (p : ℕ → Bool) → p ≡ (λ v. ltb v n && isLow s G v) → (v : ℕ) → v < n → p v ≡ isLow s G v
+low-are n s G p e v k = ap (λ (f : ℕ → Bool). f v) e ∙ rw (lt-ltb v n k) refl
 
 module _ (n s : ℕ) (G : Graph) (g : IsGraph n G) where
   -- a search from a low node does not reach a high one

@@ -87,11 +87,8 @@ fn fill_low(n: usize, s: usize, starts: &[u32], neighbours: &[u16], low: &mut [u
     requires { ⌜ Accepted n (now starts) (now neighbours) × (n * n ≤ length (now low)) ⌝ }
     ensures { λ _. ⌜ now (low .exit) ≡ over (lowTable n s (neighboursOf (now (starts .entry)) (now (neighbours .entry)))) (now (low .entry)) ⌝ }
 {
-    let mut high = [0u64; 16];
-    hubs::high_nodes(n, s, starts, neighbours, &mut high);
     let mut low_nodes = [0u64; 16];
-    nodeset::insert_below(&mut low_nodes, n);
-    nodeset::remove(&mut low_nodes, &high);
+    hubs::low_nodes(n, s, starts, neighbours, &mut low_nodes);
     let mut a = 0;
     while a < n {
         low_row(n, starts, neighbours, &low_nodes, a, low);
