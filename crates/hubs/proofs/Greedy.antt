@@ -1,14 +1,15 @@
 -- The best node found in one pass, and the greedy list written hub by hub.
 -- Assumes nothing.
-use mathlib.Core.Path.{_≡_, refl, sym, ap, _∙_, subst}
+use mathlib.Core.Path.{_≡_, refl, sym, ap, ap₂, _∙_, subst}
 use mathlib.Core.Bool.{not, _&&_}
-use mathlib.Core.List.{List, [], _∷_, _++_}
+use mathlib.Core.List.{List, [], _∷_, _++_, append-assoc}
 use Prim.Native.Nat.{ℕ, zero, suc, _+_, _-_, _*_, _≤_, _<_}
 use native.Mathlib.Nat.{le-refl}
 use native.Mathlib.Omega.{arith}
 use borrow.Rule.Slice.PartMut.{midOf, putMid, mid-len, same-len-mid}
 use lib.Dec.{T, ltb}
-use lib.ListN.{length, set, replicate, length-replicate, length-append}
+use lib.ListN.{length, set, take, drop, replicate, length-replicate, length-append}
+use lib.Seq.{take-at}
 use Rattle.lists.specs.Writing.{Wrote}
 use Rattle.lists.proofs.Writing.{wrote-one, wrote-then, wrote-over, wrote-part, Left, left-all, left-length, left-more, left-none}
 use Rattle.model.specs.Basics.{none, upTo, has, keep, over, firstOf}
@@ -193,3 +194,12 @@ module _ {n s : ℕ} {G : Graph} {list₀ list us : List ℕ} {count : ℕ} (c :
             k,
             wrote-over (hubs n s G ++ t) w .0 ∙ ap (λ (b : List ℕ). over (hubs n s G ++ b) list₀) (q ∙ ap (λ (j : ℕ). replicate j none) (f ∙ ap (λ (j : ℕ). n - j) k)),
           )
+
+-- the hubs stand in front of the hub list
+pub hubs-front : (n s : ℕ) (G : Graph) (list list′ : List ℕ) (count : ℕ) → count ≡ length (hubs n s G) → list′ ≡ over (hubList n s G) list → take count list′ ≡ hubs n s G
+unfolding over hubList
+hubs-front n s G list list′ count c e =
+    let hs : List ℕ = hubs n s G in
+    let more : List ℕ = replicate (n - length hs) none in
+    ap₂ (λ (k : ℕ) (l : List ℕ). take k l) c (e ∙ append-assoc hs more (drop (length (hs ++ more)) list))
+    ∙ take-at hs (more ++ drop (length (hs ++ more)) list) (length hs) refl

@@ -26,7 +26,7 @@ use Rattle.model.specs.Building.{built, building}
 use Rattle.model.specs.Asking.{asking}
 use Rattle.model.specs.Walking.{Walking, refuseWalk, walkOf, walking}
 use Rattle.model.specs.Testing.{testingOf, testing}
-use Rattle.model.specs.Demand.{Allowed, AllowedAnswer, WalkSound, WalkAnswers, VerdictRight}
+use Rattle.model.specs.Demand.{Allowed, AllowedAnswer, WalkSound, WalkAnswers, RightVerdict}
 use Rattle.model.proofs.Outcomes.{never}
 use Rattle.model.proofs.Tests.{or-false, of-or-false, picked, not-not}
 use Rattle.model.proofs.Acceptance.{survey-test, survey-facts, good-size, accepting-answers}
@@ -125,8 +125,12 @@ module _ (n : ℕ) (starts neighbours : List ℕ) (acc : Accepted n starts neigh
   unfolding testing testingOf
   testing-answers = rw (accepting-answers n starts neighbours acc) refl
 
-  pub testing-right : VerdictRight n (linked n G) (tested n (threshold n) G .verdict)
-  testing-right = verdict-right n (threshold n) G (acc .lists .graph) (acc .size)
+  pub testing-right : RightVerdict n (linked n G) (testing n starts neighbours)
+  testing-right = record {
+    value = tested n (threshold n) G;
+    given = testing-answers;
+    right = verdict-right n (threshold n) G (acc .lists .graph) (acc .size);
+  }
 
   -- building into lists that are long enough
   pub building-answers : (full low report list : List ℕ) → n * n ≤ length full → n * n ≤ length low → n * n ≤ length report → n ≤ length list

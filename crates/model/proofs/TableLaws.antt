@@ -1,20 +1,38 @@
 -- What the entries of Full and Low say: fewest links, from hubs and between low nodes.
 -- Assumes nothing.
-use mathlib.Core.Path.{_≡_, sym, _∙_, subst}
+use mathlib.Core.Path.{_≡_, refl, sym, ap, ap₂, _∙_, subst, fun-ext}
 use mathlib.Core.Logic.{_⊎_, inl, inr}
 use mathlib.Core.Bool.{Bool, true, false, _&&_}
 use Prim.Native.Nat.{ℕ, _<_}
 use native.Mathlib.Nat.{le-antisymm}
-use lib.Dec.{T}
+use borrow.Author.Tests.{lt-ltb}
+use lib.Dec.{T, ltb}
 use Rattle.model.specs.Basics.{none, if_then_else_, has}
-use Rattle.model.specs.Graph.{Edges, Chain, Fewest, fewest}
+use Rattle.model.specs.Graph.{Edges, between, Chain, Fewest, fewest}
 use Rattle.model.specs.Survey.{Graph, linked, IsGraph}
 use Rattle.model.specs.Hubs.{isLow, hubs}
 use Rattle.model.specs.Tables.{table, entry, fullTable, lowLinks, lowTable}
-use Rattle.model.proofs.Tests.{and-l, and-r, and-i}
+use Rattle.model.proofs.Tests.{and-l, and-r, and-i, passes, no-false}
 use Rattle.model.proofs.Chains.{fewest-is, fewest-cases}
-use Rattle.model.proofs.Acceptance.{linked-ends}
+use Rattle.model.proofs.Acceptance.{linked-is, linked-ends}
 use Rattle.model.proofs.Entries.{entry-table}
+
+-- tests that agree below n leave the same links
+pub between-same : (p q : ℕ → Bool) (n : ℕ) (G : Graph) → ((v : ℕ) → v < n → p v ≡ q v) → between p (linked n G) ≡ between q (linked n G)
+between-same p q n G e = fun-ext (λ a. fun-ext (λ b. at a b (passes (linked n G a b))))
+  where
+    at : (a b : ℕ) → T (linked n G a b) ⊎ (T (linked n G a b) → ⊥) → between p (linked n G) a b ≡ between q (linked n G) a b
+    at a b (inl t) = let l = linked-is n G a b t in ap₂ (λ (x y : Bool). (x && y) && linked n G a b) (e a (l .first)) (e b (l .second))
+    at a b (inr f) = rw (no-false (linked n G a b) f) (none-left (p a && p b) ∙ sym (none-left (q a && q b)))
+      where
+        none-left : (x : Bool) → (x && false) ≡ false
+        none-left true = refl
+        none-left false = refl
+
+-- all nodes are allowed
+pub all-allowed : (p : ℕ → Bool) (n : ℕ) (G : Graph) → p ≡ (λ v. ltb v n) → between p (linked n G) ≡ linked n G
+all-allowed p n G e =
+    between-same p (λ v. true) n G (λ v h. ap (λ (f : ℕ → Bool). f v) e ∙ lt-ltb v n h)
 
 pub fewest-unique : {E : Edges} {a b d e : ℕ} → Fewest E a b d → Fewest E a b e → d ≡ e
 fewest-unique {d = d} {e = e} p q = le-antisymm (p .1 e (q .0)) (q .1 d (p .0))

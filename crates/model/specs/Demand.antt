@@ -7,6 +7,7 @@ use mathlib.Core.List.{List}
 use Prim.Native.Nat.{ℕ, _+_, _≤_, _<_}
 use lib.ListN.{length, take}
 use Rattle.model.specs.declared.Answer.{Answer}
+use Rattle.model.specs.declared.Tested.{Tested}
 use Rattle.model.specs.declared.Verdict.{Verdict}
 use Rattle.model.specs.declared.Verdict.the-variants.{Parted, Long, Short}
 use Rattle.model.specs.Answers.{Outcome, answered}
@@ -59,3 +60,9 @@ pub record VerdictRight (n : ℕ) (E : Edges) (v : Verdict) : Type 0 where
   pub parted : (v ≡ Parted) ↔ ((a : ℕ) × (b : ℕ) × (a < n) × (b < n) × Apart E a b)
   pub not-short : (a b d : ℕ) → a < n → b < n → Fewest E a b d → 4 ≤ d → v ≡ Short → ⊥
   pub not-long : ((a b : ℕ) → a < n → b < n → (d : ℕ) × (d ≤ 2) × Fewest E a b d) → v ≡ Long → ⊥
+
+-- a test that is not refused, with a right verdict
+pub record RightVerdict (n : ℕ) (E : Edges) (o : Outcome Tested) : Type 0 where
+  pub value : Tested
+  pub given : o ≡ answered value
+  pub right : VerdictRight n E (value .verdict)

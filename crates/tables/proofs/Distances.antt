@@ -20,26 +20,9 @@ use Rattle.model.specs.Tables.{table, fullOf, lowLinks, lowTable}
 use Rattle.model.proofs.Acceptance.{linked-is}
 use Rattle.model.proofs.Chains.{split-last, chain-zero, fewest-missing}
 use Rattle.model.proofs.Lists.{has-append, has-later, has-head, of-append, of-single}
-use Rattle.model.proofs.TableLaws.{both-low, low-ends}
+use Rattle.model.proofs.TableLaws.{between-same, all-allowed, both-low, low-ends}
 use Rattle.model.proofs.Tests.{T-true, no-false, passes, same-test}
 use Rattle.tables.proofs.TableRows.{over-length, row-same, put-row, one-value, over-same}
-
--- links between the nodes that pass a test, where the test passes at both ends of each link or says the same there
-pub between-same : (p q : ℕ → Bool) (n : ℕ) (G : Graph) → ((v : ℕ) → v < n → p v ≡ q v) → between p (linked n G) ≡ between q (linked n G)
-between-same p q n G e = fun-ext (λ a. fun-ext (λ b. at a b (passes (linked n G a b))))
-  where
-    at : (a b : ℕ) → T (linked n G a b) ⊎ (T (linked n G a b) → ⊥) → between p (linked n G) a b ≡ between q (linked n G) a b
-    at a b (inl t) = let l = linked-is n G a b t in ap₂ (λ (x y : Bool). (x && y) && linked n G a b) (e a (l .first)) (e b (l .second))
-    at a b (inr f) = rw (no-false (linked n G a b) f) (none-left (p a && p b) ∙ sym (none-left (q a && q b)))
-      where
-        none-left : (x : Bool) → (x && false) ≡ false
-        none-left true = refl
-        none-left false = refl
-
--- all nodes are allowed
-pub all-allowed : (p : ℕ → Bool) (n : ℕ) (G : Graph) → p ≡ (λ v. ltb v n) → between p (linked n G) ≡ linked n G
-all-allowed p n G e =
-    between-same p (λ v. true) n G (λ v h. ap (λ (f : ℕ → Bool). f v) e ∙ lt-ltb v n h)
 
 -- ---- Full, hub by hub
 

@@ -23,6 +23,7 @@ use Rattle.model.proofs.Acceptance.{good-size, survey-facts}
 use Rattle.model.proofs.Covering.{hubs-below}
 use Rattle.model.proofs.Demand.{building-answers}
 use Rattle.model.proofs.Tests.{lt-or, of-or-false, true-T}
+use Rattle.hubs.proofs.Greedy.{hubs-front}
 use Rattle.tables.proofs.Reports.{report-same}
 
 -- not at least y: less than y
@@ -57,15 +58,6 @@ room-is n s f l r h =
     ) (not-leb h n)
 
 -- ---- what was built
-
--- the hubs stand in front of the hub list
-pub hubs-front : (n s : ℕ) (G : Graph) (list list′ : List ℕ) (count : ℕ) → count ≡ length (hubs n s G) → list′ ≡ over (hubList n s G) list → take count list′ ≡ hubs n s G
-unfolding over hubList
-hubs-front n s G list list′ count c e =
-    let hs : List ℕ = hubs n s G in
-    let more : List ℕ = replicate (n - length hs) none in
-    ap₂ (λ (k : ℕ) (l : List ℕ). take k l) c (e ∙ append-assoc hs more (drop (length (hs ++ more)) list))
-    ∙ take-at hs (more ++ drop (length (hs ++ more)) list) (length hs) refl
 
 pub tables-built : (n s : ℕ) (G : Graph) (full low report list full′ low′ report′ list′ : List ℕ) (count : ℕ)
     → count ≡ length (hubs n s G) → list′ ≡ over (hubList n s G) list

@@ -9,7 +9,8 @@ use lib.Seq.{length-take-le}
 use Rattle.model.specs.Basics.{has}
 use Rattle.model.specs.Survey.{neighboursOf}
 use Rattle.model.proofs.Covering.{hubs-below, hubs-length}
-use Rattle.tables.proofs.Judging.{hubs-front, tables-built}
+use Rattle.hubs.proofs.Greedy.{hubs-front}
+use Rattle.tables.proofs.Judging.{tables-built}
 use borrow.Author.Needs.{needs}
 use Rattle.tables.proofs.build_tables.Statement.{statement}
 use Rattle.tables.proofs.build_tables.Tie as tie

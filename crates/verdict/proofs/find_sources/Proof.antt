@@ -1,0 +1,98 @@
+-- `verdict::find_sources` meets its contract: the smallest low node and its neighbours, or the hubs.
+-- Assumes nothing.
+use mathlib.Core.Path.{sym, ap, _∙_}
+use mathlib.Core.List.{List, _∷_}
+use Prim.Native.Nat.{ℕ, _*_}
+use native.Mathlib.Omega.{arith}
+use lib.ListN.{length, length-set, length-replicate}
+use Rattle.model.specs.Survey.{neighboursOf}
+use Rattle.model.proofs.Acceptance.{few-neighbours}
+use Rattle.hubs.proofs.Greedy.{hubs-front}
+use Rattle.nodeset.specs.NodeSet.{member}
+use Rattle.survey.proofs.RowLaws.{rows-of}
+use Rattle.verdict.proofs.Depths.{sources-hubs, sources-low, two-written}
+use borrow.Author.Needs.{needs}
+use Rattle.verdict.proofs.find_sources.Statement.{statement}
+use Rattle.verdict.proofs.find_sources.Tie as tie
+use Rattle.verdict.proofs.find_sources.Reads as reads
+use Rattle.verdict.proofs.find_sources.Lts as lts
+use Rattle.hubs.proofs.choose_hubs.Reads as choose-hubs-reads
+use Rattle.hubs.proofs.low_nodes.Reads as low-nodes-reads
+use Rattle.lists.proofs.copy16.Reads as copy16-reads
+use Rattle.nodeset.proofs.smallest.Reads as smallest-reads
+use Rattle.survey.proofs.own.Reads as own-reads
+
+-- src/lib.rt:53:47
+slice-aggregate-low-nodes : tie.Need-slice-aggregate-low-nodes
+slice-aggregate-low-nodes c = search needs
+
+-- src/lib.rt:53:5
+low-nodes-requires : tie.Need-low-nodes-requires
+low-nodes-requires c κs = search needs
+
+-- src/lib.rt:54:31
+slice-aggregate-smallest : tie.Need-slice-aggregate-smallest
+slice-aggregate-smallest c = sym (((c .before .before .low-nodes .kept .1 .1 .1 .1 .0)) ∙ length-replicate {A = ℕ} 16 0)
+
+-- src/lib.rt:54:9
+smallest-requires : tie.Need-smallest-requires
+smallest-requires c κs = omega (arith, (((c .before .before .low-nodes .kept .1 .1 .1 .1 .0)) ∙ length-replicate {A = ℕ} 16 0))
+
+-- src/lib.rt:56:9
+choose-hubs-requires : tie.Need-choose-hubs-requires
+choose-hubs-requires c κs = search needs
+
+-- src/lib.rt:56:9
+same-length : tie.Need-same-length
+same-length c = search needs
+
+-- src/lib.rt:56:9
+returns : tie.Need-returns
+returns c = ((c .before .before .choose-hubs .ensures .0) ∙ ap length (sym (sources-hubs ((c .before .before .before .before .before .before .before .before .before .before .before .before .before .args .n)) ((c .before .before .before .before .before .before .before .before .before .before .before .before .before .args .s)) (neighboursOf ((c .before .before .before .before .before .before .before .before .before .before .before .before .before .args .starts .now)) ((c .before .before .before .before .before .before .before .before .before .before .before .before .before .args .neighbours .now))) ((c .before .before .before .before .before .before .before .before .before .before .before .before .before .pre .0 .size)) (member ((c .before .before .before .before .before .before .before .before .low-nodes .last .1 .1 .1 .1 .0))) ((c .before .before .before .before .before .before .before .before .low-nodes .ensures)) (64 * length ((c .before .before .before .before .before .before .before .before .low-nodes .last .1 .1 .1 .1 .0))) ((c .before .before .before .before .before .smallest .result)) (omega (arith, (((c .before .before .before .before .before .before .before .before .low-nodes .kept .1 .1 .1 .1 .0)) ∙ length-replicate {A = ℕ} 16 0), (c .before .before .before .before .before .before .before .before .before .before .before .before .before .pre .0 .size))) ((c .before .before .before .before .before .smallest .ensures)) ((c .before .before .before .before .if1 .taken)))), hubs-front ((c .before .before .before .before .before .before .before .before .before .before .before .before .before .args .n)) ((c .before .before .before .before .before .before .before .before .before .before .before .before .before .args .s)) (neighboursOf ((c .before .before .before .before .before .before .before .before .before .before .before .before .before .args .starts .now)) ((c .before .before .before .before .before .before .before .before .before .before .before .before .before .args .neighbours .now))) ((c .before .before .before .before .before .before .before .before .before .before .before .before .before .args .list .now)) _ _ ((c .before .before .choose-hubs .ensures .0)) ((c .before .before .choose-hubs .ensures .1)) ∙ sym (sources-hubs ((c .before .before .before .before .before .before .before .before .before .before .before .before .before .args .n)) ((c .before .before .before .before .before .before .before .before .before .before .before .before .before .args .s)) (neighboursOf ((c .before .before .before .before .before .before .before .before .before .before .before .before .before .args .starts .now)) ((c .before .before .before .before .before .before .before .before .before .before .before .before .before .args .neighbours .now))) ((c .before .before .before .before .before .before .before .before .before .before .before .before .before .pre .0 .size)) (member ((c .before .before .before .before .before .before .before .before .low-nodes .last .1 .1 .1 .1 .0))) ((c .before .before .before .before .before .before .before .before .low-nodes .ensures)) (64 * length ((c .before .before .before .before .before .before .before .before .low-nodes .last .1 .1 .1 .1 .0))) ((c .before .before .before .before .before .smallest .result)) (omega (arith, (((c .before .before .before .before .before .before .before .before .low-nodes .kept .1 .1 .1 .1 .0)) ∙ length-replicate {A = ℕ} 16 0), (c .before .before .before .before .before .before .before .before .before .before .before .before .before .pre .0 .size))) ((c .before .before .before .before .before .smallest .ensures)) ((c .before .before .before .before .if1 .taken))))
+
+-- src/lib.rt:58:15
+cast-list : tie.Need-cast-list
+cast-list c = search needs
+
+-- src/lib.rt:58:5
+slice-write-list : tie.Need-slice-write-list
+slice-write-list c = search needs
+
+-- src/lib.rt:59:9
+own-requires : tie.Need-own-requires
+own-requires c κs = (rows-of ((c .before .before .before .before .before .before .before .before .before .pre .0)), (c .if1 .left))
+
+-- src/lib.rt:60:5
+copy16-requires : tie.Need-copy16-requires
+copy16-requires c κs = omega (arith, ap length ((c .before .own .ensures)), few-neighbours ((c .before .before .before .before .before .before .before .before .before .before .before .args .n)) ((c .before .before .before .before .before .before .before .before .before .before .before .args .starts .now)) ((c .before .before .before .before .before .before .before .before .before .before .before .args .neighbours .now)) ((c .before .before .before .before .before .before .before .before .before .before .before .pre .0)) ((c .before .before .before .smallest .result)) ((c .before .before .if1 .left)), (c .before .before .before .before .before .before .before .before .before .before .before .pre .1), length-set ((c .before .before .before .before .before .before .before .before .before .before .before .args .list .now)) 0 ((c .before .before .before .smallest .result)))
+
+-- src/lib.rt:61:5
+add-result : tie.Need-add-result
+add-result c = search needs
+
+-- src/lib.rt:47:1
+same-length-2 : tie.Need-same-length-2
+same-length-2 c = ((c .before .before .copy16 .kept .1 .0)) ∙ length-set ((c .before .before .before .before .before .before .before .before .before .before .before .before .before .before .args .list .now)) 0 ((c .before .before .before .before .before .before .smallest .result))
+
+-- src/lib.rt:47:1
+returns-2 : tie.Need-returns-2
+returns-2 c = (omega (arith, ap length ((c .before .before .before .before .own .ensures)), ap length (sources-low ((c .before .before .before .before .before .before .before .before .before .before .before .before .before .before .args .n)) ((c .before .before .before .before .before .before .before .before .before .before .before .before .before .before .args .s)) (neighboursOf ((c .before .before .before .before .before .before .before .before .before .before .before .before .before .before .args .starts .now)) ((c .before .before .before .before .before .before .before .before .before .before .before .before .before .before .args .neighbours .now))) ((c .before .before .before .before .before .before .before .before .before .before .before .before .before .before .pre .0 .size)) (member ((c .before .before .before .before .before .before .before .before .before .low-nodes .last .1 .1 .1 .1 .0))) ((c .before .before .before .before .before .before .before .before .before .low-nodes .ensures)) (64 * length ((c .before .before .before .before .before .before .before .before .before .low-nodes .last .1 .1 .1 .1 .0))) ((c .before .before .before .before .before .before .smallest .result)) (omega (arith, (((c .before .before .before .before .before .before .before .before .before .low-nodes .kept .1 .1 .1 .1 .0)) ∙ length-replicate {A = ℕ} 16 0), (c .before .before .before .before .before .before .before .before .before .before .before .before .before .before .pre .0 .size))) ((c .before .before .before .before .before .before .smallest .ensures)) ((c .before .before .before .before .before .if1 .left)))), two-written ((c .before .before .before .before .before .before .before .before .before .before .before .before .before .before .args .list .now)) _ _ ((c .before .before .before .before .before .before .smallest .result)) _ (omega (arith, ap length ((c .before .before .before .before .own .ensures)), few-neighbours ((c .before .before .before .before .before .before .before .before .before .before .before .before .before .before .args .n)) ((c .before .before .before .before .before .before .before .before .before .before .before .before .before .before .args .starts .now)) ((c .before .before .before .before .before .before .before .before .before .before .before .before .before .before .args .neighbours .now)) ((c .before .before .before .before .before .before .before .before .before .before .before .before .before .before .pre .0)) ((c .before .before .before .before .before .before .smallest .result)) ((c .before .before .before .before .before .if1 .left)), (c .before .before .before .before .before .before .before .before .before .before .before .before .before .before .pre .1))) ((c .before .before .copy16 .ensures)) ∙ ap (λ (l : List ℕ). ((c .before .before .before .before .before .before .smallest .result)) ∷ l) ((c .before .before .before .before .own .ensures)) ∙ sym (sources-low ((c .before .before .before .before .before .before .before .before .before .before .before .before .before .before .args .n)) ((c .before .before .before .before .before .before .before .before .before .before .before .before .before .before .args .s)) (neighboursOf ((c .before .before .before .before .before .before .before .before .before .before .before .before .before .before .args .starts .now)) ((c .before .before .before .before .before .before .before .before .before .before .before .before .before .before .args .neighbours .now))) ((c .before .before .before .before .before .before .before .before .before .before .before .before .before .before .pre .0 .size)) (member ((c .before .before .before .before .before .before .before .before .before .low-nodes .last .1 .1 .1 .1 .0))) ((c .before .before .before .before .before .before .before .before .before .low-nodes .ensures)) (64 * length ((c .before .before .before .before .before .before .before .before .before .low-nodes .last .1 .1 .1 .1 .0))) ((c .before .before .before .before .before .before .smallest .result)) (omega (arith, (((c .before .before .before .before .before .before .before .before .before .low-nodes .kept .1 .1 .1 .1 .0)) ∙ length-replicate {A = ℕ} 16 0), (c .before .before .before .before .before .before .before .before .before .before .before .before .before .before .pre .0 .size))) ((c .before .before .before .before .before .before .smallest .ensures)) ((c .before .before .before .before .before .if1 .left))))
+
+pub find-sources-spec : {M : Type 1} → statement M
+find-sources-spec =
+    tie.close
+    (tie.spec
+    slice-aggregate-low-nodes
+    low-nodes-requires
+    slice-aggregate-smallest
+    smallest-requires
+    choose-hubs-requires
+    same-length
+    returns
+    cast-list
+    slice-write-list
+    own-requires
+    copy16-requires
+    add-result
+    same-length-2
+    returns-2)

@@ -1,0 +1,58 @@
+-- `verdict::run_test` meets its contract: the depth of the searches from the sources is judged.
+-- Assumes nothing.
+use mathlib.Core.Path.{sym, subst}
+use mathlib.Core.List.{List}
+use Prim.Native.Nat.{ℕ, _<_}
+use native.Mathlib.Omega.{arith}
+use lib.Dec.{T}
+use Rattle.model.specs.Basics.{has}
+use Rattle.model.specs.Survey.{neighboursOf}
+use Rattle.verdict.proofs.Depths.{sources-below, sources-fit, sources-long, tested-is}
+use borrow.Author.Needs.{needs}
+use Rattle.verdict.proofs.run_test.Statement.{statement}
+use Rattle.verdict.proofs.run_test.Tie as tie
+use Rattle.verdict.proofs.run_test.Reads as reads
+use Rattle.verdict.proofs.run_test.Lts as lts
+use Rattle.verdict.proofs.find_sources.Reads as find-sources-reads
+use Rattle.verdict.proofs.search_depth.Reads as search-depth-reads
+use Rattle.verdict.proofs.verdict_on.Reads as verdict-on-reads
+
+-- src/lib.rt:104:59
+slice-aggregate-find-sources : tie.Need-slice-aggregate-find-sources
+slice-aggregate-find-sources c = search needs
+
+-- src/lib.rt:104:9
+find-sources-requires : tie.Need-find-sources-requires
+find-sources-requires c κs = ((c .before .before .before .pre), omega (arith, (c .before .before .before .pre .size)))
+
+-- src/lib.rt:105:53
+array-share-prefix-list : tie.Need-array-share-prefix-list
+array-share-prefix-list c = sources-fit ((c .before .before .before .before .before .args .n)) ((c .before .before .before .before .before .args .s)) (neighboursOf ((c .before .before .before .before .before .args .starts .now)) ((c .before .before .before .before .before .args .neighbours .now))) ((c .before .find-sources .last .1 .1 .1 .1 .0)) ((c .before .find-sources .result)) ((c .before .find-sources .ensures .0)) ((c .before .find-sources .ensures .1))
+
+-- src/lib.rt:105:53
+slice-aggregate-search-depth : tie.Need-slice-aggregate-search-depth
+slice-aggregate-search-depth c = sources-long ((c .before .before .before .before .before .before .args .n)) ((c .before .before .before .before .before .before .args .s)) (neighboursOf ((c .before .before .before .before .before .before .args .starts .now)) ((c .before .before .before .before .before .before .args .neighbours .now))) ((c .before .before .find-sources .last .1 .1 .1 .1 .0)) ((c .before .before .find-sources .result)) ((c .before .before .find-sources .ensures .0)) ((c .before .before .find-sources .ensures .1))
+
+-- src/lib.rt:105:9
+search-depth-requires : tie.Need-search-depth-requires
+search-depth-requires c κs = ((c .before .before .before .before .before .before .pre), subst (λ (l : List ℕ). (h : ℕ) → T (has h l) → h < ((c .before .before .before .before .before .before .args .n))) (sym ((c .before .before .find-sources .ensures .1))) (sources-below ((c .before .before .before .before .before .before .args .n)) ((c .before .before .before .before .before .before .args .s)) (neighboursOf ((c .before .before .before .before .before .before .args .starts .now)) ((c .before .before .before .before .before .before .args .neighbours .now))) ((c .before .before .before .before .before .before .pre .lists .graph)) ((c .before .before .before .before .before .before .pre .size))))
+
+-- src/lib.rt:107:18
+verdict-on-requires : tie.Need-verdict-on-requires
+verdict-on-requires c κs = search needs
+
+-- src/lib.rt:99:1
+returns : tie.Need-returns
+returns c = tested-is ((c .before .before .before .before .before .before .before .before .args .n)) ((c .before .before .before .before .before .before .before .before .args .s)) (neighboursOf ((c .before .before .before .before .before .before .before .before .args .starts .now)) ((c .before .before .before .before .before .before .before .before .args .neighbours .now))) ((c .before .before .before .before .find-sources .last .1 .1 .1 .1 .0)) ((c .before .before .before .before .find-sources .result)) ((c .before .before .before .before .find-sources .ensures .0)) ((c .before .before .before .before .find-sources .ensures .1)) ((c .before .before .before .before .before .before .before .before .pre .size)) _ _ ((c .verdict-on .ensures)) ((c .before .search-depth .ensures))
+
+pub run-test-spec : {M : Type 1} → statement M
+run-test-spec =
+    tie.close
+    (tie.spec
+    slice-aggregate-find-sources
+    find-sources-requires
+    array-share-prefix-list
+    slice-aggregate-search-depth
+    search-depth-requires
+    verdict-on-requires
+    returns)
