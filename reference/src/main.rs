@@ -4,6 +4,7 @@ mod cases;
 #[path = "../tests/common/mod.rs"]
 mod common;
 mod examples;
+mod reports_compared;
 mod script;
 
 use std::io::{self, Read, Write};
@@ -16,6 +17,7 @@ fn main() -> ExitCode {
         ["reports"] => print_reports(),
         ["script"] => print_bytes(&script::make()),
         ["cases"] => print_cases(),
+        ["compare-reports", program, count, seed] => compare_reports(program, count, seed),
         _ => Err(String::from(
             "usage: reference examples | reports | script | cases",
         )),
@@ -40,6 +42,12 @@ fn print_reports() -> Result<(), String> {
 
 fn print_cases() -> Result<(), String> {
     print_bytes(cases::run(&standard_input()?).as_bytes())
+}
+
+fn compare_reports(program: &str, count: &str, seed: &str) -> Result<(), String> {
+    let count = count.parse().map_err(|_| format!("no count: {count}"))?;
+    let seed = seed.parse().map_err(|_| format!("no seed: {seed}"))?;
+    reports_compared::run(program, count, seed)
 }
 
 fn standard_input() -> Result<Vec<u8>, String> {

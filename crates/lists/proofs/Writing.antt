@@ -117,6 +117,10 @@ module _ (buf : List ℕ) (at : ℕ) (whole : List ℕ) where
       pub left-room : pos + length left ≤ length buf′
       left-room = wrote-room left left-part (l .wrote)
 
+    -- there is room for a piece
+    pub left-fits : (t left : List ℕ) → Left buf buf′ at pos whole (t ++ left) → pos + length t ≤ length buf′
+    left-fits t left l = omega (arith, left-room (t ++ left) l, length-append t left)
+
     -- a piece
     pub left-more : (t left : List ℕ) → Left buf buf′ at pos whole (t ++ left) → (buf″ : List ℕ) (pos′ : ℕ) → Wrote buf′ buf″ pos pos′ t → Left buf buf″ at pos′ whole left
     left-more t left l buf″ pos′ w = record {

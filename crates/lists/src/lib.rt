@@ -38,6 +38,17 @@ pub fn copy16(from: &[u16], list: &mut [u16], at: usize)
     }
 }
 
+pub fn copy8(from: &[u8], list: &mut [u8], at: usize)
+    requires { ⌜ at + length (now from) ≤ length (now list) ⌝ }
+    ensures { λ _. ⌜ Wrote (now (list .entry)) (now (list .exit)) at (at + length (now (from .entry))) (now (from .entry)) ⌝ }
+{
+    let mut i = 0;
+    while i < from.len() {
+        list[at + i] = from[i];
+        i += 1;
+    }
+}
+
 // The first entries become those of another list, the last one first.
 pub fn copy16_reversed(from: &[u16], list: &mut [u16])
     requires { ⌜ length (now from) ≤ length (now list) ⌝ }

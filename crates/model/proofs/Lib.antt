@@ -21,5 +21,6 @@ pub mod Links
 pub mod SurveyLists
 pub mod Totals
 pub mod ReadBack
+pub mod Fronts
 pub mod Listing
 pub mod Starred

@@ -9,7 +9,7 @@ use lib.ListN.{length}
 use Rattle.model.specs.declared.Route.the-variants.{NoRoute}
 use Rattle.model.specs.declared.Answer.{Answer}
 use Rattle.model.specs.Answers.{Outcome, refused, answered}
-use Rattle.model.specs.Basics.{none, upTo, has, keep, gather}
+use Rattle.model.specs.Basics.{none, upTo, keep, gather}
 use Rattle.model.specs.SurveyText.{lineOf, ordered}
 use Rattle.model.specs.Survey.{Graph, linked, IsGraph}
 use Rattle.model.specs.Threshold.{threshold}

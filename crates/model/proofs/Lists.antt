@@ -156,6 +156,14 @@ pub first-below : (p : ℕ → Bool) (d n : ℕ) → First p d 0 n (firstOf p d 
 unfolding upTo
 first-below p d n = first-from p d 0 n
 
+-- it is at most d, where d is not below n
+pub first-most : (p : ℕ → Bool) (d n : ℕ) → n ≤ d → firstOf p d (upTo n) ≤ d
+first-most p d n h = at (first-below p d n)
+  where
+    at : {r : ℕ} → First p d 0 n r → r ≤ d
+    at (found lo hi t least) = omega arith
+    at (nothing e least) = omega arith
+
 -- ---- counting what is kept
 
 -- where p implies q on the list, q keeps no fewer

@@ -1,19 +1,20 @@
 -- Laws for loops over a list: what is left of it still says the whole.
 -- Assumes nothing.
-use mathlib.Core.Path.{_≡_, refl, sym, ap, _∙_, subst}
+use mathlib.Core.Path.{_≡_, refl, sym, ap, ap₂, _∙_, subst}
 use mathlib.Core.Logic.{_⊎_, inl, inr}
 use mathlib.Core.Bool.{Bool, true, false, _&&_, and-assoc, and-true}
-use mathlib.Core.List.{List, [], _∷_}
+use mathlib.Core.List.{List, [], _∷_, _++_}
 use Prim.Native.Nat.{ℕ, suc, _+_, _-_, _≤_, _<_}
 use native.Mathlib.Numerals.{add-one}
 use native.Mathlib.Omega.{arith}
-use lib.Dec.{ltb}
+use borrow.Author.Tests.{le-ltb}
+use lib.Dec.{ltb, lt→ltb, ltb→lt}
 use lib.ListN.{length, getD, drop, length-drop, drop-of-length-le}
 use lib.Seq.{drop-cons}
-use Rattle.model.specs.Basics.{upTo, all, firstOf}
+use Rattle.model.specs.Basics.{from, upTo, all, keep, firstOf, gather}
 use Rattle.model.specs.Survey.{ascending}
 use Rattle.model.proofs.Tests.{T-true, true-T, no-false, false-no, eq-or}
-use Rattle.model.proofs.Lists.{of-all, all-of, has-upTo, of-upTo}
+use Rattle.model.proofs.Lists.{of-all, all-of, has-upTo, of-upTo, of-from, from-split, keep-append, keep-none, keep-all}
 
 -- the element at i, and those after it
 pub drop-next : (l : List ℕ) (i : ℕ) → i < length l → drop i l ≡ getD l i 0 ∷ drop (i + 1) l
@@ -88,3 +89,29 @@ below-next P v f p u h = at (eq-or u v)
     at : (u ≡ v) ⊎ (u ≡ v → ⊥) → P u
     at (inl e) = subst P (sym e) p
     at (inr d) = f u (omega arith)
+
+-- the lists f x for the numbers from v up to n, one after the other: the first, and the others
+pub gather-next : {B : Type 0} (f : ℕ → List B) (n v : ℕ) → v < n → gather f (from v (n - v)) ≡ f v ++ gather f (from (v + 1) (n - (v + 1)))
+unfolding from gather
+gather-next f n v h =
+    let e : n - v ≡ suc (n - (v + 1)) = omega arith in
+    ap (λ (k : ℕ). gather f (from v k)) e
+    ∙ ap (λ (u : ℕ). f v ++ gather f (from u (n - (v + 1)))) (sym (add-one v))
+
+pub gather-end : {B : Type 0} (f : ℕ → List B) (n v : ℕ) → n ≤ v → gather f (from v (n - v)) ≡ []
+unfolding from gather
+gather-end f n v h = let e : n - v ≡ 0 = omega arith in ap (λ (k : ℕ). gather f (from v k)) e
+
+-- of the numbers below n, those above a are the numbers from a + 1 on
+pub above : (a n : ℕ) → a < n → keep (λ b. ltb a b) (upTo n) ≡ from (a + 1) (n - (a + 1))
+unfolding keep
+above a n h =
+    let k = n - (a + 1) in
+    let e : a + suc k ≡ n = omega arith in
+    let p : ℕ → Bool = λ b. ltb a b in
+    ap (keep p) (from-split a k n e)
+    ∙ keep-append p (upTo a) (a ∷ from (suc a) k)
+    ∙ ap₂ (λ (x y : List ℕ). x ++ y)
+    (keep-none p (upTo a) (λ x m t. absurd (omega (arith, of-upTo a x m, ltb→lt a x t))))
+    (rw (le-ltb a a (omega arith)) (keep-all p (from (suc a) k) (λ x m. lt→ltb a x (omega (arith, of-from (suc a) k x m .0)))))
+    ∙ ap (λ (u : ℕ). from u k) (sym (add-one a))

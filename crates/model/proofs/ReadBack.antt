@@ -1,18 +1,18 @@
 -- A text that reading accepts gives an accepted survey whose links are exactly the pairs that its lines name, and a survey written
 -- and read again is the same survey.
 -- Assumes nothing.
-use mathlib.Core.Path.{_≡_, refl, sym, ap, _∙_, subst}
+use mathlib.Core.Path.{_≡_, refl, sym, ap, _∙_, subst, fun-ext}
 use mathlib.Core.Logic.{_⊎_, inl, inr, ⊎-elim}
 use mathlib.Core.Bool.{Bool, _&&_, _||_, or-assoc}
 use mathlib.Core.List.{List, [], _∷_, _++_, map}
-use Prim.Native.Nat.{ℕ, zero, suc, _+_, _*_, _/_, _≤_, _<_, zero-le}
+use Prim.Native.Nat.{ℕ, zero, suc, _+_, _-_, _*_, _/_, _≤_, _<_, zero-le}
 use native.Mathlib.Nat.{zero-add}
 use native.Mathlib.Numerals.{add-one}
 use native.Mathlib.Omega.{arith}
-use borrow.Author.Tests.{le-ltb}
+use borrow.Author.Tests.{lt-ltb, le-ltb}
 use lib.Dec.{T, eqb, ltb, eqb→eq, ltb→lt, lt→ltb}
 use lib.ListN.{length, getD, take, drop, replicate, length-append}
-use lib.Seq.{take-at}
+use lib.Seq.{take-at, getD-drop, getD-append-add}
 use Rattle.model.specs.declared.Size.{Size}
 use Rattle.model.specs.Answers.{Outcome, refused, answered}
 use Rattle.model.specs.Basics.{from, upTo, has, keep, gather, over}
@@ -22,11 +22,11 @@ use Rattle.model.specs.Reading.{named, Parsed, parse, graphOf, startsOf,
 use Rattle.model.specs.Writing.{textOf, Writing, writingOf, writing}
 use Rattle.model.specs.Demand.{IsRead, ReadRight}
 use Rattle.model.proofs.Tests.{picked, and-l, and-r, and-i, or-l, or-r, or-e, eq-T, no-false, same-test, lt-or}
-use Rattle.model.proofs.Lists.{has-head, has-tail, of-cons, has-keep, of-keep, has-upTo, of-upTo, none-in, keep-same}
+use Rattle.model.proofs.Lists.{has-head, has-tail, of-cons, has-keep, of-keep, has-upTo, of-upTo, none-in, keep-same, keep-none}
 use Rattle.model.proofs.Ascending.{ascending-tail, ascending-above, keep-ascending, ascending-keep, keep-of-ascending}
 use Rattle.model.proofs.Acceptance.{accepting-answers, linked-is, is-linked}
-use Rattle.model.proofs.Outcomes.{never}
-use Rattle.model.proofs.Links.{Fresh, AllFresh, parse-complete, parse-sound}
+use Rattle.model.proofs.Outcomes.{never, numberIn}
+use Rattle.model.proofs.Links.{Fresh, AllFresh, TextRead, parse-complete, parse-sound}
 use Rattle.model.proofs.SurveyLists.{total, total-zero, total-suc, starts-length, neighbours-length, start-at, own-at, gather-below, neighbours-same, starts-same, own-total, own-neighbours, own-starts}
 use Rattle.model.proofs.Totals.{named-sym, links-total}
 
@@ -122,28 +122,97 @@ module _ (n : ℕ) (ls : List (ℕ × ℕ)) (some-node : 1 ≤ n) (size : n ≤ 
       G : Graph
       G = neighboursOf starts neighbours
 
+-- a list of zeros reads 0 everywhere, past its end too
+zero-entry : (p i : ℕ) → getD {A = ℕ} (replicate p 0) i 0 ≡ 0
+zero-entry zero i = refl
+zero-entry (suc p) zero = refl
+zero-entry (suc p) (suc i) = zero-entry p i
+
+-- past n the starts read 0
+past-starts : (n : ℕ) (G : Graph) (p v : ℕ) → n ≤ v → getD (over (startsOf n G) (replicate p 0)) (v + 1) 0 ≡ 0
+unfolding over
+past-starts n G p v h =
+    let s : List ℕ = startsOf n G in
+    let i : v + 1 ≡ length s + (v - n) = omega (arith, starts-length n G) in
+    ap (λ (k : ℕ). getD (s ++ drop (length s) (replicate p 0)) k 0) i
+    ∙ getD-append-add s (drop (length s) (replicate p 0)) (v - n) 0
+    ∙ getD-drop (length s) (replicate p 0) (v - n) 0
+    ∙ zero-entry p (length s + (v - n))
+
+-- ---- what a text says, read within limits into lists of p and q entries
+
+module _ (N M p q : ℕ) (nodes : N ≤ 1024) (links : M ≤ 16384) (text : List ℕ) (x : Parsed) (e : parse N M p q text ≡ answered x) where
+  facts : TextRead N M p q text x
+  facts = parse-sound N M p q text x e
+
+  -- the lists are accepted
+  pub read-accepted : Accepted (x .nodes) (readingOf p q (answered x) .starts) (readingOf p q (answered x) .neighbours)
+  unfolding readingOf over starts neighbours
+  read-accepted = lists-accepted (x .nodes) (x .links) (facts .within .some-node) (omega (arith, facts .within .size)) (omega (arith, facts .within .few)) (facts .fresh) _ _
+
+  -- their links are those that the lines name
+  pub read-exactly : (a b : ℕ) → linked (x .nodes) (neighboursOf (readingOf p q (answered x) .starts) (readingOf p q (answered x) .neighbours)) a b ≡ named (x .links) a b
+  unfolding readingOf over starts neighbours
+  read-exactly = links-exactly (x .nodes) (x .links) (facts .within .some-node) (omega (arith, facts .within .size)) (omega (arith, facts .within .few)) (facts .fresh) _ _
+
+  -- their neighbours are those of the links, past n too
+  pub read-graph : neighboursOf (readingOf p q (answered x) .starts) (readingOf p q (answered x) .neighbours) ≡ graphOf (x .nodes) (x .links)
+  unfolding readingOf over neighboursOf graphOf
+  read-graph = fun-ext (λ v. ⊎-elim (inside v) (outside v) (lt-or v (x .nodes)))
+    where
+      s : List ℕ
+      s = over (startsOf (x .nodes) (graphOf (x .nodes) (x .links))) (replicate p 0)
+
+      l : List ℕ
+      l = over (neighboursFrom (x .nodes) (graphOf (x .nodes) (x .links))) (replicate q 0)
+
+      inside : (v : ℕ) → v < x .nodes → neighboursOf s l v ≡ graphOf (x .nodes) (x .links) v
+      inside v h = own-at (x .nodes) (graphOf (x .nodes) (x .links)) _ _ v h
+
+      outside : (v : ℕ) → x .nodes ≤ v → neighboursOf s l v ≡ graphOf (x .nodes) (x .links) v
+      outside v h =
+          let z : getD s (v + 1) 0 - getD s v 0 ≡ 0 = omega (arith, past-starts (x .nodes) (graphOf (x .nodes) (x .links)) p v h) in
+          ap (λ (k : ℕ). take k (drop (getD s v 0) l)) z
+          ∙ sym (keep-none (named (x .links) v) (upTo (x .nodes)) (λ y m t. absurd (omega (arith, named-below (x .nodes) (x .links) [] (facts .fresh) v y t .0))))
+
 -- what reading accepts is an accepted survey, with exactly the links that the lines name
 pub reading-right : (text : List ℕ) (p q : ℕ) → ReadRight text (reading text p q)
-unfolding reading readingOf over starts neighbours
+unfolding reading readingOf
 reading-right text p q x e = at (parse 1024 16384 p q text) refl e
   where
     at : (o : Outcome Parsed) → parse 1024 16384 p q text ≡ o → readingOf p q o .answer ≡ answered x → IsRead text x (readingOf p q o .starts) (readingOf p q o .neighbours)
-    at (refused k) h e = absurd (let z : _≡_ {A = ℕ} 0 1 = cc in omega arith)
+    at (refused k) h e = never e
     at (answered y) h e =
-        let r = parse-sound 1024 16384 p q text y h in
-        let n = y .nodes in
-        let ls = y .links in
-        let G : Graph = graphOf n ls in
-        let more : List ℕ = drop (length (startsOf n G)) (replicate p 0) in
-        let others : List ℕ = drop (length (neighboursFrom n G)) (replicate q 0) in
-        let s : _≡_ {A = Size} (record { nodes = n; links = length ls }) x = cc in
-        subst (λ (z : Size). IsRead text z (startsOf n G ++ more) (neighboursFrom n G ++ others)) s (record {
-          survey = lists-accepted n ls (r .within .some-node) (r .within .size) (r .within .few) (r .fresh) more others;
-          links = ls;
+        let s : _≡_ {A = Size} (record { nodes = y .nodes; links = length (y .links) }) x = cc in
+        subst (λ (z : Size). IsRead text z (readingOf p q (answered y) .starts) (readingOf p q (answered y) .neighbours)) s (record {
+          survey = read-accepted 1024 16384 p q (omega arith) (omega arith) text y h;
+          links = y .links;
           count = refl;
-          lines = r .is-text;
-          exactly = links-exactly n ls (r .within .some-node) (r .within .size) (r .within .few) (r .fresh) more others;
+          lines = parse-sound 1024 16384 p q text y h .is-text;
+          exactly = read-exactly 1024 16384 p q (omega arith) (omega arith) text y h;
         })
+
+-- ---- a text that is written: in front of the buffer, or not at all
+
+module _ (text buffer : List ℕ) where
+  pub write-whole : length text ≤ length buffer → writingOf (answered tt) text buffer ≡ record { answer = answered (length text); buffer = over text buffer }
+  unfolding writingOf
+  write-whole h = rw (le-ltb (length buffer) (length text) h) refl
+
+  pub write-short : length buffer < length text → writingOf (answered tt) text buffer ≡ record { answer = refused 12; buffer = buffer }
+  unfolding writingOf
+  write-short h = rw (lt-ltb (length buffer) (length text) h) refl
+
+  -- the length that is answered is within the buffer
+  pub write-fits : (k : ℕ) (left : List ℕ) → record { answer = answered k; buffer = left } ≡ writingOf (answered tt) text buffer → k ≤ length left
+  unfolding over numberIn
+  write-fits k left e = ⊎-elim
+      (λ h. never (sym (ap (λ (w : Writing). w .answer) (e ∙ write-short h))))
+      (λ h.
+      let w = e ∙ write-whole h in
+      let i : k ≡ length text = ap (λ (x : Writing). numberIn (λ j. j) (x .answer)) w in
+      omega (arith, ap (λ (x : Writing). length (x .buffer)) w ∙ length-append text (drop (length text) buffer)))
+      (lt-or (length buffer) (length text))
 
 -- ---- a graph's links in order: each once, and all of them
 
@@ -349,15 +418,14 @@ module _ (n : ℕ) (starts′ neighbours′ : List ℕ) (acc : Accepted n starts
         neighbours = over ((neighbours-same n (graphOf n ls) G graph-back ∙ own-neighbours n starts′ neighbours′ (acc .lists)) i) (replicate q 0);
       })
 
-  -- writing into a buffer that is long enough: the text stands in front
+  -- a survey's text, in a buffer that is long enough
   pub writing-answers : (buffer : List ℕ) → length (textOf n starts′ neighbours′) ≤ length buffer
       → writing n starts′ neighbours′ buffer ≡ record {
         answer = answered (length (textOf n starts′ neighbours′));
         buffer = over (textOf n starts′ neighbours′) buffer;
       }
-  unfolding writing writingOf
-  writing-answers buffer h =
-      rw (accepting-answers n starts′ neighbours′ acc, le-ltb (length buffer) (length (textOf n starts′ neighbours′)) h) refl
+  unfolding writing
+  writing-answers buffer h = rw (accepting-answers n starts′ neighbours′ acc) (write-whole (textOf n starts′ neighbours′) buffer h)
 
   pub written-text : (buffer : List ℕ) (k : ℕ) → writing n starts′ neighbours′ buffer .answer ≡ answered k
       → take k (writing n starts′ neighbours′ buffer .buffer) ≡ textOf n starts′ neighbours′

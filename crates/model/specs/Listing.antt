@@ -43,17 +43,15 @@ unfoldable pub pairLines : ℕ → (full low report : List ℕ) → List ℕ
 pairLines n full low report = gather (λ p. pairLine p (pair n full low report (p .0) (p .1))) (pairsBelow n)
 
 -- "prints `R`, node count, hub count; then for each a < b .."
-unfoldable pub listingOf : Parsed → List ℕ
-listingOf x =
-    let n = x .nodes in
-    let G : Graph = graphOf n (x .links) in
+unfoldable pub listingOf : ℕ → Graph → List ℕ
+listingOf n G =
     let s = threshold n in
     lineOf 82 n (length (hubs n s G)) ++ pairLines n (fullTable n s G) (lowTable n s G) (reportTable n s G)
 
 -- "otherwise prints one line only, `X,` and the refusal's number"
 unfoldable pub listed : Outcome Parsed → List ℕ
 listed (refused k) = 88 ∷ 44 ∷ (digits k ++ 10 ∷ [])
-listed (answered x) = listingOf x
+listed (answered x) = listingOf (x .nodes) (graphOf (x .nodes) (x .links))
 
 -- "It takes up to 128 nodes and 2,048 links", for which it has lists that are long enough
 unfoldable pub listing : List ℕ → List ℕ

@@ -190,15 +190,22 @@ pub fn write_number(buf: &mut [u8], at: usize, x: u32) -> usize
     write_byte(buf, i, 48 + (x % 10) as u8)
 }
 
+// Writes a comma and a number at a place, and returns the place after them.
+pub fn write_field(buf: &mut [u8], at: usize, x: u32) -> usize
+    requires { ⌜ at + length (44 ∷ digits x) ≤ length (now buf) ⌝ }
+    ensures { λ r. ⌜ Wrote (now (buf .entry)) (now (buf .exit)) at r (44 ∷ digits x) ⌝ }
+{
+    let i = write_byte(buf, at, 44);
+    write_number(buf, i, x)
+}
+
 // Writes the line of two numbers at a place, and returns the place after it.
 pub fn write_line(buf: &mut [u8], at: usize, letter: u8, a: u32, b: u32) -> usize
     requires { ⌜ at + length (lineOf letter a b) ≤ length (now buf) ⌝ }
     ensures { λ r. ⌜ Wrote (now (buf .entry)) (now (buf .exit)) at r (lineOf letter a b) ⌝ }
 {
     let i = write_byte(buf, at, letter);
-    let i = write_byte(buf, i, 44);
-    let i = write_number(buf, i, a);
-    let i = write_byte(buf, i, 44);
-    let i = write_number(buf, i, b);
+    let i = write_field(buf, i, a);
+    let i = write_field(buf, i, b);
     write_byte(buf, i, 10)
 }

@@ -28,7 +28,7 @@ use Rattle.model.proofs.Demand.{testing-right}
 use Rattle.model.proofs.Covering.{hubs-below}
 use Rattle.model.proofs.Entries.{length-row}
 use Rattle.model.proofs.TableLaws.{all-allowed}
-use Rattle.model.proofs.Lists.{First, found, nothing, first-below, first-is, of-cons}
+use Rattle.model.proofs.Lists.{First, found, nothing, first-below, first-most, first-is, of-cons}
 use Rattle.model.proofs.Loops.{drop-next}
 use Rattle.model.proofs.Tests.{and-r, and-i, eq-or, lt-or}
 use Rattle.verdict.specs.Depth.{greatest, distances, ofDepth}
@@ -113,11 +113,7 @@ module _ (n : ℕ) (f : ℕ → ℕ → ℕ) where
 -- a distance is not above none
 fewest-small : (E : Edges) (n a b : ℕ) → n ≤ none → fewest E n a b ≤ none
 unfolding fewest
-fewest-small E n a b h = at (first-below _ none n)
-  where
-    at : {p : ℕ → Bool} {r : ℕ} → First p none 0 n r → r ≤ none
-    at (found lo hi t least) = omega arith
-    at (nothing e least) = omega arith
+fewest-small E n a b h = first-most _ none n h
 
 pub verdict-is : (n : ℕ) (G : Graph) → n ≤ 1024 → (hs : List ℕ) → ofDepth (greatest (distances n (fewest (linked n G) n) hs)) ≡ verdictOf n G hs
 unfolding verdictOf

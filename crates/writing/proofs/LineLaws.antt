@@ -4,7 +4,6 @@ use mathlib.Core.Path.{_≡_, refl, sym, ap, ap₂, _∙_, subst}
 use mathlib.Core.List.{List, [], _∷_, _++_, map, append-nil}
 use Prim.Native.Nat.{ℕ, suc, _+_, _-_, _*_, _/_, _≤_, _<_}
 use native.Mathlib.Omega.{arith}
-use native.Mathlib.Numerals.{add-one}
 use borrow.Author.Tests.{lt-ltb, le-ltb}
 use lib.Dec.{ltb}
 use lib.ListN.{length, getD, drop, length-append, drop-of-length-le}
@@ -20,8 +19,8 @@ use Rattle.model.specs.Survey.{Graph, neighboursOf, accepting, Accepted}
 use Rattle.model.specs.Writing.{textOf, returned, writingOf, writing}
 use Rattle.model.proofs.Acceptance.{accepting-facts}
 use Rattle.model.proofs.Lists.{keep-append, map-append, gather-append, gather-gather}
-use Rattle.model.proofs.Loops.{drop-next}
-use Rattle.model.proofs.ReadBack.{writing-answers}
+use Rattle.model.proofs.Loops.{drop-next, gather-next, gather-end}
+use Rattle.model.proofs.ReadBack.{writing-answers, write-short}
 use Rattle.model.proofs.SurveyLists.{total, total-suc, own-total}
 use Rattle.survey.proofs.RowLaws.{rows-of, start-last}
 use Rattle.writing.specs.Lines.{linesOf}
@@ -61,15 +60,12 @@ module _ (n : ℕ) (G : Graph) where
   rowsFrom v = gather (λ a. linesOf a (G a)) (from v (n - v))
 
   pub rows-next : (v : ℕ) → v < n → rowsFrom v ≡ linesOf v (G v) ++ rowsFrom (v + 1)
-  unfolding rowsFrom from gather
-  rows-next v h =
-      let e : n - v ≡ suc (n - (v + 1)) = omega arith in
-      ap (λ (k : ℕ). gather (λ a. linesOf a (G a)) (from v k)) e
-      ∙ ap (λ (u : ℕ). linesOf v (G v) ++ gather (λ a. linesOf a (G a)) (from u (n - (v + 1)))) (sym (add-one v))
+  unfolding rowsFrom
+  rows-next v h = gather-next (λ a. linesOf a (G a)) n v h
 
   pub rows-end : (v : ℕ) → n ≤ v → rowsFrom v ≡ []
-  unfolding rowsFrom from gather
-  rows-end v h = let e : n - v ≡ 0 = omega arith in ap (λ (k : ℕ). gather (λ a. linesOf a (G a)) (from v k)) e
+  unfolding rowsFrom
+  rows-end v h = gather-end (λ a. linesOf a (G a)) n v h
 
 pub text-is : (n : ℕ) (starts neighbours : List ℕ) → textOf n starts neighbours ≡ lineOf 83 n (getD starts n 0 / 2) ++ rowsFrom n (neighboursOf starts neighbours) 0
 unfolding textOf surveyText linkLines ordered upTo rowsFrom linesOf
@@ -195,9 +191,9 @@ module _ (n : ℕ) (starts neighbours buffer : List ℕ) where
 
   module _ (e : answered tt ≡ accepting n starts neighbours) where
     pub writing-short : length buffer < length (textOf n starts neighbours) → returned (counting.Refused ShortBuffer) buffer ≡ writing n starts neighbours buffer
-    unfolding writing writingOf
+    unfolding writing
     writing-short h =
-        sym (rw (lt-ltb (length buffer) (length (textOf n starts neighbours)) h) refl)
+        sym (write-short (textOf n starts neighbours) buffer h)
         ∙ ap (λ (o : Outcome (Unit {0})). writingOf o (textOf n starts neighbours) buffer) e
 
     pub writing-whole : length (textOf n starts neighbours) ≤ length buffer

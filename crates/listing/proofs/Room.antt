@@ -1,0 +1,120 @@
+-- No listing is longer than `most`.
+-- Assumes nothing.
+use mathlib.Core.Path.{ap}
+use mathlib.Core.Logic.{_⊎_, ⊎-elim}
+use mathlib.Core.List.{List, [], _∷_, _++_}
+use Prim.Native.Nat.{ℕ, _+_, _*_, _≤_, _<_}
+use native.Mathlib.Nat.{suc-mul}
+use native.Mathlib.Omega.{arith}
+use lib.Dec.{T, eqb, ltb}
+use lib.ListN.{length, length-append}
+use Rattle.model.specs.declared.Route.{Route}
+use Rattle.model.specs.declared.Route.the-variants.{Itself, Low, Through, NoRoute}
+use Rattle.model.specs.declared.Answer.{Answer}
+use Rattle.model.specs.Answers.{Outcome, refused, answered}
+use Rattle.model.specs.Basics.{none, upTo, has, keep, gather}
+use Rattle.model.specs.Numbers.{digits}
+use Rattle.model.specs.SurveyText.{lineOf}
+use Rattle.model.specs.Survey.{Graph, linked, IsGraph}
+use Rattle.model.specs.Threshold.{threshold}
+use Rattle.model.specs.Hubs.{hubs}
+use Rattle.model.specs.Tables.{entry, fullTable, lowTable, reportTable}
+use Rattle.model.specs.Pair.{answer, attaining, choose, pairBy, pair}
+use Rattle.model.specs.Listing.{reportText, routeText, pairLine, pairLines, listingOf}
+use Rattle.model.proofs.Acceptance.{linked-ends}
+use Rattle.model.proofs.Allowance.{allowed}
+use Rattle.model.proofs.Chains.{fewest-cases}
+use Rattle.model.proofs.Covering.{hubs-length}
+use Rattle.model.proofs.Lines.{length-line}
+use Rattle.model.proofs.Lists.{has-head, has-tail, of-keep, of-upTo, keep-length, length-from, first-most}
+use Rattle.model.proofs.Listing.{by-pairs}
+use Rattle.model.proofs.Numbers.{length-le}
+use Rattle.model.proofs.Tests.{picked, eq-or}
+use Rattle.listing.specs.Rows.{most, answerText}
+use Rattle.listing.proofs.Texts.{report-none, report-some}
+
+-- ---- one line
+
+report-few : (r : ℕ) → r ≤ none → length (reportText r) ≤ 5
+report-few r h = ⊎-elim
+    (λ e. omega (arith, ap length (report-none r e)))
+    (λ d. omega (arith, ap length (report-some r d), length-le 4 r (omega arith)))
+    (eq-or r none)
+
+module _ (a b : ℕ) (ha : a < 1000) (hb : b < 1000) where
+  line-few : (r : ℕ) (t : Route) → r ≤ none → length (routeText t) ≤ 5 → length (pairLine (a, b) (answered (answer r t))) ≤ 24
+  unfolding pairLine
+  line-few r t hr ht =
+      let e5 = length-append (routeText t) (10 ∷ []) in
+      let e4 = length-append (reportText r) (44 ∷ (routeText t ++ 10 ∷ [])) in
+      let e3 = length-append (digits b) (44 ∷ (reportText r ++ 44 ∷ (routeText t ++ 10 ∷ []))) in
+      let e2 = length-append (digits a) (44 ∷ (digits b ++ 44 ∷ (reportText r ++ 44 ∷ (routeText t ++ 10 ∷ [])))) in
+      omega (arith, e2, e3, e4, e5, report-few r hr, length-le 2 a (omega arith), length-le 2 b (omega arith))
+
+  choice-few : (r l h : ℕ) → r ≤ none → h ≤ none → length (pairLine (a, b) (choose a b r l h)) ≤ 24
+  unfolding choose pairLine routeText
+  choice-few r l h hr hh =
+      let P : Outcome Answer → Type 0 = λ o. length (pairLine (a, b) o) ≤ 24 in
+      let no : (k : ℕ) → P (refused k) = λ k. omega arith in
+      picked P (eqb a b) _ _
+      (λ _. picked P (eqb r 0) _ _ (λ _. line-few 0 Itself (omega arith) (omega arith)) (λ _. no 11))
+      (λ _. picked P (eqb r none) _ _ (λ _. line-few none NoRoute (omega arith) (omega arith))
+      (λ _. picked P (eqb l r) _ _ (λ _. line-few r Low hr (omega arith))
+      (λ _. picked P (eqb h none) _ _ (λ _. no 11) (λ _. line-few r (Through h) hr (length-le 4 h (omega arith))))))
+
+  answer-few : (n : ℕ) (full low report : List ℕ) → n ≤ 128 → entry n report a b ≤ none → length (answerText n full low report a b) ≤ 24
+  unfolding pair pairBy attaining
+  answer-few n full low report size h = choice-few _ _ _ h (first-most _ none n (omega arith))
+
+-- ---- many lines
+
+gather-few : {B : Type 0} (f : ℕ → List B) (k : ℕ) (l : List ℕ) → ((x : ℕ) → T (has x l) → length (f x) ≤ k) → length (gather f l) ≤ length l * k
+unfolding gather
+gather-few f k [] h = omega arith
+gather-few f k (x ∷ l) h =
+    omega (
+      arith,
+      length-append (f x) (gather f l),
+      suc-mul (length l) k,
+      h x (has-head x l),
+      gather-few f k l (λ y m. h y (has-tail y x l m)),
+    )
+
+report-most : (n s : ℕ) (G : Graph) → IsGraph n G → n ≤ 1024 → (a b : ℕ) → a < n → b < n → entry n (reportTable n s G) a b ≤ none
+report-most n s G g size a b ha hb =
+    let r = allowed n s G g size a b ha hb in
+    ⊎-elim
+    (λ c. omega (arith, c .0, r .near _ (c .1) .1))
+    (λ c. omega (arith, r .no-route .1 (c .1)))
+    (fewest-cases (linked n G) n a (linked-ends n G) ha b)
+
+pub listing-few : (n : ℕ) (G : Graph) → IsGraph n G → n ≤ 128 → length (listingOf n G) ≤ most
+unfolding listingOf pairLines upTo
+listing-few n G g size =
+    let s = threshold n in
+    let full : List ℕ = fullTable n s G in
+    let low : List ℕ = lowTable n s G in
+    let report : List ℕ = reportTable n s G in
+    let f : ℕ → ℕ → List ℕ = λ a b. answerText n full low report a b in
+    let above : ℕ → List ℕ = λ a. keep (λ b. ltb a b) (upTo n) in
+    let first : List ℕ = lineOf 82 n (length (hubs n s G)) in
+    let pairs : List ℕ = pairLines n full low report in
+    let line : (a b : ℕ) → a < n → b < n → length (f a b) ≤ 24 = λ a b ha hb.
+    answer-few a b (omega arith) (omega arith) n full low report size (report-most n s G g (omega arith) a b ha hb) in
+    let row : (a : ℕ) → T (has a (upTo n)) → length (gather (f a) (above a)) ≤ 24 * 128 = λ a ma.
+    omega (
+      arith,
+      gather-few (f a) 24 (above a) (λ b mb. line a b (of-upTo n a ma) (of-upTo n b (of-keep (λ b. ltb a b) (upTo n) b mb .0))),
+      keep-length (λ b. ltb a b) (upTo n),
+      length-from 0 n,
+    ) in
+    omega (
+      arith,
+      length-append first pairs,
+      length-line 82 n (length (hubs n s G)),
+      length-le 2 n (omega arith),
+      length-le 2 (length (hubs n s G)) (omega (arith, hubs-length n G s)),
+      ap length (by-pairs (λ p. f (p .0) (p .1)) n),
+      gather-few (λ a. gather (f a) (above a)) (24 * 128) (upTo n) row,
+      length-from 0 n,
+    )

@@ -1,0 +1,119 @@
+-- A text's front decides: no line has more than 24 bytes, so what follows the bytes of one line more than the links allowed is not
+-- looked at, except for whether there is any.
+-- Assumes nothing.
+use mathlib.Core.Path.{_≡_, refl, sym, ap, ap₂, _∙_}
+use mathlib.Core.Bool.{Bool, true, false, _||_}
+use mathlib.Core.List.{List, [], _∷_, _++_, append-assoc}
+use mathlib.Core.Option.{Option, none as missing, some}
+use Prim.Native.Nat.{ℕ, zero, suc, _+_, _-_, _*_, _≤_, _<_, _^_}
+use native.Mathlib.Omega.{arith}
+use borrow.Author.Tests.{ltb-false}
+use lib.Dec.{eqb, ltb, leb}
+use lib.ListN.{length, take, drop, take-append-drop}
+use lib.Seq.{take-append-add}
+use Rattle.model.specs.Answers.{Outcome, refused, answered}
+use Rattle.model.specs.Basics.{if_then_else_}
+use Rattle.model.specs.SurveyText.{line, lineOf}
+use Rattle.model.specs.Reading.{named, onLinks, linkOf, readOn, readLinks, parsed, countsOf, parseLinks, parse}
+use Rattle.model.specs.Listing.{listed, listing}
+use Rattle.model.proofs.Numbers.{length-le}
+use Rattle.model.proofs.Lines.{length-line, line-complete, line-sound}
+
+-- ---- one line: none in both, or the same numbers in both
+
+pub data FrontLine (letter : ℕ) (text : List ℕ) (k : ℕ) : Type 0 where
+  no-line : line letter text ≡ missing → line letter (take k text) ≡ missing → FrontLine letter text k
+  same-line : (x y : ℕ) (rest : List ℕ) (j : ℕ) → k ≤ j + 24 → line letter text ≡ some (x, y, rest) → line letter (take k text) ≡ some (x, y, take j rest) → FrontLine letter text k
+
+line-few : (letter x y : ℕ) → x < 10 ^ 10 → y < 10 ^ 10 → length (lineOf letter x y) ≤ 24
+line-few letter x y hx hy = omega (arith, length-line letter x y, length-le 9 x hx, length-le 9 y hy)
+
+line-front : (letter : ℕ) → 44 < letter → (text : List ℕ) (k : ℕ) → 24 ≤ k → FrontLine letter text k
+line-front letter after text k h = at (line letter text) refl (line letter (take k text)) refl
+  where
+    at : (o : Option (ℕ × ℕ × List ℕ)) → line letter text ≡ o → (f : Option (ℕ × ℕ × List ℕ)) → line letter (take k text) ≡ f → FrontLine letter text k
+    at missing e missing g = no-line e g
+    at missing e (some l) g =
+        let s = line-sound letter (take k text) (l .0) (l .1) (l .2) g in
+        let whole : text ≡ lineOf letter (l .0) (l .1) ++ (l .2 ++ drop k text) =
+        sym (take-append-drop k text) ∙ ap (λ (t : List ℕ). t ++ drop k text) (s .is-text) ∙ append-assoc (lineOf letter (l .0) (l .1)) (l .2) (drop k text) in
+        let f = ap (line letter) whole ∙ line-complete letter after (l .0) (l .1) (s .small-x) (s .small-y) (l .2 ++ drop k text) in
+        absurd (let z : _≡_ {A = ℕ} 0 1 = cc in omega arith)
+    at (some l) e f g =
+        let s = line-sound letter text (l .0) (l .1) (l .2) e in
+        let first : List ℕ = lineOf letter (l .0) (l .1) in
+        let few = line-few letter (l .0) (l .1) (s .small-x) (s .small-y) in
+        let j = k - length first in
+        let i : k ≡ length first + j = omega arith in
+        let front : take k text ≡ first ++ take j (l .2) = ap₂ take i (s .is-text) ∙ take-append-add first (l .2) j in
+        same-line (l .0) (l .1) (l .2) j (omega arith) e
+        (ap (line letter) front ∙ line-complete letter after (l .0) (l .1) (s .small-x) (s .small-y) (take j (l .2)))
+
+-- ---- the link lines
+
+-- the tests of a line look at its numbers only
+link-same : (n : ℕ) (given : ℕ → ℕ → Bool) (x y : ℕ) (r r′ : List ℕ) (next : ℕ → ℕ → List ℕ → Outcome (List (ℕ × ℕ))) → next x y r ≡ next x y r′
+    → readOn next (linkOf n given (some (x, y, r))) ≡ readOn next (linkOf n given (some (x, y, r′)))
+unfolding linkOf readOn
+link-same n given x y r r′ next e = at (leb n x || leb n y) (eqb x y) (given x y)
+  where
+    at : (a b c : Bool)
+        → readOn next (if a then refused 4 else if b then refused 5 else if c then refused 6 else answered (x, y, r))
+        ≡ readOn next (if a then refused 4 else if b then refused 5 else if c then refused 6 else answered (x, y, r′))
+    at true b c = refl
+    at false true c = refl
+    at false false true = refl
+    at false false false = ap (onLinks (x, y)) e
+
+links-front : (n m : ℕ) (done : List (ℕ × ℕ)) (text : List ℕ) (k : ℕ) → 24 * m < k → readLinks n m done (take k text) ≡ readLinks n m done text
+unfolding readLinks
+links-front n zero done text zero h = absurd (omega arith)
+links-front n zero done [] (suc k) h = refl
+links-front n zero done (c ∷ text) (suc k) h = refl
+links-front n (suc m) done text zero h = absurd (omega arith)
+links-front n (suc m) done [] (suc k) h = refl
+links-front n (suc m) done (c ∷ text) (suc k) h =
+    at (line-front 76 (omega arith) (c ∷ text) (suc k) (omega arith)) (λ a b rest j. links-front n m ((a, b) ∷ done) rest j)
+  where
+    next : ℕ → ℕ → List ℕ → Outcome (List (ℕ × ℕ))
+    next a b rest = readLinks n m ((a, b) ∷ done) rest
+
+    at : FrontLine 76 (c ∷ text) (suc k) → ((a b : ℕ) (rest : List ℕ) (j : ℕ) → 24 * m < j → readLinks n m ((a, b) ∷ done) (take j rest) ≡ readLinks n m ((a, b) ∷ done) rest)
+        → readOn next (linkOf n (named done) (line 76 (take (suc k) (c ∷ text)))) ≡ readOn next (linkOf n (named done) (line 76 (c ∷ text)))
+    at (no-line e f) rec = ap (λ (o : Option (ℕ × ℕ × List ℕ)). readOn next (linkOf n (named done) o)) (f ∙ sym e)
+    at (same-line x y rest j i e f) rec =
+        ap (λ (o : Option (ℕ × ℕ × List ℕ)). readOn next (linkOf n (named done) o)) f
+        ∙ link-same n (named done) x y (take j rest) rest next (rec x y rest j (omega arith))
+        ∙ sym (ap (λ (o : Option (ℕ × ℕ × List ℕ)). readOn next (linkOf n (named done) o)) e)
+
+-- ---- the whole text
+
+counts-same : (N M p q x y : ℕ) (r r′ : List ℕ) → (y ≤ M → readLinks x y [] r ≡ readLinks x y [] r′)
+    → parseLinks (countsOf N M p q (some (x, y, r))) ≡ parseLinks (countsOf N M p q (some (x, y, r′)))
+unfolding countsOf parseLinks
+counts-same N M p q x y r r′ e = at (ltb x 1 || ltb N x) (ltb M y) refl (ltb p (x + 1) || ltb q (2 * y))
+  where
+    at : (a b : Bool) → ltb M y ≡ b → (c : Bool)
+        → parseLinks (if a then refused 2 else if b then refused 3 else if c then refused 8 else answered (x, y, r))
+        ≡ parseLinks (if a then refused 2 else if b then refused 3 else if c then refused 8 else answered (x, y, r′))
+    at true b m c = refl
+    at false true m c = refl
+    at false false m true = refl
+    at false false m false = ap (parsed x) (e (ltb-false M y m))
+
+-- what a text says within limits, its front says
+pub parse-front : (N M p q : ℕ) (text : List ℕ) (k : ℕ) → 24 * (M + 1) < k → parse N M p q (take k text) ≡ parse N M p q text
+unfolding parse
+parse-front N M p q text k h = at (line-front 83 (omega arith) text k (omega arith))
+  where
+    at : FrontLine 83 text k → parseLinks (countsOf N M p q (line 83 (take k text))) ≡ parseLinks (countsOf N M p q (line 83 text))
+    at (no-line e f) = ap (λ (o : Option (ℕ × ℕ × List ℕ)). parseLinks (countsOf N M p q o)) (f ∙ sym e)
+    at (same-line x y rest j i e f) =
+        ap (λ (o : Option (ℕ × ℕ × List ℕ)). parseLinks (countsOf N M p q o)) f
+        ∙ counts-same N M p q x y (take j rest) rest (λ m. links-front x y [] rest j (omega arith))
+        ∙ sym (ap (λ (o : Option (ℕ × ℕ × List ℕ)). parseLinks (countsOf N M p q o)) e)
+
+-- the listing of a text is that of its first 49,177 bytes
+pub listing-front : (text : List ℕ) (k : ℕ) → 24 * (2048 + 1) < k → listing (take k text) ≡ listing text
+unfolding listing
+listing-front text k h = ap listed (parse-front 128 2048 (128 + 1) (2 * 2048) text k h)

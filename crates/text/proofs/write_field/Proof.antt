@@ -1,0 +1,31 @@
+-- `text::write_field` meets its contract: a comma, and the number behind it.
+-- Assumes nothing.
+use native.Mathlib.Omega.{arith}
+use Rattle.lists.proofs.Writing.{wrote-then}
+use borrow.Author.Needs.{needs}
+use Rattle.text.proofs.write_field.Statement.{statement}
+use Rattle.text.proofs.write_field.Tie as tie
+use Rattle.text.proofs.write_field.Reads as reads
+use Rattle.text.proofs.write_field.Lts as lts
+use Rattle.text.proofs.write_byte.Reads as write-byte-reads
+use Rattle.text.proofs.write_number.Reads as write-number-reads
+
+-- src/lib.rt:198:9
+write-byte-requires : tie.Need-write-byte-requires
+write-byte-requires c κs = search needs
+
+-- src/lib.rt:199:5
+write-number-requires : tie.Need-write-number-requires
+write-number-requires c κs = search needs
+
+-- src/lib.rt:194:1
+same-length : tie.Need-same-length
+same-length c = search needs
+
+-- src/lib.rt:194:1
+returns : tie.Need-returns
+returns c = wrote-then (omega (arith, (c .before .before .before .before .before .before .before .before .before .pre))) (c .before .before .before .before .before .before .write-byte .ensures) (c .before .before .write-number .ensures)
+
+pub write-field-spec : {M : Type 1} → statement M
+write-field-spec =
+    tie.close (tie.spec write-byte-requires write-number-requires same-length returns)
