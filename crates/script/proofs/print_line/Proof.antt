@@ -1,12 +1,12 @@
--- `cases::print_line` ends.
+-- `script::print_line` ends.
 -- Assumes nothing.
 use borrow.Author.Needs.{needs}
 use Prim.Native.Nat.{_-_, _≤_}
 use lib.ListN.{length}
-use Rattle.cases.proofs.print_line.Statement.{statement}
-use Rattle.cases.proofs.print_line.Tie as tie
-use Rattle.cases.proofs.print_line.Reads as reads
-use Rattle.cases.proofs.print_line.Lts as lts
+use Rattle.script.proofs.print_line.Statement.{statement}
+use Rattle.script.proofs.print_line.Tie as tie
+use Rattle.script.proofs.print_line.Reads as reads
+use Rattle.script.proofs.print_line.Lts as lts
 use Rattle.io.proofs.print_decimal.Reads as print-decimal-reads
 use Rattle.io.proofs.write_all.Reads as write-all-reads
 

@@ -1,18 +1,18 @@
--- `cases::run_read` ends.
+-- `script::run_read` ends.
 -- Assumes nothing.
 use mathlib.Core.Path.{sym}
 use native.Mathlib.Omega.{arith}
 use lib.Seq.{length-take-le}
 use borrow.Author.Needs.{needs}
-use Rattle.cases.proofs.run_read.Statement.{statement}
-use Rattle.cases.proofs.run_read.Tie as tie
-use Rattle.cases.proofs.run_read.Reads as reads
-use Rattle.cases.proofs.run_read.Lts as lts
-use Rattle.cases.proofs.at_most.Reads as at-most-reads
-use Rattle.cases.proofs.print_line.Reads as print-line-reads
-use Rattle.cases.proofs.read_command.Reads as read-command-reads
-use Rattle.cases.proofs.sum16.Reads as sum16-reads
-use Rattle.cases.proofs.sum32.Reads as sum32-reads
+use Rattle.script.proofs.run_read.Statement.{statement}
+use Rattle.script.proofs.run_read.Tie as tie
+use Rattle.script.proofs.run_read.Reads as reads
+use Rattle.script.proofs.run_read.Lts as lts
+use Rattle.script.proofs.at_most.Reads as at-most-reads
+use Rattle.script.proofs.print_line.Reads as print-line-reads
+use Rattle.script.proofs.read_command.Reads as read-command-reads
+use Rattle.script.proofs.sum16.Reads as sum16-reads
+use Rattle.script.proofs.sum32.Reads as sum32-reads
 use Rattle.reading.proofs.read_survey.Reads as read-survey-reads
 use Rattle.refusals.proofs.refusal_number.Reads as refusal-number-reads
 
