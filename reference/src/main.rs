@@ -1,13 +1,19 @@
-//! Command line: `reference examples`, `reference reports`, `reference script` and `reference cases`.
+//! Command line: `reference COMMAND`; NOTES.md lists the commands.
 
 mod cases;
+mod cases_tables;
+mod commands;
 #[path = "../tests/common/mod.rs"]
 mod common;
 mod examples;
 mod script;
+mod script_tables;
 
 use std::io::{self, Read, Write};
 use std::process::ExitCode;
+
+const USAGE: &str =
+    "usage: reference examples | reports | script | cases | script-tables | cases-tables";
 
 fn main() -> ExitCode {
     let arguments: Vec<String> = std::env::args().skip(1).collect();
@@ -15,10 +21,10 @@ fn main() -> ExitCode {
         ["examples"] => print_examples(),
         ["reports"] => print_reports(),
         ["script"] => print_bytes(&script::make()),
-        ["cases"] => print_cases(),
-        _ => Err(String::from(
-            "usage: reference examples | reports | script | cases",
-        )),
+        ["cases"] => print_cases(cases::run),
+        ["script-tables"] => print_bytes(&script_tables::make()),
+        ["cases-tables"] => print_cases(cases_tables::run),
+        _ => Err(String::from(USAGE)),
     };
     match outcome {
         Ok(()) => ExitCode::SUCCESS,
@@ -38,8 +44,8 @@ fn print_reports() -> Result<(), String> {
     print_bytes(&reference::reports(&standard_input()?))
 }
 
-fn print_cases() -> Result<(), String> {
-    print_bytes(cases::run(&standard_input()?).as_bytes())
+fn print_cases(run: fn(&[u8]) -> String) -> Result<(), String> {
+    print_bytes(run(&standard_input()?).as_bytes())
 }
 
 fn standard_input() -> Result<Vec<u8>, String> {

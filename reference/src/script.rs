@@ -238,7 +238,7 @@ fn damaged_lists(script: &mut Vec<u8>, sample: &Sample, random: &mut Random) {
     }
 }
 
-fn read_into(script: &mut Vec<u8>, text: &[u8], p: usize, q: usize) {
+pub fn read_into(script: &mut Vec<u8>, text: &[u8], p: usize, q: usize) {
     line(script, b'R', p, q);
     line(script, b'K', text.len(), 0);
     script.extend(text);
@@ -256,7 +256,7 @@ fn set(script: &mut Vec<u8>, letter: u8, i: usize, x: usize) {
     line(script, letter, i, x);
 }
 
-fn line(script: &mut Vec<u8>, letter: u8, x: usize, y: usize) {
+pub fn line(script: &mut Vec<u8>, letter: u8, x: usize, y: usize) {
     script.push(letter);
     script.extend(format!(",{x},{y}\n").bytes());
 }
