@@ -6,14 +6,14 @@ mod commands;
 #[path = "../tests/common/mod.rs"]
 mod common;
 mod examples;
+mod large;
 mod script;
 mod script_tables;
 
 use std::io::{self, Read, Write};
 use std::process::ExitCode;
 
-const USAGE: &str =
-    "usage: reference examples | reports | script | cases | script-tables | cases-tables";
+const USAGE: &str = "usage: reference examples | reports | script | cases | script-tables | cases-tables | survey-large | large";
 
 fn main() -> ExitCode {
     let arguments: Vec<String> = std::env::args().skip(1).collect();
@@ -24,6 +24,8 @@ fn main() -> ExitCode {
         ["cases"] => print_cases(cases::run),
         ["script-tables"] => print_bytes(&script_tables::make()),
         ["cases-tables"] => print_cases(cases_tables::run),
+        ["survey-large"] => print_bytes(large::make().as_bytes()),
+        ["large"] => print_cases(large::run),
         _ => Err(String::from(USAGE)),
     };
     match outcome {

@@ -1,17 +1,12 @@
 // The calls of a script, each with what it prints. `numbers` are those that main.rt's command N sets.
-use model::Asking;
-use model::Counting;
-use model::Route;
-use model::Testing;
-use model::Verdict;
-use refusals::refusal_number;
 use script::Command;
 use script::at_most;
-use script::print_line;
+use script::print_answer;
+use script::print_built;
+use script::print_tested;
 use script::sum16;
 
 pub fn run_build(
-    c: Command,
     numbers: &[u64; 8],
     starts: &[u32],
     neighbours: &[u16],
@@ -35,34 +30,7 @@ pub fn run_build(
         &mut report[..r],
         &mut hubs[..h],
     );
-    let s = sum16(full);
-    let t = sum16(low);
-    let u = sum16(report);
-    let v = sum16(hubs);
-    match answer {
-        Counting::Refused(k) => print_line(c.letter, &[refusal_number(k) as u64, 0, s, t, u, v]),
-        Counting::Count(k) => print_line(c.letter, &[0, k as u64, s, t, u, v]),
-    }
-}
-
-// A route as a number.
-fn route_number(route: Route) -> u64 {
-    match route {
-        Route::Itself => 0,
-        Route::Low => 1,
-        Route::NoRoute => 2,
-        Route::Through(h) => 3 + h as u64,
-    }
-}
-
-fn print_answer(letter: u8, answer: Asking, sum: u64) {
-    match answer {
-        Asking::Refused(k) => print_line(letter, &[refusal_number(k) as u64, 0, 0, sum]),
-        Asking::Answered(x) => {
-            let route = x.route;
-            print_line(letter, &[0, x.report as u64, route_number(route), sum]);
-        }
-    }
+    print_built(answer, full, low, report, hubs);
 }
 
 // Asking writes to no list: its sum is 0.
@@ -112,23 +80,9 @@ pub fn run_walk(
     print_answer(c.letter, answer, s);
 }
 
-// A verdict as a number.
-fn verdict_number(verdict: Verdict) -> u64 {
-    match verdict {
-        Verdict::Parted => 0,
-        Verdict::Long => 1,
-        Verdict::Short => 2,
-    }
-}
-
-pub fn run_test(c: Command, numbers: &[u64; 8], starts: &[u32], neighbours: &[u16]) {
+pub fn run_test(numbers: &[u64; 8], starts: &[u32], neighbours: &[u16]) {
     let p = at_most(numbers[1], starts.len());
     let q = at_most(numbers[2], neighbours.len());
-    match verdict::test(numbers[0] as usize, &starts[..p], &neighbours[..q]) {
-        Testing::Refused(k) => print_line(c.letter, &[refusal_number(k) as u64, 0, 0]),
-        Testing::Tested(x) => {
-            let verdict = x.verdict;
-            print_line(c.letter, &[0, verdict_number(verdict), x.searches as u64]);
-        }
-    }
+    let answer = verdict::test(numbers[0] as usize, &starts[..p], &neighbours[..q]);
+    print_tested(answer);
 }

@@ -43,7 +43,7 @@ fn run_call(
     walk: &mut [u16],
 ) {
     if c.letter == b'B' {
-        calls::run_build(c, numbers, starts, neighbours, full, low, report, hubs);
+        calls::run_build(numbers, starts, neighbours, full, low, report, hubs);
         return;
     }
     if c.letter == b'Q' {
@@ -55,7 +55,7 @@ fn run_call(
         return;
     }
     if c.letter == b'T' {
-        calls::run_test(c, numbers, starts, neighbours);
+        calls::run_test(numbers, starts, neighbours);
     }
 }
 

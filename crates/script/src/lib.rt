@@ -1,7 +1,12 @@
 // Scripts of calls: what the programs that run them share.
 // A line of a script is a letter and two numbers. A call prints one line: its letter, 0 or the refusal's number, the answer's
 // numbers, and a sum over each list that it may write to.
+use model::Asking;
+use model::Counting;
 use model::Reading;
+use model::Route;
+use model::Testing;
+use model::Verdict;
 use refusals::refusal_number;
 use text::Line;
 ghost use Prim.Native.Nat.{_≤_};
@@ -83,6 +88,69 @@ pub fn print_line(letter: u8, numbers: &[u64]) {
     io::write_all(1, b"\n");
 }
 
+// What reading answers and leaves.
+pub fn print_read(answer: Reading, starts: &[u32], neighbours: &[u16]) {
+    let s = sum32(starts);
+    let t = sum16(neighbours);
+    match answer {
+        Reading::Refused(r) => print_line(b'R', &[refusal_number(r) as u64, 0, 0, s, t]),
+        Reading::Read(size) => print_line(b'R', &[0, size.nodes as u64, size.links as u64, s, t]),
+    }
+}
+
+// What building answers and leaves.
+pub fn print_built(answer: Counting, full: &[u16], low: &[u16], report: &[u16], hubs: &[u16]) {
+    let s = sum16(full);
+    let t = sum16(low);
+    let u = sum16(report);
+    let v = sum16(hubs);
+    match answer {
+        Counting::Refused(r) => print_line(b'B', &[refusal_number(r) as u64, 0, s, t, u, v]),
+        Counting::Count(k) => print_line(b'B', &[0, k as u64, s, t, u, v]),
+    }
+}
+
+// A route as a number.
+fn route_number(route: Route) -> u64 {
+    match route {
+        Route::Itself => 0,
+        Route::Low => 1,
+        Route::NoRoute => 2,
+        Route::Through(h) => 3 + h as u64,
+    }
+}
+
+// What asking or walking answers, and the sum of the list that it leaves.
+pub fn print_answer(letter: u8, answer: Asking, sum: u64) {
+    match answer {
+        Asking::Refused(k) => print_line(letter, &[refusal_number(k) as u64, 0, 0, sum]),
+        Asking::Answered(x) => {
+            let route = x.route;
+            print_line(letter, &[0, x.report as u64, route_number(route), sum]);
+        }
+    }
+}
+
+// A verdict as a number.
+fn verdict_number(verdict: Verdict) -> u64 {
+    match verdict {
+        Verdict::Parted => 0,
+        Verdict::Long => 1,
+        Verdict::Short => 2,
+    }
+}
+
+// What testing answers.
+pub fn print_tested(answer: Testing) {
+    match answer {
+        Testing::Refused(r) => print_line(b'T', &[refusal_number(r) as u64, 0, 0]),
+        Testing::Tested(x) => {
+            let verdict = x.verdict;
+            print_line(b'T', &[0, verdict_number(verdict), x.searches as u64]);
+        }
+    }
+}
+
 // Reads a text into the first c.x starts and c.y neighbours. The next line says the text's length, and the text follows it. Returns
 // the place after the text.
 pub fn run_read(script: &[u8], c: Command, starts: &mut [u32], neighbours: &mut [u16]) -> usize {
@@ -92,15 +160,7 @@ pub fn run_read(script: &[u8], c: Command, starts: &mut [u32], neighbours: &mut 
     let start = at_most(k.next as u64, script.len());
     let end = start + at_most(k.x, script.len() - start);
     let answer = reading::read_survey(&script[start..end], &mut starts[..p], &mut neighbours[..q]);
-    let s = sum32(starts);
-    let t = sum16(neighbours);
-    match answer {
-        Reading::Refused(r) => print_line(c.letter, &[refusal_number(r) as u64, 0, 0, s, t]),
-        Reading::Read(size) => print_line(
-            c.letter,
-            &[0, size.nodes as u64, size.links as u64, s, t],
-        ),
-    }
+    print_read(answer, starts, neighbours);
     end
 }
 
