@@ -413,20 +413,6 @@ fn altered_entry(n: usize, random: &mut Random) -> usize {
 /// Altered tables whose outcome is known beforehand.
 fn altered_by_hand(maker: &mut Maker) {
     let none = usize::from(NONE);
-    let alter = |maker: &mut Maker, sample: &Sample, entries: &[(u8, usize, usize, usize)]| {
-        let n = sample.n;
-        maker.read(&sample.text());
-        maker.numbers(&exact(n, sample.links().len()));
-        maker.build();
-        for &(letter, a, b, entry) in entries {
-            maker.put(letter, a * n + b, entry);
-        }
-        maker.ask(0, 3);
-        maker.walk(0, 3);
-        // Refused 11 before the list's length is judged.
-        maker.number(WALK, 0);
-        maker.walk(0, 3);
-    };
     // On the path 0-1-2-3 all nodes are low. No step leads on; the steps
     // end at 2; no step, and 0 is not 3; a report that nothing attains.
     alter(maker, &path(4), &[(b'L', 1, 3, none)]);
@@ -481,4 +467,33 @@ fn altered_by_hand(maker: &mut Maker) {
         }
         alter(maker, &path(4), &entries);
     }
+    // Node 4 is high, and is not entered though its entry fits: there is
+    // no other way on; then there is one, by node 5.
+    let beside_high = [(0, 4), (1, 4), (2, 4), (3, 4), (4, 5)];
+    let sample = from_links("star", 6, &beside_high);
+    let by_high = [(b'P', 0, 3, 2), (b'L', 0, 3, 2), (b'L', 4, 3, 1)];
+    alter(maker, &sample, &by_high);
+    let around_high = [&beside_high[..], &[(0, 5), (3, 5)]].concat();
+    let sample = from_links("star", 6, &around_high);
+    alter(maker, &sample, &by_high);
+    // Node 1 is taken, being smaller than 2, and leads nowhere.
+    let sample = from_links("fork", 4, &[(0, 1), (0, 2), (2, 3)]);
+    alter(maker, &sample, &[(b'L', 1, 3, 1)]);
+}
+
+/// Builds, changes entries (letter, row, column, entry), and asks and walks
+/// the pair (0, 3).
+fn alter(maker: &mut Maker, sample: &Sample, entries: &[(u8, usize, usize, usize)]) {
+    let n = sample.n;
+    maker.read(&sample.text());
+    maker.numbers(&exact(n, sample.links().len()));
+    maker.build();
+    for &(letter, a, b, entry) in entries {
+        maker.put(letter, a * n + b, entry);
+    }
+    maker.ask(0, 3);
+    maker.walk(0, 3);
+    // Refused 11 before the list's length is judged.
+    maker.number(WALK, 0);
+    maker.walk(0, 3);
 }
