@@ -9,7 +9,9 @@ use model::Testing;
 use model::Verdict;
 use refusals::refusal_number;
 use text::Line;
-ghost use Prim.Native.Nat.{_≤_};
+ghost use mathlib.Core.Path.{_≡_};
+ghost use Prim.Native.Nat.{_%_, min};
+ghost use Rattle.script.specs.Sums.{sum, replaced};
 
 // A line of the script: its letter, its numbers and the place after it.
 pub struct Command {
@@ -37,7 +39,7 @@ pub fn read_command(script: &[u8], at: usize) -> Command {
 
 // A number, but no more than the limit.
 pub fn at_most(x: u64, limit: usize) -> usize
-    ensures { λ r. ⌜ r ≤ limit ⌝ }
+    ensures { λ r. ⌜ r ≡ min x limit ⌝ }
 {
     if x < limit as u64 {
         return x as usize;
@@ -46,7 +48,9 @@ pub fn at_most(x: u64, limit: usize) -> usize
 }
 
 // Sums that tell where in the list an entry stands.
-pub fn sum8(list: &[u8]) -> u64 {
+pub fn sum8(list: &[u8]) -> u64
+    ensures { λ r. ⌜ r ≡ sum (now (list .entry)) ⌝ }
+{
     let mut sum: u64 = 0;
     let mut i = 0;
     while i < list.len() {
@@ -56,7 +60,9 @@ pub fn sum8(list: &[u8]) -> u64 {
     sum
 }
 
-pub fn sum16(list: &[u16]) -> u64 {
+pub fn sum16(list: &[u16]) -> u64
+    ensures { λ r. ⌜ r ≡ sum (now (list .entry)) ⌝ }
+{
     let mut sum: u64 = 0;
     let mut i = 0;
     while i < list.len() {
@@ -66,7 +72,9 @@ pub fn sum16(list: &[u16]) -> u64 {
     sum
 }
 
-pub fn sum32(list: &[u32]) -> u64 {
+pub fn sum32(list: &[u32]) -> u64
+    ensures { λ r. ⌜ r ≡ sum (now (list .entry)) ⌝ }
+{
     let mut sum: u64 = 0;
     let mut i = 0;
     while i < list.len() {
@@ -165,21 +173,30 @@ pub fn run_read(script: &[u8], c: Command, starts: &mut [u32], neighbours: &mut 
 }
 
 // Entry c.x of the list becomes c.y. Returns the place of the next line.
-pub fn set32(c: Command, list: &mut [u32]) -> usize {
+pub fn set32(c: Command, list: &mut [u32]) -> usize
+    ensures { λ r. ⌜ r ≡ c .next ⌝ }
+    ensures { λ _. ⌜ now (list .exit) ≡ replaced (now (list .entry)) (c .x) (c .y % 4294967296) ⌝ }
+{
     if c.x < list.len() as u64 {
         list[c.x as usize] = (c.y % 4294967296) as u32;
     }
     c.next
 }
 
-pub fn set16(c: Command, list: &mut [u16]) -> usize {
+pub fn set16(c: Command, list: &mut [u16]) -> usize
+    ensures { λ r. ⌜ r ≡ c .next ⌝ }
+    ensures { λ _. ⌜ now (list .exit) ≡ replaced (now (list .entry)) (c .x) (c .y % 65536) ⌝ }
+{
     if c.x < list.len() as u64 {
         list[c.x as usize] = (c.y % 65536) as u16;
     }
     c.next
 }
 
-pub fn set64(c: Command, list: &mut [u64]) -> usize {
+pub fn set64(c: Command, list: &mut [u64]) -> usize
+    ensures { λ r. ⌜ r ≡ c .next ⌝ }
+    ensures { λ _. ⌜ now (list .exit) ≡ replaced (now (list .entry)) (c .x) (c .y) ⌝ }
+{
     if c.x < list.len() as u64 {
         list[c.x as usize] = c.y;
     }

@@ -1,6 +1,7 @@
 -- `cases::run_accept` ends.
 -- Assumes nothing.
 use mathlib.Core.Path.{sym}
+use native.Mathlib.Omega.{arith}
 use lib.Seq.{length-take-le}
 use borrow.Author.Needs.{needs}
 use Rattle.cases.proofs.run_accept.Statement.{statement}
@@ -27,11 +28,11 @@ at-most-requires-2 c κs = search needs
 
 -- src/main.rt:31:40
 slice-aggregate-accept : tie.Need-slice-aggregate-accept
-slice-aggregate-accept c = sym (length-take-le ((c .before .before .at-most .result)) ((c .before .before .before .before .before .before .before .args .starts .now)) ((c .before .before .at-most .ensures)))
+slice-aggregate-accept c = sym (length-take-le ((c .before .before .at-most .result)) ((c .before .before .before .before .before .before .before .args .starts .now)) (omega (arith, c .before .before .at-most .ensures)))
 
 -- src/main.rt:31:54
 slice-aggregate-accept-2 : tie.Need-slice-aggregate-accept-2
-slice-aggregate-accept-2 c = sym (length-take-le ((c .before .before .at-most2 .result)) ((c .before .before .before .before .before .before .before .before .args .neighbours .now)) ((c .before .before .at-most2 .ensures)))
+slice-aggregate-accept-2 c = sym (length-take-le ((c .before .before .at-most2 .result)) ((c .before .before .before .before .before .before .before .before .args .neighbours .now)) (omega (arith, c .before .before .at-most2 .ensures)))
 
 -- src/main.rt:31:11
 accept-requires : tie.Need-accept-requires

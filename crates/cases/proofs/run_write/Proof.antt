@@ -1,6 +1,7 @@
 -- `cases::run_write` ends.
 -- Assumes nothing.
 use mathlib.Core.Path.{sym}
+use native.Mathlib.Omega.{arith}
 use lib.Seq.{length-take-le}
 use borrow.Author.Needs.{needs}
 use Rattle.cases.proofs.run_write.Statement.{statement}
@@ -32,11 +33,11 @@ at-most-requires-3 c κs = search needs
 
 -- src/main.rt:49:54
 slice-aggregate-write-survey : tie.Need-slice-aggregate-write-survey
-slice-aggregate-write-survey c = sym (length-take-le ((c .before .before .before .at-most .result)) ((c .before .before .before .before .before .before .before .before .before .args .starts .now)) ((c .before .before .before .at-most .ensures)))
+slice-aggregate-write-survey c = sym (length-take-le ((c .before .before .before .at-most .result)) ((c .before .before .before .before .before .before .before .before .before .args .starts .now)) (omega (arith, c .before .before .before .at-most .ensures)))
 
 -- src/main.rt:49:68
 slice-aggregate-write-survey-2 : tie.Need-slice-aggregate-write-survey-2
-slice-aggregate-write-survey-2 c = sym (length-take-le ((c .before .before .before .at-most2 .result)) ((c .before .before .before .before .before .before .before .before .before .before .args .neighbours .now)) ((c .before .before .before .at-most2 .ensures)))
+slice-aggregate-write-survey-2 c = sym (length-take-le ((c .before .before .before .at-most2 .result)) ((c .before .before .before .before .before .before .before .before .before .before .args .neighbours .now)) (omega (arith, c .before .before .before .at-most2 .ensures)))
 
 -- src/main.rt:49:86
 slice-relend-prefix-write-survey : tie.Need-slice-relend-prefix-write-survey
@@ -44,7 +45,7 @@ slice-relend-prefix-write-survey c = search needs
 
 -- src/main.rt:49:86
 slice-aggregate-write-survey-3 : tie.Need-slice-aggregate-write-survey-3
-slice-aggregate-write-survey-3 c = sym (length-take-le ((c .before .before .before .at-most3 .result)) ((c .before .before .before .before .before .before .before .before .before .before .before .args .buffer .now)) ((c .before .before .before .at-most3 .ensures)))
+slice-aggregate-write-survey-3 c = sym (length-take-le ((c .before .before .before .at-most3 .result)) ((c .before .before .before .before .before .before .before .before .before .before .before .args .buffer .now)) (omega (arith, c .before .before .before .at-most3 .ensures)))
 
 -- src/main.rt:49:9
 write-survey-requires : tie.Need-write-survey-requires

@@ -1,6 +1,7 @@
 -- `cases_tables::calls::run_ask` ends: the parts that it lends are no longer than their lists.
 -- Assumes nothing.
 use mathlib.Core.Path.{sym}
+use native.Mathlib.Omega.{arith}
 use lib.Seq.{length-take-le}
 use borrow.Author.Needs.{needs}
 use Rattle.cases_tables.proofs.calls.run_ask.Statement.{statement}
@@ -41,15 +42,15 @@ element-copy-out-ask c = search needs
 
 -- src/calls.rt:43:9
 slice-aggregate-ask : tie.Need-slice-aggregate-ask
-slice-aggregate-ask c = sym (length-take-le (c .before .before .before .before .before .before .at-most .result) (c .before .before .before .before .before .before .before .before .before .before .before .args .full .now) (c .before .before .before .before .before .before .at-most .ensures))
+slice-aggregate-ask c = sym (length-take-le (c .before .before .before .before .before .before .at-most .result) (c .before .before .before .before .before .before .before .before .before .before .before .args .full .now) (omega (arith, c .before .before .before .before .before .before .at-most .ensures)))
 
 -- src/calls.rt:44:9
 slice-aggregate-ask-2 : tie.Need-slice-aggregate-ask-2
-slice-aggregate-ask-2 c = sym (length-take-le (c .before .before .before .before .before .at-most2 .result) (c .before .before .before .before .before .before .before .before .before .before .before .before .args .low .now) (c .before .before .before .before .before .at-most2 .ensures))
+slice-aggregate-ask-2 c = sym (length-take-le (c .before .before .before .before .before .at-most2 .result) (c .before .before .before .before .before .before .before .before .before .before .before .before .args .low .now) (omega (arith, c .before .before .before .before .before .at-most2 .ensures)))
 
 -- src/calls.rt:45:9
 slice-aggregate-ask-3 : tie.Need-slice-aggregate-ask-3
-slice-aggregate-ask-3 c = sym (length-take-le (c .before .before .before .before .at-most3 .result) (c .before .before .before .before .before .before .before .before .before .before .before .before .before .args .report .now) (c .before .before .before .before .at-most3 .ensures))
+slice-aggregate-ask-3 c = sym (length-take-le (c .before .before .before .before .at-most3 .result) (c .before .before .before .before .before .before .before .before .before .before .before .before .before .args .report .now) (omega (arith, c .before .before .before .before .at-most3 .ensures)))
 
 -- src/calls.rt:41:9
 ask-requires : tie.Need-ask-requires

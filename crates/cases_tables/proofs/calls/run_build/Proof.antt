@@ -1,6 +1,7 @@
 -- `cases_tables::calls::run_build` ends: the parts that it lends are no longer than their lists.
 -- Assumes nothing.
 use mathlib.Core.Path.{sym}
+use native.Mathlib.Omega.{arith}
 use lib.Seq.{length-take-le}
 use borrow.Author.Needs.{needs}
 use Rattle.cases_tables.proofs.calls.run_build.Statement.{statement}
@@ -65,11 +66,11 @@ element-copy-out-build c = search needs
 
 -- src/calls.rt:26:9
 slice-aggregate-build : tie.Need-slice-aggregate-build
-slice-aggregate-build c = sym (length-take-le (c .before .before .before .before .before .before .before .before .before .before .before .before .at-most .result) (c .before .before .before .before .before .before .before .before .before .before .before .before .before .before .before .before .before .before .before .before .args .starts .now) (c .before .before .before .before .before .before .before .before .before .before .before .before .at-most .ensures))
+slice-aggregate-build c = sym (length-take-le (c .before .before .before .before .before .before .before .before .before .before .before .before .at-most .result) (c .before .before .before .before .before .before .before .before .before .before .before .before .before .before .before .before .before .before .before .before .args .starts .now) (omega (arith, c .before .before .before .before .before .before .before .before .before .before .before .before .at-most .ensures)))
 
 -- src/calls.rt:27:9
 slice-aggregate-build-2 : tie.Need-slice-aggregate-build-2
-slice-aggregate-build-2 c = sym (length-take-le (c .before .before .before .before .before .before .before .before .before .before .before .at-most2 .result) (c .before .before .before .before .before .before .before .before .before .before .before .before .before .before .before .before .before .before .before .before .before .args .neighbours .now) (c .before .before .before .before .before .before .before .before .before .before .before .at-most2 .ensures))
+slice-aggregate-build-2 c = sym (length-take-le (c .before .before .before .before .before .before .before .before .before .before .before .at-most2 .result) (c .before .before .before .before .before .before .before .before .before .before .before .before .before .before .before .before .before .before .before .before .before .args .neighbours .now) (omega (arith, c .before .before .before .before .before .before .before .before .before .before .before .at-most2 .ensures)))
 
 -- src/calls.rt:28:9
 slice-relend-prefix-build : tie.Need-slice-relend-prefix-build
@@ -77,7 +78,7 @@ slice-relend-prefix-build c = search needs
 
 -- src/calls.rt:28:9
 slice-aggregate-build-3 : tie.Need-slice-aggregate-build-3
-slice-aggregate-build-3 c = sym (length-take-le (c .before .before .before .before .before .before .before .before .before .before .at-most3 .result) (c .before .before .before .before .before .before .before .before .before .before .before .before .before .before .before .before .before .before .before .before .before .before .args .full .now) (c .before .before .before .before .before .before .before .before .before .before .at-most3 .ensures))
+slice-aggregate-build-3 c = sym (length-take-le (c .before .before .before .before .before .before .before .before .before .before .at-most3 .result) (c .before .before .before .before .before .before .before .before .before .before .before .before .before .before .before .before .before .before .before .before .before .before .args .full .now) (omega (arith, c .before .before .before .before .before .before .before .before .before .before .at-most3 .ensures)))
 
 -- src/calls.rt:29:9
 slice-relend-prefix-build-2 : tie.Need-slice-relend-prefix-build-2
@@ -85,7 +86,7 @@ slice-relend-prefix-build-2 c = search needs
 
 -- src/calls.rt:29:9
 slice-aggregate-build-4 : tie.Need-slice-aggregate-build-4
-slice-aggregate-build-4 c = sym (length-take-le (c .before .before .before .before .before .before .before .before .before .at-most4 .result) (c .before .before .before .before .before .before .before .before .before .before .before .before .before .before .before .before .before .before .before .before .before .before .before .args .low .now) (c .before .before .before .before .before .before .before .before .before .at-most4 .ensures))
+slice-aggregate-build-4 c = sym (length-take-le (c .before .before .before .before .before .before .before .before .before .at-most4 .result) (c .before .before .before .before .before .before .before .before .before .before .before .before .before .before .before .before .before .before .before .before .before .before .before .args .low .now) (omega (arith, c .before .before .before .before .before .before .before .before .before .at-most4 .ensures)))
 
 -- src/calls.rt:30:9
 slice-relend-prefix-build-3 : tie.Need-slice-relend-prefix-build-3
@@ -93,7 +94,7 @@ slice-relend-prefix-build-3 c = search needs
 
 -- src/calls.rt:30:9
 slice-aggregate-build-5 : tie.Need-slice-aggregate-build-5
-slice-aggregate-build-5 c = sym (length-take-le (c .before .before .before .before .before .before .before .before .at-most5 .result) (c .before .before .before .before .before .before .before .before .before .before .before .before .before .before .before .before .before .before .before .before .before .before .before .before .args .report .now) (c .before .before .before .before .before .before .before .before .at-most5 .ensures))
+slice-aggregate-build-5 c = sym (length-take-le (c .before .before .before .before .before .before .before .before .at-most5 .result) (c .before .before .before .before .before .before .before .before .before .before .before .before .before .before .before .before .before .before .before .before .before .before .before .before .args .report .now) (omega (arith, c .before .before .before .before .before .before .before .before .at-most5 .ensures)))
 
 -- src/calls.rt:31:9
 slice-relend-prefix-build-4 : tie.Need-slice-relend-prefix-build-4
@@ -101,7 +102,7 @@ slice-relend-prefix-build-4 c = search needs
 
 -- src/calls.rt:31:9
 slice-aggregate-build-6 : tie.Need-slice-aggregate-build-6
-slice-aggregate-build-6 c = sym (length-take-le (c .before .before .before .before .before .before .before .at-most6 .result) (c .before .before .before .before .before .before .before .before .before .before .before .before .before .before .before .before .before .before .before .before .before .before .before .before .before .args .hubs .now) (c .before .before .before .before .before .before .before .at-most6 .ensures))
+slice-aggregate-build-6 c = sym (length-take-le (c .before .before .before .before .before .before .before .at-most6 .result) (c .before .before .before .before .before .before .before .before .before .before .before .before .before .before .before .before .before .before .before .before .before .before .before .before .before .args .hubs .now) (omega (arith, c .before .before .before .before .before .before .before .at-most6 .ensures)))
 
 -- src/calls.rt:24:9
 build-requires : tie.Need-build-requires

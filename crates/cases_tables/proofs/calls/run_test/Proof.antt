@@ -1,6 +1,7 @@
 -- `cases_tables::calls::run_test` ends: the parts that it lends are no longer than their lists.
 -- Assumes nothing.
 use mathlib.Core.Path.{sym}
+use native.Mathlib.Omega.{arith}
 use lib.Seq.{length-take-le}
 use borrow.Author.Needs.{needs}
 use Rattle.cases_tables.proofs.calls.run_test.Statement.{statement}
@@ -33,11 +34,11 @@ element-copy-out-test c = search needs
 
 -- src/calls.rt:86:53
 slice-aggregate-test : tie.Need-slice-aggregate-test
-slice-aggregate-test c = sym (length-take-le (c .before .before .before .before .at-most .result) (c .before .before .before .before .before .before .before .before .args .starts .now) (c .before .before .before .before .at-most .ensures))
+slice-aggregate-test c = sym (length-take-le (c .before .before .before .before .at-most .result) (c .before .before .before .before .before .before .before .before .args .starts .now) (omega (arith, c .before .before .before .before .at-most .ensures)))
 
 -- src/calls.rt:86:67
 slice-aggregate-test-2 : tie.Need-slice-aggregate-test-2
-slice-aggregate-test-2 c = sym (length-take-le (c .before .before .before .at-most2 .result) (c .before .before .before .before .before .before .before .before .before .args .neighbours .now) (c .before .before .before .at-most2 .ensures))
+slice-aggregate-test-2 c = sym (length-take-le (c .before .before .before .at-most2 .result) (c .before .before .before .before .before .before .before .before .before .args .neighbours .now) (omega (arith, c .before .before .before .at-most2 .ensures)))
 
 -- src/calls.rt:86:9
 test-requires : tie.Need-test-requires

@@ -1,6 +1,7 @@
 -- `cases_tables::calls::run_walk` ends: the parts that it lends are no longer than their lists.
 -- Assumes nothing.
 use mathlib.Core.Path.{sym}
+use native.Mathlib.Omega.{arith}
 use lib.Seq.{length-take-le}
 use borrow.Author.Needs.{needs}
 use Rattle.cases_tables.proofs.calls.run_walk.Statement.{statement}
@@ -66,23 +67,23 @@ element-copy-out-write-walk c = search needs
 
 -- src/calls.rt:70:9
 slice-aggregate-write-walk : tie.Need-slice-aggregate-write-walk
-slice-aggregate-write-walk c = sym (length-take-le (c .before .before .before .before .before .before .before .before .before .before .before .before .at-most .result) (c .before .before .before .before .before .before .before .before .before .before .before .before .before .before .before .before .before .before .before .before .args .starts .now) (c .before .before .before .before .before .before .before .before .before .before .before .before .at-most .ensures))
+slice-aggregate-write-walk c = sym (length-take-le (c .before .before .before .before .before .before .before .before .before .before .before .before .at-most .result) (c .before .before .before .before .before .before .before .before .before .before .before .before .before .before .before .before .before .before .before .before .args .starts .now) (omega (arith, c .before .before .before .before .before .before .before .before .before .before .before .before .at-most .ensures)))
 
 -- src/calls.rt:71:9
 slice-aggregate-write-walk-2 : tie.Need-slice-aggregate-write-walk-2
-slice-aggregate-write-walk-2 c = sym (length-take-le (c .before .before .before .before .before .before .before .before .before .before .before .at-most2 .result) (c .before .before .before .before .before .before .before .before .before .before .before .before .before .before .before .before .before .before .before .before .before .args .neighbours .now) (c .before .before .before .before .before .before .before .before .before .before .before .at-most2 .ensures))
+slice-aggregate-write-walk-2 c = sym (length-take-le (c .before .before .before .before .before .before .before .before .before .before .before .at-most2 .result) (c .before .before .before .before .before .before .before .before .before .before .before .before .before .before .before .before .before .before .before .before .before .args .neighbours .now) (omega (arith, c .before .before .before .before .before .before .before .before .before .before .before .at-most2 .ensures)))
 
 -- src/calls.rt:72:9
 slice-aggregate-write-walk-3 : tie.Need-slice-aggregate-write-walk-3
-slice-aggregate-write-walk-3 c = sym (length-take-le (c .before .before .before .before .before .before .before .before .before .before .at-most3 .result) (c .before .before .before .before .before .before .before .before .before .before .before .before .before .before .before .before .before .before .before .before .before .before .args .full .now) (c .before .before .before .before .before .before .before .before .before .before .at-most3 .ensures))
+slice-aggregate-write-walk-3 c = sym (length-take-le (c .before .before .before .before .before .before .before .before .before .before .at-most3 .result) (c .before .before .before .before .before .before .before .before .before .before .before .before .before .before .before .before .before .before .before .before .before .before .args .full .now) (omega (arith, c .before .before .before .before .before .before .before .before .before .before .at-most3 .ensures)))
 
 -- src/calls.rt:73:9
 slice-aggregate-write-walk-4 : tie.Need-slice-aggregate-write-walk-4
-slice-aggregate-write-walk-4 c = sym (length-take-le (c .before .before .before .before .before .before .before .before .before .at-most4 .result) (c .before .before .before .before .before .before .before .before .before .before .before .before .before .before .before .before .before .before .before .before .before .before .before .args .low .now) (c .before .before .before .before .before .before .before .before .before .at-most4 .ensures))
+slice-aggregate-write-walk-4 c = sym (length-take-le (c .before .before .before .before .before .before .before .before .before .at-most4 .result) (c .before .before .before .before .before .before .before .before .before .before .before .before .before .before .before .before .before .before .before .before .before .before .before .args .low .now) (omega (arith, c .before .before .before .before .before .before .before .before .before .at-most4 .ensures)))
 
 -- src/calls.rt:74:9
 slice-aggregate-write-walk-5 : tie.Need-slice-aggregate-write-walk-5
-slice-aggregate-write-walk-5 c = sym (length-take-le (c .before .before .before .before .before .before .before .before .at-most5 .result) (c .before .before .before .before .before .before .before .before .before .before .before .before .before .before .before .before .before .before .before .before .before .before .before .before .args .report .now) (c .before .before .before .before .before .before .before .before .at-most5 .ensures))
+slice-aggregate-write-walk-5 c = sym (length-take-le (c .before .before .before .before .before .before .before .before .at-most5 .result) (c .before .before .before .before .before .before .before .before .before .before .before .before .before .before .before .before .before .before .before .before .before .before .before .before .args .report .now) (omega (arith, c .before .before .before .before .before .before .before .before .at-most5 .ensures)))
 
 -- src/calls.rt:77:9
 slice-relend-prefix-write-walk : tie.Need-slice-relend-prefix-write-walk
@@ -90,7 +91,7 @@ slice-relend-prefix-write-walk c = search needs
 
 -- src/calls.rt:77:9
 slice-aggregate-write-walk-6 : tie.Need-slice-aggregate-write-walk-6
-slice-aggregate-write-walk-6 c = sym (length-take-le (c .before .before .before .before .before .before .before .at-most6 .result) (c .before .before .before .before .before .before .before .before .before .before .before .before .before .before .before .before .before .before .before .before .before .before .before .before .before .args .walk .now) (c .before .before .before .before .before .before .before .at-most6 .ensures))
+slice-aggregate-write-walk-6 c = sym (length-take-le (c .before .before .before .before .before .before .before .at-most6 .result) (c .before .before .before .before .before .before .before .before .before .before .before .before .before .before .before .before .before .before .before .before .before .before .before .before .before .args .walk .now) (omega (arith, c .before .before .before .before .before .before .before .at-most6 .ensures)))
 
 -- src/calls.rt:68:9
 write-walk-requires : tie.Need-write-walk-requires
