@@ -11,6 +11,7 @@ use refusals::refusal_number;
 use text::Line;
 ghost use mathlib.Core.Path.{_≡_};
 ghost use Prim.Native.Nat.{_%_, min};
+ghost use Rattle.script.specs.Commands.{lineAt, lineOf};
 ghost use Rattle.script.specs.Sums.{sum, replaced};
 
 // A line of the script: its letter, its numbers and the place after it.
@@ -22,7 +23,9 @@ pub struct Command {
 }
 
 // The line at a place; letter 0 where there is none.
-pub fn read_command(script: &[u8], at: usize) -> Command {
+pub fn read_command(script: &[u8], at: usize) -> Command
+    ensures { λ r. ⌜ lineOf (now (script .entry)) r ≡ lineAt (now (script .entry)) at ⌝ }
+{
     if at < script.len() {
         let letter = script[at];
         if let Line::Pair(x, y, next) = text::line_at(script, at, letter) {
