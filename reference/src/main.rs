@@ -1,14 +1,20 @@
-//! Command line: `reference examples`, `reference reports`, `reference script` and `reference cases`.
+//! Command line: `reference COMMAND`; NOTES.md lists the commands.
 
 mod cases;
+mod cases_tables;
+mod commands;
 #[path = "../tests/common/mod.rs"]
 mod common;
 mod examples;
+mod large;
 mod reports_compared;
 mod script;
+mod script_tables;
 
 use std::io::{self, Read, Write};
 use std::process::ExitCode;
+
+const USAGE: &str = "usage: reference examples | reports | script | cases | script-tables | cases-tables | survey-large | large | compare-reports PROGRAM COUNT SEED";
 
 fn main() -> ExitCode {
     let arguments: Vec<String> = std::env::args().skip(1).collect();
@@ -16,11 +22,13 @@ fn main() -> ExitCode {
         ["examples"] => print_examples(),
         ["reports"] => print_reports(),
         ["script"] => print_bytes(&script::make()),
-        ["cases"] => print_cases(),
+        ["cases"] => print_cases(cases::run),
+        ["script-tables"] => print_bytes(&script_tables::make()),
+        ["cases-tables"] => print_cases(cases_tables::run),
+        ["survey-large"] => print_bytes(large::make().as_bytes()),
+        ["large"] => print_cases(large::run),
         ["compare-reports", program, count, seed] => compare_reports(program, count, seed),
-        _ => Err(String::from(
-            "usage: reference examples | reports | script | cases",
-        )),
+        _ => Err(String::from(USAGE)),
     };
     match outcome {
         Ok(()) => ExitCode::SUCCESS,
@@ -40,8 +48,8 @@ fn print_reports() -> Result<(), String> {
     print_bytes(&reference::reports(&standard_input()?))
 }
 
-fn print_cases() -> Result<(), String> {
-    print_bytes(cases::run(&standard_input()?).as_bytes())
+fn print_cases(run: fn(&[u8]) -> String) -> Result<(), String> {
+    print_bytes(run(&standard_input()?).as_bytes())
 }
 
 fn compare_reports(program: &str, count: &str, seed: &str) -> Result<(), String> {

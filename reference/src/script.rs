@@ -6,7 +6,8 @@ use crate::common::{small_samples, Random, Sample, COURSE};
 
 const COURSE_TURNED: &str = "S,6,6\nL,2,1\nL,5,4\nL,3,5\nL,5,0\nL,2,5\nL,5,1\n";
 
-/// Texts for reading, each into long lists.
+/// Texts for reading, each into long lists. The first five are document
+/// 01's examples: the course survey, and refusals 2 and 3.
 const TEXTS: &[&str] = &[
     COURSE,
     COURSE_TURNED,
@@ -101,6 +102,11 @@ pub fn make() -> Vec<u8> {
     let mut script = Vec::new();
     for text in TEXTS {
         read_into(&mut script, text.as_bytes(), 1100, 33000);
+    }
+    // Written back, the course survey's links stand in their order.
+    for (text, n, m) in [(COURSE, 6, 6), (COURSE_TURNED, 6, 6), ("S,2,0\n", 2, 0)] {
+        read_into(&mut script, text.as_bytes(), 1100, 33000);
+        written(&mut script, n, 4096, n + 1, 2 * m);
     }
     list_lengths(&mut script);
     let mut random = Random::new(3);
@@ -238,7 +244,7 @@ fn damaged_lists(script: &mut Vec<u8>, sample: &Sample, random: &mut Random) {
     }
 }
 
-fn read_into(script: &mut Vec<u8>, text: &[u8], p: usize, q: usize) {
+pub fn read_into(script: &mut Vec<u8>, text: &[u8], p: usize, q: usize) {
     line(script, b'R', p, q);
     line(script, b'K', text.len(), 0);
     script.extend(text);
@@ -256,7 +262,7 @@ fn set(script: &mut Vec<u8>, letter: u8, i: usize, x: usize) {
     line(script, letter, i, x);
 }
 
-fn line(script: &mut Vec<u8>, letter: u8, x: usize, y: usize) {
+pub fn line(script: &mut Vec<u8>, letter: u8, x: usize, y: usize) {
     script.push(letter);
     script.extend(format!(",{x},{y}\n").bytes());
 }

@@ -1,12 +1,12 @@
--- `cases::print_line` ends.
+-- `script::print_line` ends.
 -- Assumes nothing.
 use borrow.Author.Needs.{needs}
 use Prim.Native.Nat.{_-_, _≤_}
 use lib.ListN.{length}
-use Rattle.cases.proofs.print_line.Statement.{statement}
-use Rattle.cases.proofs.print_line.Tie as tie
-use Rattle.cases.proofs.print_line.Reads as reads
-use Rattle.cases.proofs.print_line.Lts as lts
+use Rattle.script.proofs.print_line.Statement.{statement}
+use Rattle.script.proofs.print_line.Tie as tie
+use Rattle.script.proofs.print_line.Reads as reads
+use Rattle.script.proofs.print_line.Lts as lts
 use Rattle.io.proofs.print_decimal.Reads as print-decimal-reads
 use Rattle.io.proofs.write_all.Reads as write-all-reads
 
@@ -16,59 +16,59 @@ Inv-loop letter numbers i₀ t4 t5 i = i ≤ length numbers
 abbrev μ-loop : tie.MeasureT-loop
 μ-loop letter numbers i₀ t4 t5 i = length numbers - i
 
--- src/main.rt:84:22
+-- src/lib.rt:92:22
 slice-aggregate-write-all : tie.Need-slice-aggregate-write-all Inv-loop μ-loop
 slice-aggregate-write-all c = search needs
 
--- src/main.rt:84:5
+-- src/lib.rt:92:5
 write-all-requires : tie.Need-write-all-requires Inv-loop μ-loop
 write-all-requires c κs = search needs
 
--- src/main.rt:86:5
+-- src/lib.rt:94:5
 loop-holds : tie.Need-loop-holds Inv-loop μ-loop
 loop-holds c = search needs
 
--- src/main.rt:87:26
+-- src/lib.rt:95:26
 slice-aggregate-write-all-2 : tie.Need-slice-aggregate-write-all-2 Inv-loop μ-loop
 slice-aggregate-write-all-2 c = search needs
 
--- src/main.rt:87:9
+-- src/lib.rt:95:9
 write-all-requires-2 : tie.Need-write-all-requires-2 Inv-loop μ-loop
 write-all-requires-2 c κs = search needs
 
--- src/main.rt:88:30
+-- src/lib.rt:96:30
 mul-print-decimal : tie.Need-mul-print-decimal Inv-loop μ-loop
 mul-print-decimal c = search needs
 
--- src/main.rt:88:30
+-- src/lib.rt:96:30
 shared-slice-read-print-decimal : tie.Need-shared-slice-read-print-decimal Inv-loop μ-loop
 shared-slice-read-print-decimal c = search needs
 
--- src/main.rt:88:9
+-- src/lib.rt:96:9
 print-decimal-requires : tie.Need-print-decimal-requires Inv-loop μ-loop
 print-decimal-requires c κs = search needs
 
--- src/main.rt:89:9
+-- src/lib.rt:97:9
 add-i : tie.Need-add-i Inv-loop μ-loop
 add-i c = search needs
 
--- src/main.rt:86:5
+-- src/lib.rt:94:5
 loop-less : tie.Need-loop-less Inv-loop μ-loop
 loop-less c = search needs
 
--- src/main.rt:86:5
+-- src/lib.rt:94:5
 loop-again : tie.Need-loop-again Inv-loop μ-loop
 loop-again c = search needs
 
--- src/main.rt:91:22
+-- src/lib.rt:99:22
 slice-aggregate-write-all-3 : tie.Need-slice-aggregate-write-all-3 Inv-loop μ-loop
 slice-aggregate-write-all-3 c = search needs
 
--- src/main.rt:91:5
+-- src/lib.rt:99:5
 write-all-requires-3 : tie.Need-write-all-requires-3 Inv-loop μ-loop
 write-all-requires-3 c κs = search needs
 
--- src/main.rt:83:1
+-- src/lib.rt:91:1
 returns : tie.Need-returns Inv-loop μ-loop
 returns c = tt
 

@@ -1,0 +1,45 @@
+-- `cases_tables::run` ends: each turn leaves fewer.
+-- Assumes nothing.
+use borrow.Author.Needs.{needs}
+use Rattle.cases_tables.proofs.run.Statement.{statement}
+use Rattle.cases_tables.proofs.run.Tie as tie
+use Rattle.cases_tables.proofs.run.Reads as reads
+use Rattle.cases_tables.proofs.run.Lts as lts
+use Rattle.cases_tables.proofs.step.Reads as step-reads
+
+abbrev Inv-loop : tie.InvT-loop
+Inv-loop script numbers₀ starts₀ neighbours₀ full₀ low₀ report₀ hubs₀ walk₀ at₀ turns₀ numbers starts neighbours full low report hubs walk at turns =
+    Unit {0}
+
+abbrev μ-loop : tie.MeasureT-loop
+μ-loop script numbers₀ starts₀ neighbours₀ full₀ low₀ report₀ hubs₀ walk₀ at₀ turns₀ numbers starts neighbours full low report hubs walk at turns =
+    turns
+
+-- src/main.rt:126:5
+loop-holds : tie.Need-loop-holds Inv-loop μ-loop
+loop-holds c = tt
+
+-- src/main.rt:127:9
+step-requires : tie.Need-step-requires Inv-loop μ-loop
+step-requires c κs = search needs
+
+-- src/main.rt:139:9
+sub-turns : tie.Need-sub-turns Inv-loop μ-loop
+sub-turns c = search needs
+
+-- src/main.rt:126:5
+loop-less : tie.Need-loop-less Inv-loop μ-loop
+loop-less c = search needs
+
+-- src/main.rt:126:5
+loop-again : tie.Need-loop-again Inv-loop μ-loop
+loop-again c = tt
+
+-- src/main.rt:115:1
+returns : tie.Need-returns Inv-loop μ-loop
+returns c = tt
+
+pub run-spec : {M : Type 1} → statement M
+run-spec =
+    tie.close
+    (tie.spec Inv-loop μ-loop loop-holds step-requires sub-turns loop-less loop-again returns)

@@ -1,0 +1,88 @@
+// The calls of a script, each with what it prints. `numbers` are those that main.rt's command N sets.
+use script::Command;
+use script::at_most;
+use script::print_answer;
+use script::print_built;
+use script::print_tested;
+use script::sum16;
+
+pub fn run_build(
+    numbers: &[u64; 8],
+    starts: &[u32],
+    neighbours: &[u16],
+    full: &mut [u16],
+    low: &mut [u16],
+    report: &mut [u16],
+    hubs: &mut [u16],
+) {
+    let p = at_most(numbers[1], starts.len());
+    let q = at_most(numbers[2], neighbours.len());
+    let f = at_most(numbers[3], full.len());
+    let l = at_most(numbers[4], low.len());
+    let r = at_most(numbers[5], report.len());
+    let h = at_most(numbers[6], hubs.len());
+    let answer = tables::build(
+        numbers[0] as usize,
+        &starts[..p],
+        &neighbours[..q],
+        &mut full[..f],
+        &mut low[..l],
+        &mut report[..r],
+        &mut hubs[..h],
+    );
+    print_built(answer, full, low, report, hubs);
+}
+
+// Asking writes to no list: its sum is 0.
+pub fn run_ask(c: Command, numbers: &[u64; 8], full: &[u16], low: &[u16], report: &[u16]) {
+    let f = at_most(numbers[3], full.len());
+    let l = at_most(numbers[4], low.len());
+    let r = at_most(numbers[5], report.len());
+    let answer = pairs::ask(
+        numbers[0] as usize,
+        &full[..f],
+        &low[..l],
+        &report[..r],
+        c.x as usize,
+        c.y as usize,
+    );
+    print_answer(c.letter, answer, 0);
+}
+
+pub fn run_walk(
+    c: Command,
+    numbers: &[u64; 8],
+    starts: &[u32],
+    neighbours: &[u16],
+    full: &[u16],
+    low: &[u16],
+    report: &[u16],
+    walk: &mut [u16],
+) {
+    let p = at_most(numbers[1], starts.len());
+    let q = at_most(numbers[2], neighbours.len());
+    let f = at_most(numbers[3], full.len());
+    let l = at_most(numbers[4], low.len());
+    let r = at_most(numbers[5], report.len());
+    let w = at_most(numbers[7], walk.len());
+    let answer = walks::write_walk(
+        numbers[0] as usize,
+        &starts[..p],
+        &neighbours[..q],
+        &full[..f],
+        &low[..l],
+        &report[..r],
+        c.x as usize,
+        c.y as usize,
+        &mut walk[..w],
+    );
+    let s = sum16(walk);
+    print_answer(c.letter, answer, s);
+}
+
+pub fn run_test(numbers: &[u64; 8], starts: &[u32], neighbours: &[u16]) {
+    let p = at_most(numbers[1], starts.len());
+    let q = at_most(numbers[2], neighbours.len());
+    let answer = verdict::test(numbers[0] as usize, &starts[..p], &neighbours[..q]);
+    print_tested(answer);
+}

@@ -1,0 +1,148 @@
+//! Runs a script of building, asking, walking and testing. The Rattle
+//! program `cases_tables` runs the same scripts; its source describes their
+//! lines.
+
+use crate::commands::{self, outcome, run_read, sum, Command, Script};
+use reference::{ask, build, test, walk, Answer, Route, Verdict};
+
+/// The lengths of the lists.
+pub const LENGTHS: Numbers = [0, 1100, 33000, 22600, 22600, 22600, 160, 320];
+
+/// The numbers that command N sets: the count of nodes, then how many
+/// entries of each list are lent.
+pub type Numbers = [usize; 8];
+
+pub const NODES: usize = 0;
+pub const STARTS: usize = 1;
+pub const NEIGHBOURS: usize = 2;
+pub const FULL: usize = 3;
+pub const LOW: usize = 4;
+pub const REPORT: usize = 5;
+pub const HUBS: usize = 6;
+pub const WALK: usize = 7;
+
+struct Lists {
+    numbers: Numbers,
+    starts: Vec<u32>,
+    neighbours: Vec<u16>,
+    full: Vec<u16>,
+    low: Vec<u16>,
+    report: Vec<u16>,
+    hubs: Vec<u16>,
+    walk: Vec<u16>,
+}
+
+/// The outcomes of all calls, one per line.
+pub fn run(script: &[u8]) -> String {
+    let mut lists = Lists {
+        numbers: [0; 8],
+        starts: vec![7; LENGTHS[STARTS]],
+        neighbours: vec![7; LENGTHS[NEIGHBOURS]],
+        full: vec![7; LENGTHS[FULL]],
+        low: vec![7; LENGTHS[LOW]],
+        report: vec![7; LENGTHS[REPORT]],
+        hubs: vec![7; LENGTHS[HUBS]],
+        walk: vec![7; LENGTHS[WALK]],
+    };
+    commands::run(script, &mut lists)
+}
+
+impl commands::Lists for Lists {
+    fn call(&mut self, command: &Command, script: &mut Script) -> Option<Vec<u64>> {
+        let (x, y) = (command.x, command.y);
+        match command.letter {
+            b'R' => return run_read(command, script, &mut self.starts, &mut self.neighbours),
+            b'B' => return Some(self.build()),
+            b'Q' => return Some(self.ask(x, y)),
+            b'W' => return Some(self.walk(x, y)),
+            b'T' => return Some(self.test()),
+            b'N' => self.numbers[x] = y,
+            b'S' => self.starts[x] = y as u32,
+            b'E' => self.neighbours[x] = y as u16,
+            b'F' => self.full[x] = y as u16,
+            b'L' => self.low[x] = y as u16,
+            b'P' => self.report[x] = y as u16,
+            b'H' => self.hubs[x] = y as u16,
+            letter => panic!("no such command: {}", letter as char),
+        }
+        None
+    }
+}
+
+impl Lists {
+    fn build(&mut self) -> Vec<u64> {
+        let lent = self.numbers;
+        let answer = build(
+            lent[NODES],
+            &self.starts[..lent[STARTS]],
+            &self.neighbours[..lent[NEIGHBOURS]],
+            &mut self.full[..lent[FULL]],
+            &mut self.low[..lent[LOW]],
+            &mut self.report[..lent[REPORT]],
+            &mut self.hubs[..lent[HUBS]],
+        );
+        let sums = [&self.full, &self.low, &self.report, &self.hubs].map(|list| sum(list));
+        outcome(answer.map(|count| vec![count as u64]), 1, &sums)
+    }
+
+    fn ask(&self, a: usize, b: usize) -> Vec<u64> {
+        let lent = self.numbers;
+        let answer = ask(
+            lent[NODES],
+            &self.full[..lent[FULL]],
+            &self.low[..lent[LOW]],
+            &self.report[..lent[REPORT]],
+            a,
+            b,
+        );
+        // Asking writes to no list: its sum is 0.
+        outcome(answer.map(answer_numbers), 2, &[0])
+    }
+
+    fn walk(&mut self, a: usize, b: usize) -> Vec<u64> {
+        let lent = self.numbers;
+        let answer = walk(
+            lent[NODES],
+            &self.starts[..lent[STARTS]],
+            &self.neighbours[..lent[NEIGHBOURS]],
+            &self.full[..lent[FULL]],
+            &self.low[..lent[LOW]],
+            &self.report[..lent[REPORT]],
+            a,
+            b,
+            &mut self.walk[..lent[WALK]],
+        );
+        outcome(answer.map(answer_numbers), 2, &[sum(&self.walk)])
+    }
+
+    fn test(&self) -> Vec<u64> {
+        let lent = self.numbers;
+        let answer = test(
+            lent[NODES],
+            &self.starts[..lent[STARTS]],
+            &self.neighbours[..lent[NEIGHBOURS]],
+        );
+        let numbers =
+            answer.map(|tested| vec![verdict_number(tested.verdict), tested.searches as u64]);
+        outcome(numbers, 2, &[])
+    }
+}
+
+/// The report, and the route as a number.
+fn answer_numbers(answer: Answer) -> Vec<u64> {
+    let route = match answer.route {
+        Route::Itself => 0,
+        Route::Low => 1,
+        Route::NoRoute => 2,
+        Route::Through(h) => 3 + u64::from(h),
+    };
+    vec![u64::from(answer.report), route]
+}
+
+pub fn verdict_number(verdict: Verdict) -> u64 {
+    match verdict {
+        Verdict::Parted => 0,
+        Verdict::Long => 1,
+        Verdict::Short => 2,
+    }
+}

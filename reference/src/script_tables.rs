@@ -1,0 +1,499 @@
+//! Makes the script that the Rattle program `cases_tables` is run on:
+//! document 01's examples, surveys of many shapes, wrong lengths and
+//! numbers, lists that are no survey's, and altered tables.
+
+use crate::cases_tables::{
+    Numbers, FULL, HUBS, LENGTHS, LOW, NEIGHBOURS, NODES, REPORT, STARTS, WALK,
+};
+use crate::common::{
+    blocks, complete_and_path, cycle, from_links, joined_blocks, path, random_links, star, tree,
+    two_parts, Built, Random, Sample, COURSE,
+};
+use crate::script::{line, read_into};
+use reference::NONE;
+
+/// The course survey with a seventh node that has no link.
+const SEPARATE_NODE: &str = "S,7,6\nL,0,5\nL,1,5\nL,2,5\nL,3,5\nL,4,5\nL,1,2\n";
+
+/// The whole script.
+pub fn make() -> Vec<u8> {
+    let mut maker = Maker {
+        script: Vec::new(),
+        numbers: [0; 8],
+    };
+    examples(&mut maker);
+    let mut random = Random::new(11);
+    for sample in shapes(&mut random) {
+        whole_survey(&mut maker, &sample, &mut random);
+    }
+    for sample in small_shapes(&mut random) {
+        wrong_numbers(&mut maker, &sample);
+        wrong_lists(&mut maker, &sample, &mut random);
+        altered_tables(&mut maker, &sample, &mut random);
+    }
+    altered_by_hand(&mut maker);
+    maker.script
+}
+
+/// The script so far, and the numbers that its commands N have set.
+struct Maker {
+    script: Vec<u8>,
+    numbers: Numbers,
+}
+
+impl Maker {
+    fn put(&mut self, letter: u8, x: usize, y: usize) {
+        line(&mut self.script, letter, x, y);
+    }
+
+    /// Sets number i, if it is another one.
+    fn number(&mut self, i: usize, x: usize) {
+        if self.numbers[i] != x {
+            self.numbers[i] = x;
+            self.put(b'N', i, x);
+        }
+    }
+
+    fn numbers(&mut self, numbers: &Numbers) {
+        for (i, &x) in numbers.iter().enumerate() {
+            self.number(i, x);
+        }
+    }
+
+    fn read(&mut self, text: &str) {
+        let (p, q) = (LENGTHS[STARTS], LENGTHS[NEIGHBOURS]);
+        read_into(&mut self.script, text.as_bytes(), p, q);
+    }
+
+    fn build(&mut self) {
+        self.put(b'B', 0, 0);
+    }
+
+    fn ask(&mut self, a: usize, b: usize) {
+        self.put(b'Q', a, b);
+    }
+
+    fn walk(&mut self, a: usize, b: usize) {
+        self.put(b'W', a, b);
+    }
+
+    fn test(&mut self) {
+        self.put(b'T', 0, 0);
+    }
+
+    /// All calls with the numbers as they stand.
+    fn all_calls(&mut self, a: usize, b: usize) {
+        self.build();
+        self.ask(a, b);
+        self.walk(a, b);
+        self.test();
+    }
+}
+
+/// Lists with not an entry to spare, but for the walk list.
+fn exact(n: usize, m: usize) -> Numbers {
+    [n, n + 1, 2 * m, n * n, n * n, n * n, n, 2 * n]
+}
+
+/// Document 01's examples. Those that are not starred, by their place:
+///
+/// - "Course survey and other examples": the listing of the course survey,
+///   which is its hub count and the answers of all pairs; `S,1025,0`;
+///   `S,2,16385`; `S,2,0`.
+/// - "Errors the course shows": the walks (0, 3) and (5, 3) of the course
+///   survey, along which 0 and 5 would send each other back; its table Low,
+///   where both ends of a link are low; its hub list; and a sum with a none
+///   in it, which document 01 names no survey for: `SEPARATE_NODE` has
+///   Full(0, 6) none, and a sum that wraps would report 0 for (5, 6).
+///
+/// The starred ones are run too: the course survey's hub, its report and
+/// walk (1, 3) and its report (5, 5); the tests of `S,1,0`, of the chain
+/// 0-1-2-3-4, and of the five nodes with links 0-1, 0-2, 1-2, 1-3, 2-4.
+fn examples(maker: &mut Maker) {
+    let five_nodes = "S,5,5\nL,0,1\nL,0,2\nL,1,2\nL,1,3\nL,2,4\n";
+    let chain = path(5).text();
+    for (text, n, m) in [
+        (COURSE, 6, 6),
+        ("S,2,0\n", 2, 0),
+        (SEPARATE_NODE, 7, 6),
+        ("S,1,0\n", 1, 0),
+        (&chain, 5, 4),
+        (five_nodes, 5, 5),
+    ] {
+        maker.read(text);
+        maker.numbers(&exact(n, m));
+        maker.build();
+        maker.test();
+        for a in 0..n {
+            for b in 0..n {
+                maker.ask(a, b);
+                maker.walk(a, b);
+            }
+        }
+    }
+    // A refused reading leaves zeros: a survey without links.
+    for text in ["S,1025,0\n", "S,2,16385\n"] {
+        maker.read(text);
+        maker.numbers(&exact(2, 0));
+        maker.all_calls(0, 1);
+        maker.number(NODES, 1025);
+        maker.all_calls(0, 1);
+    }
+}
+
+/// Surveys of many shapes and sizes, with high nodes and without.
+fn shapes(random: &mut Random) -> Vec<Sample> {
+    let mut samples = vec![
+        Sample::new("no link", 1),
+        Sample::new("no link", 2),
+        Sample::new("no link", 9),
+        Sample::new("no link", 150),
+        star(2, 0),
+        star(9, 0),
+        star(12, 11),
+        star(40, 17),
+        star(150, 75),
+        blocks(3, 1),
+        blocks(5, 1),
+        blocks(12, 1),
+        blocks(33, 1),
+        path(3),
+        path(17),
+        path(64),
+        path(65),
+        path(150),
+        cycle(4),
+        cycle(9),
+        cycle(129),
+        grid(3, 3),
+        grid(5, 7),
+        grid(10, 10),
+        blocks(10, 2),
+        blocks(24, 3),
+        blocks(60, 3),
+        blocks(70, 10),
+        joined_blocks(12, 2),
+        joined_blocks(40, 2),
+        // No node is low here, and the searches go deeper than 2.
+        joined_blocks(60, 3),
+        joined_blocks(66, 3),
+        joined_blocks(128, 16),
+        complete_and_path(20, 13),
+        complete_and_path(70, 30),
+        two_parts(10, 5),
+        two_parts(30, 3),
+        two_parts(65, 20),
+        // No node is low here, and the searches end at 2.
+        two_parts(40, 20),
+        tree(random, 15),
+        tree(random, 100),
+        tree(random, 150),
+    ];
+    for (n, chance) in [
+        (20, 5),
+        (128, 2),
+        (150, 1),
+        (30, 15),
+        (25, 40),
+        (40, 60),
+        (24, 80),
+        (30, 95),
+        (64, 50),
+        (100, 25),
+        (66, 30),
+    ] {
+        samples.push(random_links(random, n, chance));
+    }
+    for i in [5, 7, 29, 30, 33, 34, 37] {
+        let other = samples[i].renumbered(random);
+        samples.push(other);
+    }
+    samples
+}
+
+/// Surveys for wrong and altered lists.
+fn small_shapes(random: &mut Random) -> Vec<Sample> {
+    let course = [(0, 5), (1, 5), (2, 5), (3, 5), (4, 5), (1, 2)];
+    vec![
+        from_links("course", 6, &course),
+        Sample::new("no link", 1),
+        path(4),
+        cycle(7),
+        star(10, 3),
+        blocks(8, 1),
+        joined_blocks(12, 2),
+        complete_and_path(14, 9),
+        grid(3, 4),
+        random_links(random, 11, 40),
+        random_links(random, 16, 60),
+        random_links(random, 20, 30),
+    ]
+}
+
+/// Nodes in rows and columns, linked to those beside, above and below.
+fn grid(rows: usize, columns: usize) -> Sample {
+    let mut sample = Sample::new("grid", rows * columns);
+    for v in 0..rows * columns {
+        if v % columns > 0 {
+            sample.link(v - 1, v);
+        }
+        if v >= columns {
+            sample.link(v - columns, v);
+        }
+    }
+    sample
+}
+
+/// Builds, tests, and asks and walks many pairs, of exact lists and of
+/// longer ones.
+fn whole_survey(maker: &mut Maker, sample: &Sample, random: &mut Random) {
+    let (n, built) = (sample.n, Built::of_sample(sample));
+    maker.read(&sample.text());
+    maker.numbers(&exact(n, sample.links().len()));
+    maker.build();
+    maker.test();
+    for (a, b) in some_pairs(n, random) {
+        maker.ask(a, b);
+        walk_into(maker, &built, a, b, random);
+    }
+    // Entries past those named keep their values.
+    maker.numbers(&LENGTHS);
+    maker.number(NODES, n);
+    maker.all_calls(0, n - 1);
+    let others = [STARTS, NEIGHBOURS, FULL, LOW, REPORT, HUBS];
+    for list in others {
+        maker.number(list, LENGTHS[list] - random.below(9));
+    }
+    maker.all_calls(n - 1, 0);
+}
+
+/// All pairs of few nodes, or some of many.
+fn some_pairs(n: usize, random: &mut Random) -> Vec<(usize, usize)> {
+    if n <= 5 {
+        return (0..n * n).map(|i| (i / n, i % n)).collect();
+    }
+    let mut pairs = vec![(0, n - 1), (n - 1, 0), (n / 2, n / 2)];
+    for _ in 0..24 {
+        pairs.push((random.below(n), random.below(n)));
+    }
+    pairs
+}
+
+/// The walk of a pair into a list of report + 1 entries, or of another
+/// length.
+fn walk_into(maker: &mut Maker, built: &Built, a: usize, b: usize, random: &mut Random) {
+    let report = built.report[a * built.n + b] as usize;
+    // Where there is no route, any length will do.
+    let fit = (report + 1).min(LENGTHS[WALK]);
+    let lengths = [fit, fit, fit, fit - 1, 0, 1, LENGTHS[WALK]];
+    maker.number(WALK, lengths[random.below(lengths.len())]);
+    maker.walk(a, b);
+}
+
+/// Wrong lengths of each list, wrong counts of nodes, and no nodes.
+fn wrong_numbers(maker: &mut Maker, sample: &Sample) {
+    let (n, right) = (sample.n, exact(sample.n, sample.links().len()));
+    maker.read(&sample.text());
+    maker.numbers(&right);
+    maker.all_calls(0, n - 1);
+    for list in [STARTS, NEIGHBOURS, FULL, LOW, REPORT, HUBS, WALK] {
+        for length in [right[list].max(1) - 1, 0, right[list] + 1] {
+            maker.number(list, length);
+            maker.all_calls(0, n - 1);
+        }
+        maker.number(list, right[list]);
+    }
+    for (a, b) in [(n, 0), (0, n), (n, n), (n + 1, 0), (0, 65535), (1024, 1024)] {
+        maker.ask(a, b);
+        maker.walk(a, b);
+    }
+    maker.ask(4294967296, 0);
+    maker.walk(0, 9999999999);
+    for count in [
+        0,
+        n - 1,
+        n + 1,
+        1024,
+        1025,
+        65536 + n,
+        4294967296,
+        9999999999,
+    ] {
+        maker.number(NODES, count);
+        maker.all_calls(0, 0);
+        maker.ask(n, 0);
+        maker.walk(0, n);
+    }
+    order_of_refusals(maker, n, &right);
+}
+
+/// Calls with two faults are refused for the first one.
+fn order_of_refusals(maker: &mut Maker, n: usize, right: &Numbers) {
+    let not_survey = |maker: &mut Maker| maker.number(NEIGHBOURS, 0);
+    let faults: [&dyn Fn(&mut Maker); 5] = [
+        &|maker| maker.number(NODES, 1025),
+        &|maker| maker.number(LOW, n * n - 1),
+        &|maker| maker.number(STARTS, n),
+        &not_survey,
+        &|maker| maker.number(WALK, 0),
+    ];
+    for first in faults {
+        for second in faults {
+            maker.numbers(right);
+            first(maker);
+            second(maker);
+            maker.all_calls(0, n);
+            maker.walk(0, n - 1);
+        }
+    }
+    maker.numbers(right);
+}
+
+/// Lists that are not a survey's: entries changed by chance.
+fn wrong_lists(maker: &mut Maker, sample: &Sample, random: &mut Random) {
+    let (n, m) = (sample.n, sample.links().len());
+    let (p, q) = (n + 1, 2 * m);
+    maker.numbers(&exact(n, m));
+    for _ in 0..4 {
+        maker.read(&sample.text());
+        let near = [0, 1, q / 2, q + 1, q + 2, 32770, 65536, 4294967295];
+        maker.put(b'S', random.below(p), near[random.below(near.len())]);
+        maker.all_calls(0, n - 1);
+        maker.walk(n, 0);
+    }
+    for _ in 0..4 {
+        maker.read(&sample.text());
+        if q > 0 {
+            let near = [random.below(n), random.below(n), n, 65535];
+            maker.put(b'E', random.below(q), near[random.below(near.len())]);
+        }
+        maker.all_calls(0, n - 1);
+    }
+    // 16,385 links; an odd last start.
+    maker.read(&sample.text());
+    maker.number(NEIGHBOURS, LENGTHS[NEIGHBOURS]);
+    for last in [32768, 32770, q + 1] {
+        maker.put(b'S', n, last);
+        maker.all_calls(0, n - 1);
+    }
+}
+
+/// Entries of the tables changed by chance, then pairs near them.
+fn altered_tables(maker: &mut Maker, sample: &Sample, random: &mut Random) {
+    let n = sample.n;
+    maker.read(&sample.text());
+    maker.numbers(&exact(n, sample.links().len()));
+    for _ in 0..12 {
+        maker.build();
+        for _ in 0..1 + random.below(3) {
+            let (a, b) = (random.below(n), random.below(n));
+            for letter in [b'P', b'F', b'L'] {
+                if random.percent(50) {
+                    maker.put(letter, a * n + b, altered_entry(n, random));
+                }
+            }
+            for (x, y) in [(a, b), (b, a), (a, random.below(n)), (random.below(n), b)] {
+                maker.ask(x, y);
+                maker.walk(x, y);
+            }
+        }
+        // The hub list is lent to building alone.
+        maker.put(b'H', random.below(n), random.below(n));
+    }
+    maker.number(WALK, 1);
+    maker.put(b'P', n - 1, 1);
+    maker.walk(0, n - 1);
+}
+
+fn altered_entry(n: usize, random: &mut Random) -> usize {
+    let entries = [0, 1, 1, 2, 2, 3, 4, n - 1, n, 32768, 65534, 65535, 65535];
+    entries[random.below(entries.len())]
+}
+
+/// Altered tables whose outcome is known beforehand.
+fn altered_by_hand(maker: &mut Maker) {
+    let none = usize::from(NONE);
+    // On the path 0-1-2-3 all nodes are low. No step leads on; the steps
+    // end at 2; no step, and 0 is not 3; a report that nothing attains.
+    alter(maker, &path(4), &[(b'L', 1, 3, none)]);
+    let ends_at_2 = [
+        (b'P', 0, 3, 2),
+        (b'L', 0, 3, 2),
+        (b'L', 1, 3, 1),
+        (b'L', 2, 3, 0),
+    ];
+    alter(maker, &path(4), &ends_at_2);
+    alter(maker, &path(4), &[(b'P', 0, 3, 0), (b'L', 0, 3, 0)]);
+    alter(maker, &path(4), &[(b'P', 0, 3, 4)]);
+    alter(maker, &path(4), &[(b'P', 0, 3, none)]);
+    // Round the other way: a chain of the survey, given out.
+    let other_way = [(b'P', 0, 3, 4), (b'L', 0, 3, 4), (b'L', 6, 3, 3)];
+    alter(maker, &cycle(7), &other_way);
+    let longer_way = [
+        (b'P', 0, 3, 4),
+        (b'L', 0, 3, 4),
+        (b'L', 6, 3, 3),
+        (b'L', 5, 3, 2),
+        (b'L', 4, 3, 1),
+        (b'L', 1, 3, none),
+    ];
+    alter(maker, &cycle(7), &longer_way);
+    // Sums of two entries of Full that need more than 16 bits: 1 and none
+    // if they wrapped. Then sums of 65,535 and 65,534.
+    for (to_a, to_b, report) in [
+        (65534, 3, 1),
+        (32768, 32768, 0),
+        (65534, 65534, 65532),
+        (32767, 32768, 65535),
+        (32767, 32767, 65534),
+        (none, 2, 1),
+        (2, none, 1),
+    ] {
+        let entries = [
+            (b'P', 0, 3, report),
+            (b'L', 0, 3, none),
+            (b'F', 2, 0, to_a),
+            (b'F', 2, 3, to_b),
+        ];
+        alter(maker, &path(4), &entries);
+    }
+    // A node that is no hub serves as one; of two, the smaller.
+    for hubs in [&[2][..], &[1, 2], &[0, 3], &[3]] {
+        let mut entries = vec![(b'L', 0, 3, none)];
+        for &h in hubs {
+            for v in 0..4usize {
+                entries.push((b'F', h, v, v.abs_diff(h)));
+            }
+        }
+        alter(maker, &path(4), &entries);
+    }
+    // Node 4 is high, and is not entered though its entry fits: there is
+    // no other way on; then there is one, by node 5.
+    let beside_high = [(0, 4), (1, 4), (2, 4), (3, 4), (4, 5)];
+    let sample = from_links("star", 6, &beside_high);
+    let by_high = [(b'P', 0, 3, 2), (b'L', 0, 3, 2), (b'L', 4, 3, 1)];
+    alter(maker, &sample, &by_high);
+    let around_high = [&beside_high[..], &[(0, 5), (3, 5)]].concat();
+    let sample = from_links("star", 6, &around_high);
+    alter(maker, &sample, &by_high);
+    // Node 1 is taken, being smaller than 2, and leads nowhere.
+    let sample = from_links("fork", 4, &[(0, 1), (0, 2), (2, 3)]);
+    alter(maker, &sample, &[(b'L', 1, 3, 1)]);
+}
+
+/// Builds, changes entries (letter, row, column, entry), and asks and walks
+/// the pair (0, 3).
+fn alter(maker: &mut Maker, sample: &Sample, entries: &[(u8, usize, usize, usize)]) {
+    let n = sample.n;
+    maker.read(&sample.text());
+    maker.numbers(&exact(n, sample.links().len()));
+    maker.build();
+    for &(letter, a, b, entry) in entries {
+        maker.put(letter, a * n + b, entry);
+    }
+    maker.ask(0, 3);
+    maker.walk(0, 3);
+    // Refused 11 before the list's length is judged.
+    maker.number(WALK, 0);
+    maker.walk(0, 3);
+}
