@@ -2,6 +2,7 @@
 //!
 //! Nothing checks these declarations against the archive but the comparison itself; `include/puxerdau.h` has the same ones for C.
 
+pub mod careful;
 pub mod codes;
 pub mod graphs;
 pub mod proved;
