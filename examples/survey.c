@@ -1,6 +1,8 @@
-/* Reads a survey from standard input, builds its tables, reports on nodes 1 and 3 with their walk, and runs the two-or-four test. */
+/* Reads a survey from standard input, builds its tables, reports on the pairs of nodes that the arguments name, with their walks, runs
+ * the two-or-four test, and writes the survey back. */
 #include "puxerdau.h"
 #include <stdio.h>
+#include <stdlib.h>
 
 enum { NODES = 1024, LINKS = 16384, TEXT = 1 << 20 };
 
@@ -10,7 +12,7 @@ static uint16_t neighbours[2 * LINKS];
 static uint16_t full[NODES * NODES], low[NODES * NODES], report[NODES * NODES];
 static uint16_t hubs[NODES], walk[2 * NODES];
 
-/* The answer, or the end of the program where the call was refused. */
+/* Whether a call was refused, which is printed. */
 static int refused(const char *call, uint64_t answer)
 {
     if (puxerdau_refusal(answer) == 0)
@@ -48,7 +50,7 @@ static void print_pair(size_t n, size_t a, size_t b)
     print_walk(n, a, b);
 }
 
-int main(void)
+int main(int count, char **words)
 {
     static const char *const verdicts[] = {"parted", "long", "short"};
     size_t length = fread(text, 1, TEXT, stdin);
@@ -61,12 +63,13 @@ int main(void)
     answer = puxerdau_build(n, starts, NODES + 1, neighbours, 2 * LINKS, full, n * n, low, n * n, report, n * n, hubs, NODES);
     if (refused("build", answer))
         return 1;
-    printf("hub count %u, first hub %u\n", (unsigned)puxerdau_count(answer), hubs[0]);
+    printf("hubs:");
+    for (size_t i = 0; i < puxerdau_count(answer); i++)
+        printf(" %u", hubs[i]);
+    printf("\n");
 
-    print_pair(n, 1, 3);
-    print_pair(n, 1, 2);
-    print_pair(n, 5, 5);
-    print_pair(n, 0, n);
+    for (int i = 1; i + 1 < count; i += 2)
+        print_pair(n, strtoul(words[i], NULL, 10), strtoul(words[i + 1], NULL, 10));
 
     answer = puxerdau_test(n, starts, NODES + 1, neighbours, 2 * LINKS);
     if (refused("test", answer))
@@ -76,7 +79,6 @@ int main(void)
     answer = puxerdau_write(n, starts, NODES + 1, neighbours, 2 * LINKS, again, TEXT);
     if (refused("write", answer))
         return 1;
-    printf("written back:\n");
     fwrite(again, 1, puxerdau_count(answer), stdout);
     return 0;
 }
