@@ -301,7 +301,7 @@ fn print_row(row: &Row) {
     );
     for (k, call) in CALLS.iter().enumerate() {
         println!(
-            "  {call:8}{:>12.2}{:>13.2}x{:>11.2}x",
+            "  {call:8}{:>12.3}{:>13.2}x{:>11.2}x",
             proved[k] * 1e6,
             reference[k] / proved[k],
             careful[k] / proved[k]
@@ -314,8 +314,9 @@ fn print_row(row: &Row) {
     );
     println!("  acceptance {:.2} times a plain sum", proved[2] / row.sum);
     println!(
-        "  a walk less acceptance {:.2} us",
-        (proved[5] - proved[2]) * 1e6
+        "  a walk less acceptance {:.2} us, in careful Rust {:.2} us",
+        (proved[5] - proved[2]) * 1e6,
+        (careful[5] - careful[2]) * 1e6
     );
     if let Some(exact) = row.exact {
         println!(
