@@ -1,5 +1,5 @@
 //! The same method as the proved library's, written in Rust for speed: a bit matrix when reading, one cursor for each node when
-//! accepting, bit sets for hubs, breadth-first searches without a branch for each link. It is only measured against.
+//! accepting, bit sets for hubs, breadth-first searches without a branch for each link, which end when no node is left. It is only measured against.
 
 use reference::{Answer, Route, Tested, Verdict, NONE};
 
@@ -214,14 +214,14 @@ fn is_survey(n: usize, starts: &[u32], neighbours: &[u16]) -> bool {
 
 // Building
 
-/// Breadth-first search into a row in which allowed nodes are none and the others 0. Rows behind that are none.
-fn search(starts: &[u32], neighbours: &[u16], source: usize, row: &mut [u16]) {
+/// Breadth-first search into a row in which allowed nodes are none and the others 0, until all `count` allowed nodes are found.
+fn search(starts: &[u32], neighbours: &[u16], count: usize, source: usize, row: &mut [u16]) {
     // one place more: the place behind the queue's end is written before it is known whether a node joins
     let mut queue = [0u16; MOST_NODES + 1];
     row[source] = 0;
     queue[0] = source as u16;
     let (mut head, mut tail) = (0, 1);
-    while head < tail {
+    while head < tail && tail < count {
         let v = queue[head] as usize;
         let d = row[v] + 1;
         for &w in neighbours_of(starts, neighbours, v) {
@@ -317,7 +317,7 @@ pub fn build(
     full[..size].fill(NONE);
     for &h in &chosen {
         let h = h as usize;
-        search(starts, neighbours, h, &mut full[h * n..(h + 1) * n]);
+        search(starts, neighbours, n, h, &mut full[h * n..(h + 1) * n]);
     }
     fill_low(n, s, starts, neighbours, &mut low[..size]);
     for a in 0..n {
@@ -347,7 +347,7 @@ fn fill_low(n: usize, s: usize, starts: &[u32], neighbours: &[u16], low: &mut [u
             continue;
         }
         high.iter().for_each(|&v| row[v] = 0);
-        search(starts, neighbours, a, row);
+        search(starts, neighbours, n - high.len(), a, row);
         high.iter().for_each(|&v| row[v] = NONE);
     }
 }
@@ -469,7 +469,7 @@ pub fn test(n: usize, starts: &[u32], neighbours: &[u16]) -> Result<Tested, u8> 
     let mut depth = 0;
     for &v in &sources {
         row.fill(NONE);
-        search(starts, neighbours, v as usize, &mut row);
+        search(starts, neighbours, n, v as usize, &mut row);
         depth = row.iter().fold(depth, |most, &x| most.max(x));
         if depth == NONE {
             break;

@@ -385,7 +385,7 @@ fn print_targets(rows: &[Row]) {
         verdict(
             "a walk, times acceptance",
             proved[5] / proved[2],
-            1.1,
+            1.25,
             false,
         );
     }
