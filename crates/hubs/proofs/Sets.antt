@@ -17,7 +17,7 @@ use Rattle.model.proofs.Lists.{of-cons, has-keep, has-upTo, of-upTo, keep-same,
 use Rattle.model.proofs.Loops.{drop-next}
 use Rattle.nodeset.specs.NodeSet.{Nodes, member, nobody, with, both, without}
 use Rattle.nodeset.proofs.Bits.{empty-words}
-use Rattle.nodeset.proofs.Words.{ltb-same}
+use Rattle.nodeset.proofs.Words.{ltb-same, past-smallest}
 
 -- ---- the high nodes, one node more at a time
 
@@ -153,11 +153,7 @@ module _ (n : ℕ) (us : List ℕ) (long : length us ≡ 16) (size : n ≤ 1024)
       at (nothing q miss) = absurd (omega arith)
 
   pub none-left : n ≤ r → keep (member us) (upTo n) ≡ []
-  none-left h = keep-none (member us) (upTo n) (λ x m t. at x (of-upTo n x m) t smallest-is)
-    where
-      at : (x : ℕ) → x < n → T (member us x) → First (member us) (64 * length us) 0 (64 * length us) r → ⊥
-      at x l t (found lo hi s least) = least x (omega arith) (omega arith) t
-      at x l t (nothing q miss) = miss x (omega arith) (omega arith) t
+  none-left h = keep-none (member us) (upTo n) (λ x m t. past-smallest n us (omega arith) r e h x (of-upTo n x m) t)
 
 -- the high nodes as words, and the nodes that a hub leaves uncovered
 pub high-kept : (n s : ℕ) (G : Graph) (ws : List ℕ) → member ws ≡ (λ x. ltb x n && isHigh s G x) → keep (member ws) (upTo n) ≡ keep (isHigh s G) (upTo n)

@@ -1,7 +1,7 @@
 -- Bits of words: the operations bit by bit, a single bit, each once over the width.
 -- Assumes nothing.
 use mathlib.Core.Path.{_≡_, refl, sym, ap, ap₂, _∙_, fun-ext}
-use mathlib.Core.Bool.{Bool, true, false, not, _&&_, _||_, or-comm}
+use mathlib.Core.Bool.{Bool, true, false, not, _&&_, _||_, or-comm, and-true}
 use mathlib.Core.List.{List}
 use Prim.Native.Nat.{ℕ, zero, suc, _+_, _-_, _*_, _/_, _%_, _^_, _<_}
 use native.Mathlib.Nat.{mod-lt, div-one, one-mul, pow-suc, le-of-suc-le-suc, not-suc-le-zero, zero-lt-suc}
@@ -12,9 +12,9 @@ use borrow.Author.Tests.{eq-eqb, ne-eqb, eqb-true, eqb-false}
 use lib.Bits.{bitAnd, bitOr, and-shr, or-shr, and-mod, or-mod}
 use lib.Dec.{eqb, eqb·suc-suc}
 use lib.ListN.{getD, set, length, replicate}
-use lib.Pow.{shl-exact, shr-shr}
+use lib.Pow.{shl-exact, shr-shr, pow-pos}
 use lib.Seq.{getD-set-same, getD-set-other}
-use Rattle.nodeset.specs.NodeSet.{bit, member, nobody, with}
+use Rattle.nodeset.specs.NodeSet.{bit, member, nobody, with, without}
 
 -- two tests agree where each passes when the other does
 pub eqb-same : (a b c d : ℕ) → (a ≡ b → c ≡ d) → (c ≡ d → a ≡ b) → eqb a b ≡ eqb c d
@@ -137,3 +137,32 @@ set-with ws v h = fun-ext (λ x. at x (decEq (x / 64) (v / 64)))
         (sym e)
     at x (no e) = ap (λ (w : ℕ). bit w (x % 64)) (getD-set-other ws (v / 64) (x / 64) new 0 e)
         ∙ sym (ap (λ (b : Bool). b || bit (getD ws (x / 64) 0) (x % 64)) (ne-eqb x v (λ (q : x ≡ v). e (ap (λ (y : ℕ). y / 64) q))))
+
+-- the word of node v with the node's bit cleared
+pub set-without : (ws : List ℕ) (v : ℕ) → v / 64 < length ws
+    → member (set ws (v / 64) (bitAnd (getD ws (v / 64) 0) ((2 ^ 64 - 1) - 1 * 2 ^ (v % 64) % 2 ^ 64))) ≡ without (member ws) (λ x. eqb x v)
+unfolding member without
+set-without ws v h = fun-ext (λ x. at x (decEq (x / 64) (v / 64)))
+  where
+    one : ℕ
+    one = 1 * 2 ^ (v % 64) % 2 ^ 64
+
+    new : ℕ
+    new = bitAnd (getD ws (v / 64) 0) ((2 ^ 64 - 1) - one)
+
+    cleared : (x : ℕ) → x / 64 ≡ v / 64 → bit ((2 ^ 64 - 1) - one) (x % 64) ≡ not (eqb x v)
+    cleared x e =
+        bit-not 64 one (x % 64) (mod-lt (1 * 2 ^ (v % 64)) (pow-pos 64)) (omega arith)
+        ∙ ap not (ap (λ (w : ℕ). bit w (x % 64)) (shifted (v % 64) (omega arith)) ∙ bit-pow (v % 64) (x % 64)
+        ∙ eqb-same (x % 64) (v % 64) x v (λ (q : x % 64 ≡ v % 64). omega arith) (λ (q : x ≡ v). ap (λ (y : ℕ). y % 64) q))
+
+    at : (x : ℕ) → Dec (x / 64 ≡ v / 64) → bit (getD (set ws (v / 64) new) (x / 64) 0) (x % 64) ≡ (bit (getD ws (x / 64) 0) (x % 64) && not (eqb x v))
+    at x (yes e) =
+        ap (λ (i : ℕ). bit (getD (set ws (v / 64) new) i 0) (x % 64)) e
+        ∙ ap (λ (w : ℕ). bit w (x % 64)) (getD-set-same ws (v / 64) new 0 h)
+        ∙ bit-and (getD ws (v / 64) 0) ((2 ^ 64 - 1) - one) (x % 64)
+        ∙ ap₂ (λ (i : ℕ) (b : Bool). bit (getD ws i 0) (x % 64) && b) (sym e) (cleared x e)
+    at x (no e) =
+        let out : eqb x v ≡ false = ne-eqb x v (λ (q : x ≡ v). e (ap (λ (y : ℕ). y / 64) q)) in
+        ap (λ (w : ℕ). bit w (x % 64)) (getD-set-other ws (v / 64) (x / 64) new 0 e)
+        ∙ sym (ap (λ (b : Bool). bit (getD ws (x / 64) 0) (x % 64) && not b) out ∙ and-true (bit (getD ws (x / 64) 0) (x % 64)))

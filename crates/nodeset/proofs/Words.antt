@@ -10,13 +10,13 @@ use native.Mathlib.Omega.{arith}
 use borrow.Author.Tests.{lt-ltb, le-ltb, eq-eqb}
 use lib.Bits.{bitAnd, and-le-l}
 use lib.Count.{ones, ones-le, trailingZeros}
-use lib.Dec.{ltb}
+use lib.Dec.{T, ltb}
 use lib.ListN.{length, getD, set, length-set, length-append, replicate, List·getD-eq-default}
 use lib.Pow.{pow-pos}
 use lib.Seq.{getD-set-same, getD-set-other}
 use Rattle.model.specs.Basics.{if_then_else_, from, upTo, keep, firstOf}
 use Rattle.model.proofs.Tests.{picked, lt-or, eq-or}
-use Rattle.model.proofs.Lists.{keep-append, keep-length, length-upTo, upTo-add}
+use Rattle.model.proofs.Lists.{First, found, nothing, first-below, keep-append, keep-length, length-upTo, upTo-add}
 use Rattle.model.proofs.Loops.{below-next}
 use Rattle.nodeset.specs.NodeSet.{Nodes, bit, member, nobody, both, without, membersFrom}
 use Rattle.nodeset.proofs.Bits.{bit-and, bit-not, bit-zero, bit-suc, bit-of-zero, word-bit, empty-words, shifted}
@@ -150,6 +150,16 @@ module _ (ws : List ℕ) (i : ℕ) (c : Clear ws i) where
         let e : upTo (64 * length ws) ≡ upTo m ++ from m k = upTo-add m k (64 * length ws) (omega arith) in
         let f = ap (keep (member ws)) e ∙ keep-append (member ws) (upTo m) (from m k) ∙ ap (λ (r : List ℕ). r ++ keep (member ws) (from m k)) (here ∙ low .first) in
         sym (first-kept (member ws) (64 * length ws) (upTo (64 * length ws)) ∙ ap (λ (r : List ℕ). getD r 0 (64 * length ws)) f)
+
+-- where the smallest member is n or more, no number below n is one
+pub past-smallest : (n : ℕ) (ws : List ℕ) → n ≤ 64 * length ws → (r : ℕ) → r ≡ firstOf (member ws) (64 * length ws) (upTo (64 * length ws)) → n ≤ r
+    → (x : ℕ) → x < n → T (member ws x) → ⊥
+past-smallest n ws long r e h x l t =
+    at (subst (λ (k : ℕ). First (member ws) (64 * length ws) 0 (64 * length ws) k) (sym e) (first-below (member ws) (64 * length ws) (64 * length ws)))
+  where
+    at : First (member ws) (64 * length ws) 0 (64 * length ws) r → ⊥
+    at (found lo hi s least) = least x (omega arith) (omega arith) t
+    at (nothing q miss) = miss x (omega arith) (omega arith) t
 
 -- ---- the nodes below n
 

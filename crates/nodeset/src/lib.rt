@@ -1,7 +1,7 @@
 // Sets of nodes as 64-bit words: node v is bit v % 64 of word v / 64.
 ghost use mathlib.Core.Path.{_≡_};
 ghost use Prim.Native.Nat.{_*_, _/_, _^_, _<_, _≤_};
-ghost use lib.Dec.{ltb};
+ghost use lib.Dec.{eqb, ltb};
 ghost use lib.ListN.{length, replicate};
 ghost use Rattle.model.specs.Basics.{upTo, keep, firstOf};
 ghost use Rattle.nodeset.specs.NodeSet.{member, with, both, without};
@@ -14,6 +14,16 @@ pub fn insert(words: &mut [u64], v: usize)
     let i = v / 64;
     let k = v % 64;
     words[i] = words[i] | (1u64 << k);
+}
+
+// Takes a node out of the set.
+pub fn take_out(words: &mut [u64], v: usize)
+    requires { ⌜ v / 64 < length (now words) ⌝ }
+    ensures { λ _. ⌜ member (now (words .exit)) ≡ without (member (now (words .entry))) (λ x. eqb x v) ⌝ }
+{
+    let i = v / 64;
+    let k = v % 64;
+    words[i] = words[i] & !(1u64 << k);
 }
 
 // Whether a node is in the set.

@@ -1,7 +1,7 @@
 -- Breadth-first search finds the fewest links: the argument over the row and the queue alone, for any links.
 -- Assumes nothing.
 use mathlib.Core.Path.{_≡_, refl, sym, ap, _∙_, subst, subst₂}
-use mathlib.Core.Logic.{_⊎_, inl, inr}
+use mathlib.Core.Logic.{_⊎_, inl, inr, ⊎-elim}
 use mathlib.Core.Bool.{Bool, true, false, _&&_}
 use mathlib.Core.List.{List, [], _∷_, map}
 use Prim.Native.Nat.{ℕ, _+_, _≤_, _<_}
@@ -13,7 +13,7 @@ use lib.ListN.{length, getD, length-set}
 use lib.Seq.{getD-set-same, getD-set-other, ext-getD}
 use Rattle.model.specs.Basics.{none, if_then_else_, has, upTo}
 use Rattle.model.specs.Graph.{Edges, Chain, here, link, Apart, Fewest, fewest}
-use Rattle.model.proofs.Tests.{eq-or, is, isnt}
+use Rattle.model.proofs.Tests.{eq-or, lt-or, is, isnt}
 use Rattle.model.proofs.Lists.{none-in, of-single, of-cons, has-head, has-tail}
 use Rattle.model.proofs.Loops.{below-next}
 use Rattle.model.proofs.Entries.{getD-row, length-row}
@@ -226,6 +226,27 @@ advance {E} {s} {n} {p} {head} S l all = record {
       (λ i a. S .taken i w a)
       (λ k t. let r = all w t in (r .0, r .1, r .2, S .near head (r .0) (le-refl head) k (r .1)))
       i h;
+}
+
+-- the head moves to the queue's end, once the links of all its nodes lead to nodes of the queue
+
+pub finish : {E : Edges} {s n : ℕ} {p : Progress} {head : ℕ} → Invariant E s n p head
+    → ((i w : ℕ) → i < p .tail → T (E (at p i) w) → Queued p w) → Invariant E s n p (p .tail)
+finish {E} {s} {n} {p} {head} S all = record {
+  few = S .few;
+  row-length = S .row-length;
+  queue-length = S .queue-length;
+  count = S .count;
+  some = S .some;
+  source = S .source;
+  node = S .node;
+  queued = S .queued;
+  small = S .small;
+  chain = S .chain;
+  sorted = S .sorted;
+  near = λ i j h k. absurd (omega arith);
+  taken = λ i w h k t.
+      ⊎-elim (λ b. S .taken i w b k t) (λ b. let r = all i w k t in (r .0, r .1, r .2, S .near i (r .0) b k (r .1))) (lt-or i head);
 }
 
 -- ---- the end: every node of the queue was taken

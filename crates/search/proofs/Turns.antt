@@ -7,17 +7,18 @@ use mathlib.Core.List.{List, map}
 use Prim.Native.Nat.{ℕ, _+_, _≤_, _<_}
 use native.Mathlib.Nat.{not-suc-le-zero, le-refl}
 use native.Mathlib.Omega.{arith}
-use lib.Dec.{T}
+use borrow.Author.Tests.{eq-eqb}
+use lib.Dec.{T, eqb}
 use lib.ListN.{length, getD, set, replicate, length-set, length-replicate, getD-replicate}
 use lib.Seq.{getD-set-same, getD-set-other}
 use Rattle.model.specs.Basics.{none, upTo, has}
 use Rattle.model.specs.Graph.{Edges, between, Chain, here, link, fewest}
 use Rattle.model.specs.Survey.{Graph, linked, IsGraph}
-use Rattle.model.proofs.Tests.{and-l, and-r, and-i, eq-or}
+use Rattle.model.proofs.Tests.{and-l, and-r, and-i, eq-or, true-T}
 use Rattle.model.proofs.Acceptance.{linked-has, linked-of, linked-ends}
-use Rattle.search.specs.Visiting.{Progress, progress, visitedAll}
+use Rattle.search.specs.Visiting.{Progress, progress, visitedAll, Unvisited}
 use Rattle.search.proofs.Visiting.{unreached-set, unreached-all}
-use Rattle.search.proofs.Bfs.{at, dist, Queued, Invariant, Kept, all-keep, advance, distances}
+use Rattle.search.proofs.Bfs.{at, dist, Queued, Invariant, Kept, all-keep, advance, finish, distances}
 
 -- ---- the start: the source alone has a distance
 
@@ -100,6 +101,22 @@ module _ (allowed : ℕ → Bool) (n : ℕ) (G : Graph) (s : ℕ) (p : Progress)
             → T (between allowed (linked n G) (at p head) w) → Queued q w
         reached k w u =
             k .found w (linked-has n G (at p head) w (between-link allowed (linked n G) (at p head) w u)) (between-end allowed (linked n G) (at p head) w u)
+
+  -- ---- no node is left: the others of the queue lead to no new node
+
+  module _ (unvisited : ℕ → Bool) (o : Unvisited allowed unvisited (p .row)) (nobody : (x : ℕ) → x < n → T (unvisited x) → ⊥) where
+    pub search-skip : Invariant (between allowed (linked n G)) s n p (p .tail)
+    search-skip = finish S (λ i w k t.
+        let b : w < n = linked-ends n G (at p i) w (S .node i k) (between-link allowed (linked n G) (at p i) w t) in
+        S .queued w b (λ e. nobody w b (subst T (sym (o w (rw (S .row-length) b)))
+        (and-i (eqb (getD (p .row) w 0) none) (allowed w) (true-T (eqb (getD (p .row) w 0) none) (eq-eqb (getD (p .row) w 0) none e)) (between-end allowed (linked n G) (at p i) w t)))))
+
+  -- ---- the next turn
+
+  pub search-next : (next head′ : ℕ) → head′ ≡ head → (unvisited : ℕ → Bool) → Unvisited allowed unvisited (p .row)
+      → (next ≡ head′) ⊎ ((next ≡ p .tail) × ((x : ℕ) → x < n → T (unvisited x) → ⊥)) → Invariant (between allowed (linked n G)) s n p next
+  search-next next head′ q unvisited o (inl e) = subst (λ (h : ℕ). Invariant (between allowed (linked n G)) s n p h) (sym (e ∙ q)) S
+  search-next next head′ q unvisited o (inr r) = subst (λ (h : ℕ). Invariant (between allowed (linked n G)) s n p h) (sym (r .0)) (search-skip unvisited o (r .1))
 
   -- ---- the end
 

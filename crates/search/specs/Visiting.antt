@@ -1,8 +1,9 @@
 -- What visiting a node does to a search's row and queue.
 -- Assumes nothing.
+use mathlib.Core.Path.{_≡_}
 use mathlib.Core.Bool.{Bool, _&&_}
 use mathlib.Core.List.{List, [], _∷_}
-use Prim.Native.Nat.{ℕ, _+_}
+use Prim.Native.Nat.{ℕ, _+_, _<_}
 use lib.Dec.{eqb}
 use lib.ListN.{length, getD, set}
 use Rattle.model.specs.Basics.{none, if_then_else_, keep}
@@ -32,3 +33,7 @@ visited allowed d w p = if eqb (getD (p .row) w 0) none && allowed w then joined
 unfoldable pub visitedAll : (ℕ → Bool) → ℕ → List ℕ → Progress → Progress
 visitedAll allowed d [] p = p
 visitedAll allowed d (w ∷ ws) p = visitedAll allowed d ws (visited allowed d w p)
+
+-- the nodes of a row that a search can still find: those that are allowed and have no distance
+abbrev pub Unvisited : (allowed unvisited : ℕ → Bool) → List ℕ → Type 0
+Unvisited allowed unvisited row = (x : ℕ) → x < length row → unvisited x ≡ (eqb (getD row x 0) none && allowed x)

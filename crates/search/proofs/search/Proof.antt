@@ -1,130 +1,104 @@
 -- `search::search` meets its contract. The loop's invariant is that of breadth-first search; each turn takes one node, so n - head falls.
 -- Assumes nothing.
-use mathlib.Core.Path.{refl, sym, ap, _∙_}
-use mathlib.Core.Bool.{Bool}
-use Prim.Native.Nat.{ℕ, _-_, _<_}
+use mathlib.Core.Path.{_≡_, refl, sym, ap, _∙_}
+use mathlib.Core.Logic.{⊎-elim}
+use Prim.Native.Nat.{ℕ, _+_, _-_}
 use native.Mathlib.Omega.{arith}
-use lib.ListN.{getD, replicate}
+use lib.ListN.{length, replicate}
 use borrow.Author.Needs.{needs}
 use Rattle.model.specs.Basics.{none}
 use Rattle.model.specs.Graph.{between}
-use Rattle.model.specs.Survey.{Graph, neighboursOf, linked}
+use Rattle.model.specs.Survey.{neighboursOf, linked}
 use Rattle.nodeset.specs.NodeSet.{member}
 use Rattle.survey.proofs.RowLaws.{rows-of}
-use Rattle.search.specs.Visiting.{progress}
+use Rattle.search.specs.Visiting.{progress, Unvisited}
+use Rattle.search.proofs.Visiting.{longer, unvisited-row}
 use Rattle.search.proofs.Bfs.{Invariant}
-use Rattle.search.proofs.Turns.{search-start, own-below, search-turn, search-end}
+use Rattle.search.proofs.Turns.{search-start, own-below, search-turn, search-next, search-end}
 use Rattle.search.proofs.search.Statement.{statement}
 use Rattle.search.proofs.search.Tie as tie
+use Rattle.search.proofs.search.Reads as reads
+use Rattle.search.proofs.search.Lts as lts
+use Rattle.lists.proofs.fill16.Reads as fill16-reads
+use Rattle.search.proofs.next_place.Reads as next-place-reads
+use Rattle.search.proofs.unvisited_nodes.Reads as unvisited-nodes-reads
+use Rattle.search.proofs.visit_all.Reads as visit-all-reads
+use Rattle.survey.proofs.own.Reads as own-reads
 
 abbrev Inv-loop : tie.InvT-loop
-Inv-loop n starts neighbours allowed source row₀ queue₀ head₀ tail₀ row queue head tail =
-    Invariant (between (member allowed) (linked n (neighboursOf starts neighbours))) source n (progress row queue tail) head
+Inv-loop n starts neighbours allowed source row₀ unvisited₀ queue₀ head₀ tail₀ row unvisited queue head tail = Invariant (between (member allowed) (linked n (neighboursOf starts neighbours))) source n (progress row queue tail) head × (length unvisited ≡ 16) × Unvisited (member allowed) (member unvisited) row
 
 abbrev μ-loop : tie.MeasureT-loop
-μ-loop n starts neighbours allowed source row₀ queue₀ head₀ tail₀ row queue head tail = n - head
-
--- where the loop begins, and where one of its turns does
-abbrev Begun : Type 0
-Begun = tie.After-slice-known2 Inv-loop μ-loop
-
-abbrev Turn : Type 0
-Turn = tie.In-loop Inv-loop μ-loop
-
-abbrev start : Begun → tie.Start Inv-loop μ-loop
-start c = c .before .before .before .before .before .before .before .before
-
--- the allowed nodes and the graph
-abbrev allowed-by : tie.Start Inv-loop μ-loop → ℕ → Bool
-allowed-by s = member (s .args .allowed .now)
-
-abbrev graph : tie.Start Inv-loop μ-loop → Graph
-graph s = neighboursOf (s .args .starts .now) (s .args .neighbours .now)
-
--- the node at the head
-abbrev node : Turn → ℕ
-node c = getD (c .before .loop .queue) (c .before .loop .head) 0
-
-ahead : (c : Turn) → c .before .loop .head < c .before .loop .tail
-ahead c = omega arith
-
-below : (c : Turn) → node c < start (c .before .before) .args .n
-below c = c .before .loop .inv .node (c .before .loop .head) (ahead c)
-
-near : (c : Turn) → getD (c .before .loop .row) (node c) 0 < 1024
-near c = let S = c .before .loop .inv in omega (arith, S .small (c .before .loop .head) (ahead c), S .count, S .few)
+μ-loop n starts neighbours allowed source row₀ unvisited₀ queue₀ head₀ tail₀ row unvisited queue head tail = n - head
 
 fill16-requires : tie.Need-fill16-requires Inv-loop μ-loop
 fill16-requires c κs = search needs
 
 mul-row : tie.Need-mul-row Inv-loop μ-loop
-mul-row c = omega (arith, c .before .before .fill16 .kept .0)
+mul-row c = omega (arith, (c .before .before .fill16 .kept .0), (c .before .before .before .before .before .before .before .before .pre .1 .0), (c .before .before .before .before .before .before .before .before .pre .1 .2))
 
 slice-write-row : tie.Need-slice-write-row Inv-loop μ-loop
-slice-write-row c = omega (arith, c .before .before .fill16 .kept .0)
+slice-write-row c = omega (arith, (c .before .before .fill16 .kept .0), (c .before .before .before .before .before .before .before .before .pre .1 .0), (c .before .before .before .before .before .before .before .before .pre .1 .2))
+
+slice-aggregate-unvisited-nodes : tie.Need-slice-aggregate-unvisited-nodes Inv-loop μ-loop
+slice-aggregate-unvisited-nodes c = search needs
+
+unvisited-nodes-requires : tie.Need-unvisited-nodes-requires Inv-loop μ-loop
+unvisited-nodes-requires c κs = ((c .before .before .before .before .before .before .before .before .before .pre .0 .0 .size), (c .before .before .before .before .before .before .before .before .before .pre .0 .1), (c .before .before .before .before .before .before .before .before .before .pre .1 .0), refl)
 
 cast-queue : tie.Need-cast-queue Inv-loop μ-loop
-cast-queue c = omega (arith, start c .pre .0 .0 .size)
+cast-queue c = omega (arith, (c .before .before .before .before .before .before .before .before .before .before .before .pre .0 .0 .size), (c .before .before .before .before .before .before .before .before .before .before .before .pre .1 .0))
 
 array-write-queue : tie.Need-array-write-queue Inv-loop μ-loop
 array-write-queue c = search needs
 
 loop-holds : tie.Need-loop-holds Inv-loop μ-loop
-loop-holds c =
-    let s = start c in
-    search-start _ (s .args .source) (s .args .n) (s .pre .0 .0 .size) (s .pre .1 .0) _ refl refl _
-    (c .before .before .fill16 .ensures ∙ ap (λ (k : ℕ). replicate k none) (s .pre .1 .2))
+loop-holds c = (search-start _ (c .before .before .before .before .before .before .before .before .before .before .before .args .source) (c .before .before .before .before .before .before .before .before .before .before .before .args .n) (c .before .before .before .before .before .before .before .before .before .before .before .pre .0 .0 .size) (c .before .before .before .before .before .before .before .before .before .before .before .pre .1 .0) _ refl refl _ ((c .before .before .before .before .before .fill16 .ensures) ∙ ap (λ (k : ℕ). replicate k none) (c .before .before .before .before .before .before .before .before .before .before .before .pre .1 .2)), (c .before .unvisited-nodes .kept .1 .1 .1 .0), unvisited-row (member (c .before .before .before .before .before .before .before .before .before .before .before .args .allowed .now)) _ (c .before .before .before .before .before .before .before .before .before .before .before .args .n) (c .before .before .before .before .before .before .before .before .before .before .before .args .source) _ ((c .before .before .before .before .before .fill16 .ensures) ∙ ap (λ (k : ℕ). replicate k none) (c .before .before .before .before .before .before .before .before .before .before .before .pre .1 .2)) (c .before .unvisited-nodes .ensures))
 
 mul-v : tie.Need-mul-v Inv-loop μ-loop
-mul-v c = omega arith
+mul-v c = omega (arith, (c .loop-test .taken), (c .before .loop .inv .0 .count), (c .before .loop .inv .0 .few), (c .before .loop .inv .0 .queue-length), (c .before .loop .inv .0 .row-length))
 
 array-read-v : tie.Need-array-read-v Inv-loop μ-loop
-array-read-v c = omega arith
+array-read-v c = omega (arith, (c .loop-test .taken), (c .before .loop .inv .0 .count), (c .before .loop .inv .0 .few), (c .before .loop .inv .0 .queue-length), (c .before .loop .inv .0 .row-length))
 
 cast-v : tie.Need-cast-v Inv-loop μ-loop
-cast-v c = omega (arith, below c)
+cast-v c = omega (arith, ((c .before .loop .inv .0 .node) (c .before .loop .head) (c .loop-test .taken)), (c .before .loop .inv .0 .count), (c .before .loop .inv .0 .few), (c .before .loop .inv .0 .queue-length), (c .before .loop .inv .0 .row-length))
 
 mul-d : tie.Need-mul-d Inv-loop μ-loop
-mul-d c = omega (arith, below c)
+mul-d c = omega (arith, ((c .before .loop .inv .0 .node) (c .before .loop .head) (c .loop-test .taken)), (c .before .loop .inv .0 .count), (c .before .loop .inv .0 .few), (c .before .loop .inv .0 .queue-length), (c .before .loop .inv .0 .row-length))
 
 slice-read-d : tie.Need-slice-read-d Inv-loop μ-loop
-slice-read-d c = omega (arith, below (c .before))
+slice-read-d c = omega (arith, ((c .before .before .loop .inv .0 .node) (c .before .before .loop .head) (c .before .loop-test .taken)), (c .before .before .loop .inv .0 .count), (c .before .before .loop .inv .0 .few), (c .before .before .loop .inv .0 .queue-length), (c .before .before .loop .inv .0 .row-length))
 
 add-d : tie.Need-add-d Inv-loop μ-loop
-add-d c = omega (arith, near (c .before))
+add-d c = omega (arith, (c .before .before .loop .inv .0 .small) (c .before .before .loop .head) (c .before .loop-test .taken), (c .before .before .loop .inv .0 .count), (c .before .before .loop .inv .0 .few), (c .before .loop-test .taken))
 
 own-requires : tie.Need-own-requires Inv-loop μ-loop
-own-requires c κs = (rows-of (start (c .before .before .before) .pre .0 .0), below (c .before))
+own-requires c κs = (rows-of (c .before .before .before .before .before .before .before .before .before .before .before .before .before .before .pre .0 .0), ((c .before .before .loop .inv .0 .node) (c .before .before .loop .head) (c .before .loop-test .taken)))
+
+slice-aggregate-visit-all : tie.Need-slice-aggregate-visit-all Inv-loop μ-loop
+slice-aggregate-visit-all c = search needs
 
 visit-all-requires : tie.Need-visit-all-requires Inv-loop μ-loop
-visit-all-requires c κs =
-    let t : Turn = c .before .before .before .before in
-    let s = start (t .before .before) in
-    let S = t .before .loop .inv in (
-      (own-below (allowed-by s) (s .args .n) (graph s) _ _ _ S (ahead t) (s .pre .0 .0 .lists .graph) _ (c .before .before .own .ensures), omega (arith, near t)),
-      (omega (arith, S .few, S .row-length), s .pre .0 .1, S .count ∙ sym (S .row-length)),
-    )
+visit-all-requires c κs = ((own-below (member (c .before .before .before .before .before .before .before .before .before .before .before .before .before .before .before .before .before .before .args .allowed .now)) (c .before .before .before .before .before .before .before .before .before .before .before .before .before .before .before .before .before .before .args .n) (neighboursOf (c .before .before .before .before .before .before .before .before .before .before .before .before .before .before .before .before .before .before .args .starts .now) (c .before .before .before .before .before .before .before .before .before .before .before .before .before .before .before .before .before .before .args .neighbours .now)) _ _ _ (c .before .before .before .before .before .before .loop .inv .0) (c .before .before .before .before .before .loop-test .taken) (c .before .before .before .before .before .before .before .before .before .before .before .before .before .before .before .before .before .before .pre .0 .0 .lists .graph) _ (c .before .before .before .own .ensures), omega (arith, (c .before .before .before .before .before .before .loop .inv .0 .small) (c .before .before .before .before .before .before .loop .head) (c .before .before .before .before .before .loop-test .taken), (c .before .before .before .before .before .before .loop .inv .0 .count), (c .before .before .before .before .before .before .loop .inv .0 .few), (c .before .before .before .before .before .loop-test .taken))), ((omega (arith, (c .before .before .before .before .before .before .loop .inv .0 .count), (c .before .before .before .before .before .before .loop .inv .0 .few), (c .before .before .before .before .before .before .loop .inv .0 .queue-length), (c .before .before .before .before .before .before .loop .inv .0 .row-length)), (c .before .before .before .before .before .before .loop .inv .0 .count) ∙ sym (c .before .before .before .before .before .before .loop .inv .0 .row-length)), ((c .before .before .before .before .before .before .loop .inv .1), (c .before .before .before .before .before .before .loop .inv .2))))
 
-add-head : tie.Need-add-head Inv-loop μ-loop
-add-head c = omega arith
+slice-aggregate-next-place : tie.Need-slice-aggregate-next-place Inv-loop μ-loop
+slice-aggregate-next-place c = search needs
+
+next-place-requires : tie.Need-next-place-requires Inv-loop μ-loop
+next-place-requires c κs = ((c .before .before .before .before .before .before .before .before .before .before .before .before .before .before .before .before .before .before .before .before .before .before .before .pre .0 .0 .size), ((c .before .before .before .before .visit-all .kept .1 .1 .1 .0) ∙ (c .before .before .before .before .before .before .before .before .before .before .before .loop .inv .1)), omega (arith, (c .before .before .before .before .before .before .before .before .before .before .loop-test .taken), longer _ _ _ _ _ (c .before .before .before .before .visit-all .ensures .0)))
 
 loop-less : tie.Need-loop-less Inv-loop μ-loop
-loop-less c = let t : Turn = c .before .before .before .before .before .before .before in omega (arith, ahead t, t .before .loop .inv .count)
+loop-less c = ⊎-elim (λ e. omega (arith, e, (c .before .before .before .before .before .before .before .before .before .before .before .loop-test .taken), (c .before .before .before .before .before .before .before .before .before .before .before .before .loop .inv .0 .count), (c .before .before .before .before .before .before .before .before .before .before .before .before .loop .inv .0 .few), (c .before .before .before .before .before .before .before .before .before .before .before .before .loop .inv .0 .queue-length), (c .before .before .before .before .before .before .before .before .before .before .before .before .loop .inv .0 .row-length))) (λ r. omega (arith, r .0, (c .before .before .before .before .before .before .before .before .before .before .before .loop-test .taken), longer _ _ _ _ _ (c .before .before .before .before .before .visit-all .ensures .0), (c .before .before .before .before .before .before .before .before .before .before .before .before .loop .inv .0 .count), (c .before .before .before .before .before .before .before .before .before .before .before .before .loop .inv .0 .few), (c .before .before .before .before .before .before .before .before .before .before .before .before .loop .inv .0 .queue-length), (c .before .before .before .before .before .before .before .before .before .before .before .before .loop .inv .0 .row-length))) (c .next-place .ensures)
 
 loop-again : tie.Need-loop-again Inv-loop μ-loop
-loop-again c =
-    let t : Turn = c .before .before .before .before .before .before .before in
-    let s = start (t .before .before) in
-    search-turn (allowed-by s) (s .args .n) (graph s) _ _ _ (t .before .loop .inv) (ahead t) (s .pre .0 .0 .lists .graph) _
-    (c .before .before .before .before .before .own .ensures) (s .pre .1 .1) _ (c .before .before .visit-all .ensures)
+loop-again c = (search-next (member (c .before .before .before .before .before .before .before .before .before .before .before .before .before .before .before .before .before .before .before .before .before .before .before .before .args .allowed .now)) (c .before .before .before .before .before .before .before .before .before .before .before .before .before .before .before .before .before .before .before .before .before .before .before .before .args .n) (neighboursOf (c .before .before .before .before .before .before .before .before .before .before .before .before .before .before .before .before .before .before .before .before .before .before .before .before .args .starts .now) (c .before .before .before .before .before .before .before .before .before .before .before .before .before .before .before .before .before .before .before .before .before .before .before .before .args .neighbours .now)) (c .before .before .before .before .before .before .before .before .before .before .before .before .before .before .before .before .before .before .before .before .before .before .before .before .args .source) _ ((c .before .before .before .before .before .before .before .before .before .before .before .before .loop .head) + 1) (search-turn (member (c .before .before .before .before .before .before .before .before .before .before .before .before .before .before .before .before .before .before .before .before .before .before .before .before .args .allowed .now)) (c .before .before .before .before .before .before .before .before .before .before .before .before .before .before .before .before .before .before .before .before .before .before .before .before .args .n) (neighboursOf (c .before .before .before .before .before .before .before .before .before .before .before .before .before .before .before .before .before .before .before .before .before .before .before .before .args .starts .now) (c .before .before .before .before .before .before .before .before .before .before .before .before .before .before .before .before .before .before .before .before .before .before .before .before .args .neighbours .now)) _ _ _ (c .before .before .before .before .before .before .before .before .before .before .before .before .loop .inv .0) (c .before .before .before .before .before .before .before .before .before .before .before .loop-test .taken) (c .before .before .before .before .before .before .before .before .before .before .before .before .before .before .before .before .before .before .before .before .before .before .before .before .pre .0 .0 .lists .graph) _ (c .before .before .before .before .before .before .before .before .before .own .ensures) (c .before .before .before .before .before .before .before .before .before .before .before .before .before .before .before .before .before .before .before .before .before .before .before .before .pre .1 .1) _ (c .before .before .before .before .before .visit-all .ensures .0)) _ _ refl _ (c .before .before .before .before .before .visit-all .ensures .1) (c .next-place .ensures), ((c .before .before .before .before .before .visit-all .kept .1 .1 .1 .0) ∙ (c .before .before .before .before .before .before .before .before .before .before .before .before .loop .inv .1)), (c .before .before .before .before .before .visit-all .ensures .1))
 
 same-length : tie.Need-same-length Inv-loop μ-loop
-same-length c = c .before .loop .inv .row-length ∙ sym (start (c .before .before) .pre .1 .2)
+same-length c = (c .before .loop .inv .0 .row-length) ∙ sym (c .before .before .before .before .before .before .before .before .before .before .before .before .before .pre .1 .2)
 
 returns : tie.Need-returns Inv-loop μ-loop
-returns c =
-    let s = start (c .before .before) in
-    search-end (allowed-by s) (s .args .n) (graph s) _ _ _ (c .before .loop .inv) (omega arith) (s .pre .1 .0)
+returns c = search-end (member (c .before .before .before .before .before .before .before .before .before .before .before .before .before .args .allowed .now)) (c .before .before .before .before .before .before .before .before .before .before .before .before .before .args .n) (neighboursOf (c .before .before .before .before .before .before .before .before .before .before .before .before .before .args .starts .now) (c .before .before .before .before .before .before .before .before .before .before .before .before .before .args .neighbours .now)) _ _ _ (c .before .loop .inv .0) (c .loop-test .left) (c .before .before .before .before .before .before .before .before .before .before .before .before .before .pre .1 .0)
 
 pub search-spec : {M : Type 1} → statement M
 search-spec =
@@ -135,6 +109,8 @@ search-spec =
     fill16-requires
     mul-row
     slice-write-row
+    slice-aggregate-unvisited-nodes
+    unvisited-nodes-requires
     cast-queue
     array-write-queue
     loop-holds
@@ -145,8 +121,10 @@ search-spec =
     slice-read-d
     add-d
     own-requires
+    slice-aggregate-visit-all
     visit-all-requires
-    add-head
+    slice-aggregate-next-place
+    next-place-requires
     loop-less
     loop-again
     same-length

@@ -3,25 +3,27 @@
 use mathlib.Core.Path.{sym, _∙_}
 use native.Mathlib.Omega.{arith}
 use borrow.Author.Tests.{not-true, not-false}
-use Rattle.search.proofs.Visiting.{unreached-set, visited-new, visited-old, visited-out}
+use Rattle.search.proofs.Visiting.{unreached-set, visited-new, visited-not, unvisited-new, unvisited-joined}
+use Rattle.nodeset.specs.NodeSet.{member}
 use borrow.Author.Needs.{needs}
 use Rattle.search.proofs.visit.Statement.{statement}
 use Rattle.search.proofs.visit.Tie as tie
-
-mul-if1 : tie.Need-mul-if1
-mul-if1 c = search needs
-
-slice-read-if1 : tie.Need-slice-read-if1
-slice-read-if1 c = search needs
-
-returns : tie.Need-returns
-returns c = sym (visited-old _ _ _ _ (c .if1 .taken))
+use Rattle.search.proofs.visit.Reads as reads
+use Rattle.search.proofs.visit.Lts as lts
+use Rattle.nodeset.proofs.contains.Reads as contains-reads
+use Rattle.nodeset.proofs.take_out.Reads as take-out-reads
 
 contains-requires : tie.Need-contains-requires
 contains-requires c κs = search needs
 
-returns-2 : tie.Need-returns-2
-returns-2 c = sym (visited-out _ _ _ _ (sym (c .before .contains .ensures) ∙ not-true _ (c .if2 .taken)))
+same-length : tie.Need-same-length
+same-length c = search needs
+
+returns : tie.Need-returns
+returns c = (sym (visited-not _ _ _ _ (sym ((c .before .before .before .before .before .before .pre .1 .1) (c .before .before .before .before .before .before .args .w) (c .before .before .before .before .before .before .pre .0 .0)) ∙ (sym (c .before .contains .ensures) ∙ not-true _ (c .if1 .taken)))), (c .before .before .before .before .before .before .pre .1 .1))
+
+take-out-requires : tie.Need-take-out-requires
+take-out-requires c κs = search needs
 
 mul-row : tie.Need-mul-row
 mul-row c = search needs
@@ -36,33 +38,34 @@ mul-queue : tie.Need-mul-queue
 mul-queue c = search needs
 
 element-write-queue : tie.Need-element-write-queue
-element-write-queue c =
-    let s = c .before .before .before .before .before .before in
-    omega (arith, unreached-set (s .args .row .now) (s .args .w) 0 (s .pre .0) (c .before .before .if1 .left) (λ e. omega arith))
+element-write-queue c = omega (arith, (c .before .before .before .before .before .before .before .before .before .before .pre .0 .1), (c .before .before .before .before .before .before .before .before .before .before .pre .0 .3), unreached-set (c .before .before .before .before .before .before .before .before .before .before .args .row .now) (c .before .before .before .before .before .before .before .before .before .before .args .w) 0 (c .before .before .before .before .before .before .before .before .before .before .pre .0 .0) (unvisited-new (member (c .before .before .before .before .before .before .before .before .before .before .args .allowed .now)) (member (c .before .before .before .before .before .before .before .before .before .before .args .unvisited .now)) (c .before .before .before .before .before .before .before .before .before .before .args .row .now) (c .before .before .before .before .before .before .before .before .before .before .pre .1 .1) (c .before .before .before .before .before .before .before .before .before .before .args .w) (c .before .before .before .before .before .before .before .before .before .before .pre .0 .0) (sym (c .before .before .before .before .before .contains .ensures) ∙ not-false _ (c .before .before .before .before .if1 .left))) (λ e. omega arith))
 
 add-result : tie.Need-add-result
 add-result c = search needs
 
-same-length : tie.Need-same-length
-same-length c = search needs
+same-length-2 : tie.Need-same-length-2
+same-length-2 c = search needs
 
-returns-3 : tie.Need-returns-3
-returns-3 c = sym (visited-new _ _ _ _ (c .before .before .if1 .left) (sym (c .before .contains .ensures) ∙ not-false _ (c .if2 .left)))
+same-length-3 : tie.Need-same-length-3
+same-length-3 c = search needs
+
+returns-2 : tie.Need-returns-2
+returns-2 c = (sym (visited-new _ _ _ _ (sym ((c .before .before .before .before .before .before .before .before .before .before .pre .1 .1) (c .before .before .before .before .before .before .before .before .before .before .args .w) (c .before .before .before .before .before .before .before .before .before .before .pre .0 .0)) ∙ (sym (c .before .before .before .before .before .contains .ensures) ∙ not-false _ (c .before .before .before .before .if1 .left)))), unvisited-joined (member (c .before .before .before .before .before .before .before .before .before .before .args .allowed .now)) (member (c .before .before .before .before .before .before .before .before .before .before .args .unvisited .now)) (c .before .before .before .before .before .before .before .before .before .before .args .row .now) (c .before .before .before .before .before .before .before .before .before .before .pre .1 .1) (c .before .before .before .before .before .before .before .before .before .before .args .w) (c .before .before .before .before .before .before .before .before .before .before .pre .0 .0) (c .before .before .before .before .before .before .before .before .before .before .args .d) (c .before .before .before .before .before .before .before .before .before .before .pre .0 .2) _ (c .before .before .take-out .ensures))
 
 pub visit-spec : {M : Type 1} → statement M
 visit-spec =
     tie.close
     (tie.spec
-    mul-if1
-    slice-read-if1
-    returns
     contains-requires
-    returns-2
+    same-length
+    returns
+    take-out-requires
     mul-row
     slice-write-row
     cast-queue
     mul-queue
     element-write-queue
     add-result
-    same-length
-    returns-3)
+    same-length-2
+    same-length-3
+    returns-2)

@@ -1,0 +1,357 @@
+//! One round: all calls on variants of one graph, its text, its lists and its tables.
+
+use crate::lent::Lent;
+use crate::lists::{self, Lists};
+use crate::tables::Tables;
+use crate::{texts, Counts};
+use comparison::common::{Random, Sample};
+use comparison::{codes, proved};
+
+pub const CALLS: [&str; 8] = [
+    "threshold",
+    "read",
+    "write",
+    "accept",
+    "build",
+    "ask",
+    "walk",
+    "test",
+];
+
+/// How many calls of each kind a round makes, in the order of `CALLS`.
+const TURNS: [usize; 8] = [1, 10, 6, 6, 4, 10, 10, 4];
+
+const JUNK_LONG: usize = 1 << 20;
+
+pub struct Round<'a> {
+    random: &'a mut Random,
+    sample: Sample,
+    /// The survey's lists and tables; the tables are empty where the graph has too many links for a survey.
+    starts: Vec<u32>,
+    neighbours: Vec<u16>,
+    built: [Vec<u16>; 3],
+}
+
+type Outcome = Result<u64, String>;
+
+/// Whether the two answers are one.
+fn same(proved: u64, reference: u64) -> Result<(), String> {
+    if proved == reference {
+        Ok(())
+    } else {
+        Err(format!(
+            "answer {proved:#x} where the second implementation has {reference:#x}"
+        ))
+    }
+}
+
+impl<'a> Round<'a> {
+    pub fn new(random: &'a mut Random, sample: Sample) -> Self {
+        let (starts, neighbours) = sample.lists();
+        let n = sample.n;
+        let [mut full, mut low, mut report] = [(); 3].map(|()| vec![0; n * n]);
+        let mut hubs = vec![0; n];
+        // refused where there are too many links: the tables are then all zero
+        let _ = reference::build(
+            n,
+            &starts,
+            &neighbours,
+            &mut full,
+            &mut low,
+            &mut report,
+            &mut hubs,
+        );
+        Round {
+            random,
+            sample,
+            starts,
+            neighbours,
+            built: [full, low, report],
+        }
+    }
+
+    /// Makes the round's calls and counts their outcomes, up to a total.
+    pub fn run(&mut self, counts: &mut Counts, cases: u64) -> Result<(), String> {
+        for call in 0..CALLS.len() {
+            for _ in 0..TURNS[call] {
+                if counts.iter().flatten().sum::<u64>() >= cases {
+                    return Ok(());
+                }
+                let code = self.call(call).map_err(|fault| {
+                    format!("{} on graph {}: {fault}", CALLS[call], self.sample.name)
+                })?;
+                counts[call][codes::refusal(code)] += 1;
+            }
+        }
+        Ok(())
+    }
+
+    fn call(&mut self, call: usize) -> Outcome {
+        match call {
+            0 => self.threshold(),
+            1 => self.read(),
+            2 => self.write(),
+            3 => self.accept(),
+            4 => self.build(),
+            5 => self.ask(),
+            6 => self.walk(),
+            _ => self.test(),
+        }
+    }
+
+    /// The survey's lists, as they are, with more behind them, or damaged.
+    fn lists(&mut self) -> Lists {
+        let mut lists = Lists {
+            starts: self.starts.clone(),
+            neighbours: self.neighbours.clone(),
+        };
+        match self.random.below(10) {
+            0..=3 => {}
+            4..=5 => lists.extend(self.random),
+            6 => {
+                lists.extend(self.random);
+                lists.damage(self.random, self.sample.n);
+            }
+            _ => lists.damage(self.random, self.sample.n),
+        }
+        lists
+    }
+
+    fn threshold(&mut self) -> Outcome {
+        let n = match self.random.below(3) {
+            0 => lists::node_count(self.random, self.sample.n),
+            _ => self.random.below(1030),
+        };
+        let code = proved::threshold(n);
+        same(code, codes::count(reference::threshold(n)))?;
+        Ok(code)
+    }
+
+    fn text(&mut self) -> Vec<u8> {
+        let valid = texts::valid(self.random, &self.sample);
+        match self.random.below(2000) {
+            0 => texts::junk(self.random, JUNK_LONG),
+            1..=200 => {
+                let length = self.random.below(300);
+                texts::junk(self.random, length)
+            }
+            201..=800 => valid,
+            _ => texts::damaged(self.random, &valid),
+        }
+    }
+
+    fn read(&mut self) -> Outcome {
+        let text = self.text();
+        let (nodes, links) = (self.sample.n, self.neighbours.len());
+        // mostly long enough for a text that names some more nodes and links, so that its lines are judged
+        let (p, q) = if self.random.percent(70) {
+            (
+                nodes + 1 + self.random.below(40),
+                links + self.random.below(40),
+            )
+        } else {
+            (
+                lists::length(self.random, nodes + 1),
+                lists::length(self.random, links),
+            )
+        };
+        let mut starts = lists::garbage32(self.random, p);
+        let mut neighbours = lists::garbage16(self.random, q);
+        let lent = Lent::new(self.random, &text);
+        let mut lent_starts = Lent::new(self.random, &starts);
+        let mut lent_neighbours = Lent::new(self.random, &neighbours);
+        let code = proved::read(
+            lent.list(),
+            lent_starts.list_mut(),
+            lent_neighbours.list_mut(),
+        );
+        let answer = reference::read(&text, &mut starts, &mut neighbours);
+        same(code, codes::size(answer))?;
+        lent.check("text", &text)?;
+        lent_starts.check("starts", &starts)?;
+        lent_neighbours.check("neighbours", &neighbours)?;
+        Ok(code)
+    }
+
+    fn write(&mut self) -> Outcome {
+        let n = lists::node_count(self.random, self.sample.n);
+        let lists = self.lists();
+        let needed = self.sample.text().len();
+        let length = lists::length(self.random, needed);
+        let mut buffer: Vec<u8> = (0..length).map(|_| self.random.next() as u8).collect();
+        let starts = Lent::new(self.random, &lists.starts);
+        let neighbours = Lent::new(self.random, &lists.neighbours);
+        let mut lent = Lent::new(self.random, &buffer);
+        let code = proved::write(n, starts.list(), neighbours.list(), lent.list_mut());
+        let answer = reference::write(n, &lists.starts, &lists.neighbours, &mut buffer);
+        same(code, codes::count(answer))?;
+        starts.check("starts", &lists.starts)?;
+        neighbours.check("neighbours", &lists.neighbours)?;
+        lent.check("buffer", &buffer)?;
+        Ok(code)
+    }
+
+    fn accept(&mut self) -> Outcome {
+        let n = lists::node_count(self.random, self.sample.n);
+        let lists = self.lists();
+        let starts = Lent::new(self.random, &lists.starts);
+        let neighbours = Lent::new(self.random, &lists.neighbours);
+        let code = proved::accept(n, starts.list(), neighbours.list());
+        same(
+            code,
+            codes::nothing(reference::accept(n, &lists.starts, &lists.neighbours)),
+        )?;
+        starts.check("starts", &lists.starts)?;
+        neighbours.check("neighbours", &lists.neighbours)?;
+        Ok(code)
+    }
+
+    fn build(&mut self) -> Outcome {
+        let n = lists::node_count(self.random, self.sample.n);
+        let lists = self.lists();
+        let square = self.sample.n * self.sample.n;
+        let wanted = [square, square, square, self.sample.n];
+        // one length in four is free, so that most calls are not refused 8
+        let free = self.random.below(8);
+        let mut tables = wanted.map(|length| lists::garbage16(self.random, length + 3));
+        for (k, table) in tables.iter_mut().enumerate() {
+            if k == free {
+                table.truncate(lists::length(self.random, wanted[k]));
+            }
+        }
+        let starts = Lent::new(self.random, &lists.starts);
+        let neighbours = Lent::new(self.random, &lists.neighbours);
+        let mut lent = [0, 1, 2, 3].map(|k| Lent::new(self.random, &tables[k]));
+        let [full, low, report, hubs] = &mut lent;
+        let code = proved::build(
+            n,
+            starts.list(),
+            neighbours.list(),
+            full.list_mut(),
+            low.list_mut(),
+            report.list_mut(),
+            hubs.list_mut(),
+        );
+        let [full, low, report, hubs] = &mut tables;
+        let answer = reference::build(n, &lists.starts, &lists.neighbours, full, low, report, hubs);
+        same(code, codes::count(answer))?;
+        starts.check("starts", &lists.starts)?;
+        neighbours.check("neighbours", &lists.neighbours)?;
+        for (k, name) in ["full", "low", "report", "hubs"].iter().enumerate() {
+            lent[k].check(name, &tables[k])?;
+        }
+        Ok(code)
+    }
+
+    /// The built tables, as they are or altered.
+    fn tables(&mut self, a: usize, b: usize) -> Tables {
+        let [full, low, report] = self.built.clone();
+        let mut tables = Tables { full, low, report };
+        if self.random.percent(50) {
+            tables.alter(self.random, self.sample.n, a, b);
+        }
+        tables
+    }
+
+    fn ask(&mut self) -> Outcome {
+        let true_n = self.sample.n;
+        let n = lists::node_count(self.random, true_n);
+        let (a, b) = (
+            lists::node(self.random, true_n),
+            lists::node(self.random, true_n),
+        );
+        let tables = self.tables(a, b);
+        let [full, low, report] =
+            [&tables.full, &tables.low, &tables.report].map(|table| Lent::new(self.random, table));
+        let code = proved::ask(n, full.list(), low.list(), report.list(), a, b);
+        let answer = reference::ask(n, &tables.full, &tables.low, &tables.report, a, b);
+        same(code, codes::answer(answer))?;
+        full.check("full", &tables.full)?;
+        low.check("low", &tables.low)?;
+        report.check("report", &tables.report)?;
+        Ok(code)
+    }
+
+    /// Lists for a walk: mostly the survey's own, since asking is judged behind them.
+    fn walk_lists(&mut self) -> Lists {
+        if self.random.percent(20) {
+            return self.lists();
+        }
+        Lists {
+            starts: self.starts.clone(),
+            neighbours: self.neighbours.clone(),
+        }
+    }
+
+    fn walk(&mut self) -> Outcome {
+        let true_n = self.sample.n;
+        let n = lists::node_count(self.random, true_n);
+        let (a, b) = (
+            lists::node(self.random, true_n),
+            lists::node(self.random, true_n),
+        );
+        let lists = self.walk_lists();
+        let tables = self.tables(a, b);
+        let report = self.built[2]
+            .get(a.wrapping_mul(true_n).wrapping_add(b))
+            .copied()
+            .unwrap_or(0);
+        let wanted = if self.random.percent(50) {
+            2 * true_n
+        } else {
+            usize::from(report % 3000) + 1
+        };
+        let length = lists::length(self.random, wanted);
+        let mut walk = lists::garbage16(self.random, length);
+        let starts = Lent::new(self.random, &lists.starts);
+        let neighbours = Lent::new(self.random, &lists.neighbours);
+        let [full, low, report] =
+            [&tables.full, &tables.low, &tables.report].map(|table| Lent::new(self.random, table));
+        let mut lent = Lent::new(self.random, &walk);
+        let code = proved::walk(
+            n,
+            starts.list(),
+            neighbours.list(),
+            full.list(),
+            low.list(),
+            report.list(),
+            a,
+            b,
+            lent.list_mut(),
+        );
+        let answer = reference::walk(
+            n,
+            &lists.starts,
+            &lists.neighbours,
+            &tables.full,
+            &tables.low,
+            &tables.report,
+            a,
+            b,
+            &mut walk,
+        );
+        same(code, codes::answer(answer))?;
+        starts.check("starts", &lists.starts)?;
+        neighbours.check("neighbours", &lists.neighbours)?;
+        full.check("full", &tables.full)?;
+        low.check("low", &tables.low)?;
+        report.check("report", &tables.report)?;
+        lent.check("walk", &walk)?;
+        Ok(code)
+    }
+
+    fn test(&mut self) -> Outcome {
+        let n = lists::node_count(self.random, self.sample.n);
+        let lists = self.lists();
+        let starts = Lent::new(self.random, &lists.starts);
+        let neighbours = Lent::new(self.random, &lists.neighbours);
+        let code = proved::test(n, starts.list(), neighbours.list());
+        same(
+            code,
+            codes::tested(reference::test(n, &lists.starts, &lists.neighbours)),
+        )?;
+        starts.check("starts", &lists.starts)?;
+        neighbours.check("neighbours", &lists.neighbours)?;
+        Ok(code)
+    }
+}

@@ -1,0 +1,123 @@
+//! Compares every call of the proved library with the second implementation: `compare CASES SEED`.
+//!
+//! A case is one call of both on the same input. Answers are compared, and every lent list whole, between guard words.
+
+mod calls;
+mod lent;
+mod lists;
+mod tables;
+mod texts;
+
+use calls::{Round, CALLS};
+use comparison::common::{self, Random, Sample};
+use comparison::graphs;
+use std::process::ExitCode;
+use std::time::{Duration, Instant};
+
+/// How often each call was answered (place 0) or refused with a number.
+pub type Counts = [[u64; 13]; CALLS.len()];
+
+fn main() -> ExitCode {
+    let arguments: Vec<u64> = std::env::args()
+        .skip(1)
+        .filter_map(|word| word.parse().ok())
+        .collect();
+    let [cases, seed] = arguments[..] else {
+        eprintln!("usage: compare CASES SEED");
+        return ExitCode::FAILURE;
+    };
+    let mut counts = Counts::default();
+    match run(cases, seed, &mut counts) {
+        Ok(()) => {
+            print_counts(&counts);
+            println!("{cases} cases agree, seed {seed}");
+            ExitCode::SUCCESS
+        }
+        Err(message) => {
+            println!("{message}");
+            ExitCode::FAILURE
+        }
+    }
+}
+
+/// Runs rounds, each on a graph of its own, until there were enough cases.
+fn run(cases: u64, seed: u64, counts: &mut Counts) -> Result<(), String> {
+    let begun = Instant::now();
+    let mut shown = begun;
+    let mut round = 0;
+    while total(counts) < cases {
+        let mut random = Random::new(seed.wrapping_mul(1_000_003).wrapping_add(round));
+        let sample = choose_graph(&mut random);
+        Round::new(&mut random, sample)
+            .run(counts, cases)
+            .map_err(|fault| format!("seed {seed}, round {round}: {fault}"))?;
+        round += 1;
+        if shown.elapsed() > Duration::from_secs(5) {
+            shown = Instant::now();
+            eprintln!(
+                "{} of {cases} cases, {} s",
+                total(counts),
+                begun.elapsed().as_secs()
+            );
+        }
+    }
+    Ok(())
+}
+
+fn total(counts: &Counts) -> u64 {
+    counts.iter().flatten().sum()
+}
+
+/// Mostly small graphs, now and then one with as many nodes or links as a survey may have.
+fn choose_graph(random: &mut Random) -> Sample {
+    let n = match random.below(1000) {
+        0..=499 => 1 + random.below(12),
+        500..=899 => 1 + random.below(40),
+        900..=989 => 1 + random.below(130),
+        990..=996 => 1 + random.below(400),
+        _ => 1024 - random.below(3),
+    };
+    if n > 200 {
+        let links = if random.percent(50) { 16384 } else { 2 * n };
+        let high = random.below(1 + n / 8);
+        return graphs::with_high(random, n, links, high);
+    }
+    match random.below(14) {
+        0 => Sample::new("no link", n),
+        1 => common::path(n),
+        2 => common::cycle(n),
+        3 => {
+            let centre = random.below(n);
+            common::star(n, centre)
+        }
+        4 => common::tree(random, n),
+        5 => common::blocks(n, 1 + random.below(3)),
+        6 => common::joined_blocks(n, 1 + random.below(4)),
+        7 => common::complete_and_path(n, n * 2 / 3),
+        8 => common::two_parts(n, random.below(n + 1)),
+        9 => {
+            let (links, high) = (random.below(3 * n + 1), random.below(n));
+            graphs::with_high(random, n, links, high)
+        }
+        _ => {
+            let chance = random.below(100);
+            common::random_links(random, n, chance)
+        }
+    }
+    .renumbered(random)
+}
+
+fn print_counts(counts: &Counts) {
+    print!("{:10}{:>9}", "call", "answered");
+    (1..13).for_each(|number| print!("{number:>8}"));
+    println!();
+    for (name, row) in CALLS.iter().zip(counts) {
+        print!("{name:10}{:>9}", row[0]);
+        row[1..].iter().for_each(|count| print!("{count:>8}"));
+        println!();
+    }
+    let sums = |number: usize| counts.iter().map(|row| row[number]).sum::<u64>();
+    print!("{:10}{:>9}", "all", sums(0));
+    (1..13).for_each(|number| print!("{:>8}", sums(number)));
+    println!();
+}

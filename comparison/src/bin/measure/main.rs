@@ -1,0 +1,405 @@
+//! The speed of the proved library beside the second implementation, a careful Rust version of the same method, and igraph's exact
+//! distances, in one process on the same input: `measure [MILLISECONDS]`, the time given to each measurement.
+//!
+//! Lists and tables are allocated and written before a measurement and kept through it, so no page is met for the first time. They
+//! are not cleared between repetitions. A time is the least of many repetitions.
+
+mod exact;
+
+use comparison::common::{Random, Sample};
+use comparison::{careful, codes, graphs, proved};
+use exact::Exact;
+use reference::NONE;
+use std::hint::black_box;
+use std::time::{Duration, Instant};
+
+const CALLS: [&str; 7] = ["read", "write", "accept", "build", "ask", "walk", "test"];
+const PAIRS: usize = 64;
+
+/// A survey with its text and what the calls are lent.
+struct Lent {
+    n: usize,
+    text: Vec<u8>,
+    starts: Vec<u32>,
+    neighbours: Vec<u16>,
+    read_starts: Vec<u32>,
+    read_neighbours: Vec<u16>,
+    buffer: Vec<u8>,
+    full: Vec<u16>,
+    low: Vec<u16>,
+    report: Vec<u16>,
+    hubs: Vec<u16>,
+    walk: Vec<u16>,
+    pairs: Vec<(usize, usize)>,
+}
+
+/// Seconds for each call of one implementation.
+type Times = [f64; CALLS.len()];
+
+struct Row {
+    n: usize,
+    links: usize,
+    high: usize,
+    hubs: usize,
+    bytes: usize,
+    times: [Times; 3],
+    sum: f64,
+    exact: Option<f64>,
+}
+
+fn main() {
+    let budget = std::env::args()
+        .nth(1)
+        .and_then(|word| word.parse().ok())
+        .unwrap_or(150);
+    let budget = Duration::from_millis(budget);
+    let mut rows = Vec::new();
+    for n in [128, 512, 1024] {
+        for dense in [false, true] {
+            for share in [0, 1, 2] {
+                let sample = make(n, dense, share);
+                let row = measure(&sample, budget);
+                print_row(&row);
+                rows.push(row);
+            }
+        }
+    }
+    print_growth(&rows);
+    print_targets(&rows);
+}
+
+/// A random survey: sparse (two links a node) or as many links as fit, with no, some or many high nodes.
+fn make(n: usize, dense: bool, share: usize) -> Sample {
+    let s = reference::threshold(n).expect("1 to 1,024 nodes");
+    let links = if dense { 16384 } else { 2 * n };
+    let many = match (dense, n) {
+        (false, _) => 2 * n / s,
+        (true, 1024) => 120,
+        (true, _) => n / 2,
+    };
+    let high = [0, many / 4, many][share];
+    graphs::with_high(&mut Random::new(n as u64 + links as u64), n, links, high)
+}
+
+/// The least time of a repetition.
+fn least(budget: Duration, mut call: impl FnMut()) -> f64 {
+    call();
+    let begun = Instant::now();
+    let mut least = f64::MAX;
+    let mut turns = 1;
+    while begun.elapsed() < budget {
+        let start = Instant::now();
+        for _ in 0..turns {
+            call();
+        }
+        let time = start.elapsed().as_secs_f64();
+        least = least.min(time / f64::from(turns));
+        if time < 100e-6 {
+            turns *= 2;
+        }
+    }
+    least
+}
+
+impl Lent {
+    fn new(sample: &Sample) -> Self {
+        let n = sample.n;
+        let (starts, neighbours) = sample.lists();
+        let mut random = Random::new(n as u64);
+        Lent {
+            n,
+            text: sample.text().into_bytes(),
+            read_starts: vec![1; n + 1],
+            read_neighbours: vec![1; neighbours.len()],
+            buffer: vec![1; 200_000],
+            full: vec![1; n * n],
+            low: vec![1; n * n],
+            report: vec![1; n * n],
+            hubs: vec![1; n],
+            walk: vec![1; 2 * n],
+            pairs: (0..PAIRS)
+                .map(|_| (random.below(n), random.below(n)))
+                .collect(),
+            starts,
+            neighbours,
+        }
+    }
+}
+
+/// The times of one implementation: its calls, by name.
+macro_rules! times {
+    ($lent:expr, $budget:expr, $module:path) => {{
+        use $module as calls;
+        let x: &mut Lent = $lent;
+        let read = least($budget, || {
+            let _ = black_box(calls::read(
+                &x.text,
+                &mut x.read_starts,
+                &mut x.read_neighbours,
+            ));
+        });
+        let write = least($budget, || {
+            let _ = black_box(calls::write(x.n, &x.starts, &x.neighbours, &mut x.buffer));
+        });
+        let accept = least($budget, || {
+            let _ = black_box(calls::accept(x.n, &x.starts, &x.neighbours));
+        });
+        let build = least($budget, || {
+            let _ = black_box(calls::build(
+                x.n,
+                &x.starts,
+                &x.neighbours,
+                &mut x.full,
+                &mut x.low,
+                &mut x.report,
+                &mut x.hubs,
+            ));
+        });
+        let ask = least($budget, || {
+            for &(a, b) in &x.pairs {
+                let _ = black_box(calls::ask(x.n, &x.full, &x.low, &x.report, a, b));
+            }
+        });
+        let walk = least($budget, || {
+            for &(a, b) in &x.pairs {
+                let _ = black_box(calls::walk(
+                    x.n,
+                    &x.starts,
+                    &x.neighbours,
+                    &x.full,
+                    &x.low,
+                    &x.report,
+                    a,
+                    b,
+                    &mut x.walk,
+                ));
+            }
+        });
+        let test = least($budget, || {
+            let _ = black_box(calls::test(x.n, &x.starts, &x.neighbours));
+        });
+        let pairs = PAIRS as f64;
+        [read, write, accept, build, ask / pairs, walk / pairs, test]
+    }};
+}
+
+/// Whether the careful version answers as the second implementation does, on this survey.
+fn check_careful(x: &Lent) {
+    let n = x.n;
+    let mut tables = [(); 6].map(|()| vec![7; n * n]);
+    let mut lists = [(); 2].map(|()| vec![7; n]);
+    let [full, low, report, other_full, other_low, other_report] = &mut tables;
+    let [hubs, other_hubs] = &mut lists;
+    let one = reference::build(n, &x.starts, &x.neighbours, full, low, report, hubs);
+    let other = careful::build(
+        n,
+        &x.starts,
+        &x.neighbours,
+        other_full,
+        other_low,
+        other_report,
+        other_hubs,
+    );
+    assert_eq!(one, other);
+    assert!(full == other_full && low == other_low && report == other_report && hubs == other_hubs);
+    let tested = careful::test(n, &x.starts, &x.neighbours);
+    assert_eq!(
+        codes::tested(tested),
+        proved::test(n, &x.starts, &x.neighbours)
+    );
+    let (mut walk, mut other_walk) = (vec![7; 2 * n], vec![7; 2 * n]);
+    for &(a, b) in &x.pairs {
+        let one = reference::walk(
+            n,
+            &x.starts,
+            &x.neighbours,
+            full,
+            low,
+            report,
+            a,
+            b,
+            &mut walk,
+        );
+        let other = careful::walk(
+            n,
+            &x.starts,
+            &x.neighbours,
+            full,
+            low,
+            report,
+            a,
+            b,
+            &mut other_walk,
+        );
+        assert!(one == other && walk == other_walk);
+    }
+    let mut buffer = vec![0; x.text.len()];
+    assert_eq!(
+        careful::write(n, &x.starts, &x.neighbours, &mut buffer),
+        Ok(x.text.len())
+    );
+    assert!(buffer == x.text);
+    let (mut starts, mut neighbours) = (vec![7; n + 1], vec![7; x.neighbours.len()]);
+    assert_eq!(
+        careful::read(&x.text, &mut starts, &mut neighbours),
+        Ok((n, x.neighbours.len() / 2))
+    );
+    assert!(starts == x.starts && neighbours == x.neighbours);
+}
+
+/// Each report lies between the exact distance and two more.
+fn check_reports(x: &Lent, exact: &Exact) {
+    for a in 0..x.n {
+        for b in 0..x.n {
+            let report = x.report[a * x.n + b];
+            match exact.distance(a, b) {
+                None => assert_eq!(report, NONE),
+                Some(d) => assert!(d <= report && report <= d + 2),
+            }
+        }
+    }
+}
+
+fn measure(sample: &Sample, budget: Duration) -> Row {
+    let mut x = Lent::new(sample);
+    check_careful(&x);
+    let reference = times!(&mut x, budget, reference);
+    let careful = times!(&mut x, budget, comparison::careful);
+    let proved = times!(&mut x, budget, comparison::proved);
+    let sum = least(budget, || {
+        let starts: u64 = black_box(&x.starts).iter().map(|&s| u64::from(s)).sum();
+        let neighbours: u64 = black_box(&x.neighbours).iter().map(|&s| u64::from(s)).sum();
+        black_box(starts + neighbours);
+    });
+    let exact = Exact::new(x.n, &sample.links()).map(|mut exact| {
+        let time = least(budget, || exact.run());
+        check_reports(&x, &exact);
+        time
+    });
+    let s = reference::threshold(x.n).expect("1 to 1,024 nodes");
+    Row {
+        n: x.n,
+        links: x.neighbours.len() / 2,
+        high: (0..x.n).filter(|&v| sample.degree(v) >= s).count(),
+        hubs: x.hubs.iter().filter(|&&h| h != NONE).count(),
+        bytes: x.text.len(),
+        times: [proved, reference, careful],
+        sum,
+        exact,
+    }
+}
+
+fn print_row(row: &Row) {
+    let [proved, reference, careful] = &row.times;
+    println!(
+        "{} nodes, {} links, {} high, {} hubs",
+        row.n, row.links, row.high, row.hubs
+    );
+    println!(
+        "  {:8}{:>12}{:>14}{:>12}",
+        "call", "proved, us", "second impl.", "careful"
+    );
+    for (k, call) in CALLS.iter().enumerate() {
+        println!(
+            "  {call:8}{:>12.3}{:>13.2}x{:>11.2}x",
+            proved[k] * 1e6,
+            reference[k] / proved[k],
+            careful[k] / proved[k]
+        );
+    }
+    println!(
+        "  reading {:.0} MB/s, writing {:.0} MB/s",
+        megabytes(row, 0),
+        megabytes(row, 1)
+    );
+    println!("  acceptance {:.2} times a plain sum", proved[2] / row.sum);
+    println!(
+        "  a walk less acceptance {:.2} us, in careful Rust {:.2} us",
+        (proved[5] - proved[2]) * 1e6,
+        (careful[5] - careful[2]) * 1e6
+    );
+    if let Some(exact) = row.exact {
+        println!(
+            "  igraph's exact distances {:.0} us: {:.2}x building",
+            exact * 1e6,
+            exact / proved[3]
+        );
+    }
+}
+
+fn megabytes(row: &Row, call: usize) -> f64 {
+    row.bytes as f64 / row.times[0][call] / 1e6
+}
+
+/// Time by what each call has to go through: entries of the lists, and for building entries by nodes.
+fn print_growth(rows: &[Row]) {
+    println!("growth: nanoseconds for each node and link end (n + 2m); building, for each of them and each node");
+    print!("{:>6}{:>7}{:>6}", "nodes", "links", "high");
+    CALLS.iter().for_each(|call| print!("{call:>9}"));
+    println!();
+    for row in rows {
+        print!("{:>6}{:>7}{:>6}", row.n, row.links, row.high);
+        let entries = (row.n + 2 * row.links) as f64;
+        for (k, call) in CALLS.iter().enumerate() {
+            let work = if *call == "build" {
+                entries * row.n as f64
+            } else {
+                entries
+            };
+            print!("{:>9.3}", row.times[0][k] * 1e9 / work);
+        }
+        println!();
+    }
+}
+
+/// The targets, at 1,024 nodes and 16,384 links.
+fn print_targets(rows: &[Row]) {
+    println!("targets at 1,024 nodes and 16,384 links");
+    for row in rows
+        .iter()
+        .filter(|row| row.n == 1024 && row.links == 16384)
+    {
+        let [proved, _, careful] = &row.times;
+        println!("  with {} high nodes", row.high);
+        if let Some(exact) = row.exact {
+            verdict(
+                "building beside igraph, times as fast",
+                exact / proved[3],
+                5.0,
+                true,
+            );
+        }
+        verdict(
+            "building beside careful Rust, times as fast",
+            careful[3] / proved[3],
+            1.0,
+            true,
+        );
+        verdict("reading, MB/s", megabytes(row, 0), 100.0, true);
+        verdict(
+            "acceptance, times a plain sum",
+            proved[2] / row.sum,
+            4.0,
+            false,
+        );
+        verdict(
+            "a walk, times acceptance",
+            proved[5] / proved[2],
+            1.25,
+            false,
+        );
+    }
+}
+
+fn verdict(name: &str, value: f64, bound: f64, at_least: bool) {
+    let met = if at_least {
+        value >= bound
+    } else {
+        value <= bound
+    };
+    let word = if at_least { "at least" } else { "at most" };
+    println!(
+        "    {name}: {value:.2} ({word} {bound}): {}",
+        if met { "met" } else { "missed" }
+    );
+}

@@ -1,0 +1,487 @@
+//! The same method as the proved library's, written in Rust for speed: a bit matrix when reading, one cursor for each node when
+//! accepting, bit sets for hubs, breadth-first searches without a branch for each link, which end when no node is left. It is only measured against.
+
+use reference::{Answer, Route, Tested, Verdict, NONE};
+
+const MOST_NODES: usize = 1024;
+const MOST_LINKS: usize = 16384;
+const WORDS: usize = MOST_NODES / 64;
+
+type Set = [u64; WORDS];
+
+fn contains(set: &Set, v: usize) -> bool {
+    set[v / 64] >> (v % 64) & 1 == 1
+}
+
+fn insert(set: &mut Set, v: usize) {
+    set[v / 64] |= 1 << (v % 64);
+}
+
+// Reading and writing
+
+/// A number at a place, and the place after it.
+fn number(text: &[u8], mut at: usize) -> Option<(u64, usize)> {
+    let first = at;
+    let mut value = 0;
+    while at < text.len() && text[at].is_ascii_digit() && at < first + 11 {
+        value = 10 * value + u64::from(text[at] - b'0');
+        at += 1;
+    }
+    let length = at - first;
+    let fits = (1..=10).contains(&length) && (length == 1 || text[first] != b'0');
+    fits.then_some((value, at))
+}
+
+fn line(text: &[u8], at: usize, letter: u8) -> Option<(u64, u64, usize)> {
+    if text.get(at) != Some(&letter) || text.get(at + 1) != Some(&b',') {
+        return None;
+    }
+    let (a, at) = number(text, at + 2)?;
+    if text.get(at) != Some(&b',') {
+        return None;
+    }
+    let (b, at) = number(text, at + 1)?;
+    (text.get(at) == Some(&b'\n')).then_some((a, b, at + 1))
+}
+
+pub fn read(text: &[u8], starts: &mut [u32], neighbours: &mut [u16]) -> Result<(usize, usize), u8> {
+    starts.fill(0);
+    neighbours.fill(0);
+    let (n, m, mut at) = line(text, 0, b'S').ok_or(1)?;
+    if n < 1 || n > MOST_NODES as u64 {
+        return Err(2);
+    }
+    if m > MOST_LINKS as u64 {
+        return Err(3);
+    }
+    let (n, m) = (n as usize, m as usize);
+    if starts.len() < n + 1 || neighbours.len() < 2 * m {
+        return Err(8);
+    }
+    let mut rows = vec![[0u64; WORDS]; n];
+    for _ in 0..m {
+        if at == text.len() {
+            return Err(7);
+        }
+        let (a, b, next) = line(text, at, b'L').ok_or(1)?;
+        if a >= n as u64 || b >= n as u64 {
+            return Err(4);
+        }
+        if a == b {
+            return Err(5);
+        }
+        let (a, b) = (a as usize, b as usize);
+        if contains(&rows[a], b) {
+            return Err(6);
+        }
+        insert(&mut rows[a], b);
+        insert(&mut rows[b], a);
+        at = next;
+    }
+    if at < text.len() {
+        return Err(7);
+    }
+    let mut used = 0;
+    for (v, row) in rows.iter().enumerate() {
+        starts[v] = used as u32;
+        for (w, &word) in row.iter().enumerate() {
+            let mut left = word;
+            while left != 0 {
+                neighbours[used] = (64 * w) as u16 + left.trailing_zeros() as u16;
+                used += 1;
+                left &= left - 1;
+            }
+        }
+    }
+    starts[n] = used as u32;
+    Ok((n, m))
+}
+
+fn digits(value: usize) -> usize {
+    1 + usize::from(value > 9)
+        + usize::from(value > 99)
+        + usize::from(value > 999)
+        + usize::from(value > 9999)
+}
+
+fn put_number(buffer: &mut [u8], at: usize, value: usize) -> usize {
+    let end = at + digits(value);
+    let mut left = value;
+    for place in (at..end).rev() {
+        buffer[place] = b'0' + (left % 10) as u8;
+        left /= 10;
+    }
+    end
+}
+
+fn put_line(buffer: &mut [u8], at: usize, letter: u8, a: usize, b: usize) -> usize {
+    buffer[at] = letter;
+    buffer[at + 1] = b',';
+    let at = put_number(buffer, at + 2, a);
+    buffer[at] = b',';
+    let at = put_number(buffer, at + 1, b);
+    buffer[at] = b'\n';
+    at + 1
+}
+
+pub fn write(n: usize, starts: &[u32], neighbours: &[u16], buffer: &mut [u8]) -> Result<usize, u8> {
+    accept(n, starts, neighbours)?;
+    let m = starts[n] as usize / 2;
+    let mut length = 4 + digits(n) + digits(m);
+    for v in 0..n {
+        let own = digits(v);
+        for &x in neighbours_of(starts, neighbours, v) {
+            if v < x as usize {
+                length += 4 + own + digits(x as usize);
+            }
+        }
+    }
+    if buffer.len() < length {
+        return Err(12);
+    }
+    let mut at = put_line(buffer, 0, b'S', n, m);
+    for v in 0..n {
+        for &x in neighbours_of(starts, neighbours, v) {
+            if v < x as usize {
+                at = put_line(buffer, at, b'L', v, x as usize);
+            }
+        }
+    }
+    Ok(length)
+}
+
+// Acceptance
+
+fn neighbours_of<'a>(starts: &[u32], neighbours: &'a [u16], v: usize) -> &'a [u16] {
+    &neighbours[starts[v] as usize..starts[v + 1] as usize]
+}
+
+pub fn accept(n: usize, starts: &[u32], neighbours: &[u16]) -> Result<(), u8> {
+    if !(1..=MOST_NODES).contains(&n) {
+        return Err(2);
+    }
+    if starts.len() < n + 1 {
+        return Err(8);
+    }
+    if is_survey(n, &starts[..=n], neighbours) {
+        Ok(())
+    } else {
+        Err(9)
+    }
+}
+
+fn is_survey(n: usize, starts: &[u32], neighbours: &[u16]) -> bool {
+    let last = starts[n] as usize;
+    if starts[0] != 0 || starts.windows(2).any(|pair| pair[1] < pair[0]) {
+        return false;
+    }
+    if last % 2 != 0 || last / 2 > MOST_LINKS || neighbours.len() < last {
+        return false;
+    }
+    let neighbours = &neighbours[..last];
+    if neighbours.iter().fold(0, |most, &x| most.max(x)) as usize >= n && last > 0 {
+        return false;
+    }
+    let mut cursors = [0u32; MOST_NODES];
+    for v in 0..n {
+        let row = neighbours_of(starts, neighbours, v);
+        if !row
+            .windows(2)
+            .fold(true, |good, pair| good & (pair[0] < pair[1]))
+        {
+            return false;
+        }
+        let mut smaller = 0;
+        for &x in row {
+            let x = x as usize;
+            if x >= v {
+                break;
+            }
+            let at = cursors[x];
+            if at >= starts[x + 1] || neighbours[at as usize] as usize != v {
+                return false;
+            }
+            cursors[x] = at + 1;
+            smaller += 1;
+        }
+        if row.get(smaller) == Some(&(v as u16)) {
+            return false;
+        }
+        cursors[v] = starts[v] + smaller as u32;
+    }
+    cursors[..n] == starts[1..]
+}
+
+// Building
+
+/// Breadth-first search into a row in which allowed nodes are none and the others 0, until all `count` allowed nodes are found.
+fn search(starts: &[u32], neighbours: &[u16], count: usize, source: usize, row: &mut [u16]) {
+    // one place more: the place behind the queue's end is written before it is known whether a node joins
+    let mut queue = [0u16; MOST_NODES + 1];
+    row[source] = 0;
+    queue[0] = source as u16;
+    let (mut head, mut tail) = (0, 1);
+    while head < tail && tail < count {
+        let v = queue[head] as usize;
+        let d = row[v] + 1;
+        for &w in neighbours_of(starts, neighbours, v) {
+            let entry = &mut row[w as usize];
+            queue[tail] = w;
+            tail += usize::from(*entry == NONE);
+            *entry = (*entry).min(d);
+        }
+        head += 1;
+    }
+}
+
+/// The set of high nodes.
+fn high_nodes(n: usize, s: usize, starts: &[u32]) -> Set {
+    let mut set = [0; WORDS];
+    for v in 0..n {
+        if (starts[v + 1] - starts[v]) as usize >= s {
+            insert(&mut set, v);
+        }
+    }
+    set
+}
+
+fn closed(starts: &[u32], neighbours: &[u16], v: usize) -> Set {
+    let mut set = [0; WORDS];
+    insert(&mut set, v);
+    for &x in neighbours_of(starts, neighbours, v) {
+        insert(&mut set, x as usize);
+    }
+    set
+}
+
+fn choose_hubs(n: usize, s: usize, starts: &[u32], neighbours: &[u16]) -> Vec<u16> {
+    let mut uncovered = high_nodes(n, s, starts);
+    let mut hubs = Vec::new();
+    if uncovered == [0; WORDS] {
+        return hubs;
+    }
+    let near: Vec<Set> = (0..n).map(|v| closed(starts, neighbours, v)).collect();
+    while uncovered != [0; WORDS] {
+        let (mut best, mut most) = (0, 0);
+        for (v, set) in near.iter().enumerate() {
+            let gain: u32 = set
+                .iter()
+                .zip(&uncovered)
+                .map(|(a, b)| (a & b).count_ones())
+                .sum();
+            if gain > most {
+                (best, most) = (v, gain);
+            }
+        }
+        hubs.push(best as u16);
+        for (word, set) in uncovered.iter_mut().zip(&near[best]) {
+            *word &= !set;
+        }
+    }
+    hubs
+}
+
+fn threshold(n: usize) -> usize {
+    let digits = usize::BITS as usize - n.leading_zeros() as usize;
+    (0..)
+        .find(|s| s * s >= n * digits)
+        .expect("some square is large enough")
+}
+
+pub fn build(
+    n: usize,
+    starts: &[u32],
+    neighbours: &[u16],
+    full: &mut [u16],
+    low: &mut [u16],
+    report: &mut [u16],
+    hubs: &mut [u16],
+) -> Result<usize, u8> {
+    if !(1..=MOST_NODES).contains(&n) {
+        return Err(2);
+    }
+    let size = n * n;
+    if starts.len() < n + 1
+        || full.len() < size
+        || low.len() < size
+        || report.len() < size
+        || hubs.len() < n
+    {
+        return Err(8);
+    }
+    accept(n, starts, neighbours)?;
+    let s = threshold(n);
+    let chosen = choose_hubs(n, s, starts, neighbours);
+    hubs[..n].fill(NONE);
+    hubs[..chosen.len()].copy_from_slice(&chosen);
+    full[..size].fill(NONE);
+    for &h in &chosen {
+        let h = h as usize;
+        search(starts, neighbours, n, h, &mut full[h * n..(h + 1) * n]);
+    }
+    fill_low(n, s, starts, neighbours, &mut low[..size]);
+    for a in 0..n {
+        let row = &mut report[a * n..(a + 1) * n];
+        row.copy_from_slice(&low[a * n..(a + 1) * n]);
+        for &h in &chosen {
+            let other = &full[h as usize * n..(h as usize + 1) * n];
+            let x = other[a];
+            for (entry, &y) in row.iter_mut().zip(other) {
+                *entry = (*entry).min(x.saturating_add(y));
+            }
+        }
+        row[a] = 0;
+    }
+    Ok(chosen.len())
+}
+
+/// Searches among low nodes; a high node's entry is kept from being reached, and is none in the end.
+fn fill_low(n: usize, s: usize, starts: &[u32], neighbours: &[u16], low: &mut [u16]) {
+    let high: Vec<usize> = (0..n)
+        .filter(|&v| (starts[v + 1] - starts[v]) as usize >= s)
+        .collect();
+    low.fill(NONE);
+    for a in 0..n {
+        let row = &mut low[a * n..(a + 1) * n];
+        if (starts[a + 1] - starts[a]) as usize >= s {
+            continue;
+        }
+        high.iter().for_each(|&v| row[v] = 0);
+        search(starts, neighbours, n - high.len(), a, row);
+        high.iter().for_each(|&v| row[v] = NONE);
+    }
+}
+
+// Asking, walking and testing
+
+pub fn ask(
+    n: usize,
+    full: &[u16],
+    low: &[u16],
+    report: &[u16],
+    a: usize,
+    b: usize,
+) -> Result<Answer, u8> {
+    if !(1..=MOST_NODES).contains(&n) {
+        return Err(2);
+    }
+    let size = n * n;
+    if full.len() < size || low.len() < size || report.len() < size {
+        return Err(8);
+    }
+    if a >= n || b >= n {
+        return Err(10);
+    }
+    let r = report[a * n + b];
+    let route = if a == b {
+        if r != 0 {
+            return Err(11);
+        }
+        Route::Itself
+    } else if r == NONE {
+        Route::NoRoute
+    } else if low[a * n + b] == r {
+        Route::Low
+    } else {
+        let attains = |h: &usize| {
+            let (x, y) = (full[h * n + a], full[h * n + b]);
+            x != NONE && y != NONE && u32::from(x) + u32::from(y) == u32::from(r)
+        };
+        Route::Through((0..n).find(attains).ok_or(11)? as u16)
+    };
+    Ok(Answer { report: r, route })
+}
+
+/// The part from a node to a goal, where `left` tells each node's links to it.
+fn part(
+    starts: &[u32],
+    neighbours: &[u16],
+    limit: usize,
+    left: impl Fn(usize) -> u16,
+    from: usize,
+    goal: usize,
+) -> Option<Vec<u16>> {
+    let mut nodes = vec![from as u16];
+    let mut here = from;
+    for d in (0..left(from)).rev() {
+        let row = neighbours_of(starts, neighbours, here);
+        let leads = |&&x: &&u16| {
+            let degree = (starts[x as usize + 1] - starts[x as usize]) as usize;
+            degree < limit && left(x as usize) == d
+        };
+        let &x = row.iter().find(leads)?;
+        nodes.push(x);
+        here = x as usize;
+    }
+    (here == goal).then_some(nodes)
+}
+
+#[allow(clippy::too_many_arguments)] // the lists are lent one by one
+pub fn walk(
+    n: usize,
+    starts: &[u32],
+    neighbours: &[u16],
+    full: &[u16],
+    low: &[u16],
+    report: &[u16],
+    a: usize,
+    b: usize,
+    walk: &mut [u16],
+) -> Result<Answer, u8> {
+    walk.fill(NONE);
+    if !(1..=MOST_NODES).contains(&n) {
+        return Err(2);
+    }
+    let size = n * n;
+    if starts.len() < n + 1 || full.len() < size || low.len() < size || report.len() < size {
+        return Err(8);
+    }
+    accept(n, starts, neighbours)?;
+    let answer = ask(n, full, low, report, a, b)?;
+    let nodes = match answer.route {
+        Route::NoRoute => Vec::new(),
+        Route::Itself => vec![a as u16],
+        Route::Low => part(starts, neighbours, threshold(n), |x| low[x * n + b], a, b).ok_or(11)?,
+        Route::Through(h) => {
+            let row = &full[h as usize * n..(h as usize + 1) * n];
+            let mut nodes = part(starts, neighbours, n, |x| row[x], a, h as usize).ok_or(11)?;
+            let back = part(starts, neighbours, n, |x| row[x], b, h as usize).ok_or(11)?;
+            nodes.extend(back.iter().rev().skip(1));
+            nodes
+        }
+    };
+    if walk.len() < nodes.len() {
+        return Err(8);
+    }
+    walk[..nodes.len()].copy_from_slice(&nodes);
+    Ok(answer)
+}
+
+pub fn test(n: usize, starts: &[u32], neighbours: &[u16]) -> Result<Tested, u8> {
+    accept(n, starts, neighbours)?;
+    let s = threshold(n);
+    let first_low = (0..n).find(|&v| ((starts[v + 1] - starts[v]) as usize) < s);
+    let sources = match first_low {
+        None => choose_hubs(n, s, starts, neighbours),
+        Some(v) => [&[v as u16], neighbours_of(starts, neighbours, v)].concat(),
+    };
+    let mut row = vec![NONE; n];
+    let mut depth = 0;
+    for &v in &sources {
+        row.fill(NONE);
+        search(starts, neighbours, n, v as usize, &mut row);
+        depth = row.iter().fold(depth, |most, &x| most.max(x));
+        if depth == NONE {
+            break;
+        }
+    }
+    let verdict = match depth {
+        NONE => Verdict::Parted,
+        0..=2 => Verdict::Short,
+        _ => Verdict::Long,
+    };
+    Ok(Tested {
+        verdict,
+        searches: sources.len(),
+    })
+}

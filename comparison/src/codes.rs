@@ -1,0 +1,52 @@
+//! Answers as one number: the refusal's number in the low 16 bits, or 0 there and the values above.
+
+use reference::{Answer, Route, Tested, Verdict};
+
+fn code<T>(outcome: Result<T, u8>, values: impl Fn(T) -> u64) -> u64 {
+    match outcome {
+        Err(number) => u64::from(number),
+        Ok(value) => values(value) << 16,
+    }
+}
+
+pub fn nothing(outcome: Result<(), u8>) -> u64 {
+    code(outcome, |()| 0)
+}
+
+pub fn count(outcome: Result<usize, u8>) -> u64 {
+    code(outcome, |count| count as u64)
+}
+
+pub fn size(outcome: Result<(usize, usize), u8>) -> u64 {
+    code(outcome, |(nodes, links)| {
+        nodes as u64 | (links as u64) << 16
+    })
+}
+
+pub fn answer(outcome: Result<Answer, u8>) -> u64 {
+    code(outcome, |answer| {
+        let (kind, hub) = match answer.route {
+            Route::Itself => (0, 0),
+            Route::Low => (1, 0),
+            Route::Through(h) => (2, h),
+            Route::NoRoute => (3, 0),
+        };
+        u64::from(answer.report) | kind << 16 | u64::from(hub) << 32
+    })
+}
+
+pub fn tested(outcome: Result<Tested, u8>) -> u64 {
+    code(outcome, |tested| {
+        let verdict = match tested.verdict {
+            Verdict::Parted => 0,
+            Verdict::Long => 1,
+            Verdict::Short => 2,
+        };
+        verdict | (tested.searches as u64) << 16
+    })
+}
+
+/// The refusal's number, or 0.
+pub fn refusal(code: u64) -> usize {
+    (code & 65535) as usize
+}

@@ -1,0 +1,76 @@
+//! Surveys with a wanted count of nodes, links and high nodes.
+
+use crate::common::{Random, Sample};
+
+struct Growing<'a> {
+    random: &'a mut Random,
+    sample: Sample,
+    degrees: Vec<usize>,
+    high: Vec<bool>,
+    threshold: usize,
+    links: usize,
+}
+
+impl Growing<'_> {
+    /// A low node must stay low.
+    fn has_room(&self, v: usize) -> bool {
+        self.high[v] || self.degrees[v] + 1 < self.threshold
+    }
+
+    fn try_link(&mut self, a: usize, b: usize) {
+        if a != b && !self.sample.linked[a][b] && self.has_room(a) && self.has_room(b) {
+            self.sample.link(a, b);
+            self.degrees[a] += 1;
+            self.degrees[b] += 1;
+            self.links += 1;
+        }
+    }
+
+    /// Gives a high node a degree above the threshold.
+    fn raise(&mut self, h: usize, most_links: usize) {
+        let goal = (self.threshold + self.threshold / 4).min(self.sample.n - 1);
+        for _ in 0..50 * self.sample.n {
+            if self.degrees[h] >= goal || self.links >= most_links {
+                return;
+            }
+            let v = self.random.below(self.sample.n);
+            self.try_link(h, v);
+        }
+    }
+
+    /// Adds random links from the given nodes to any node.
+    fn fill(&mut self, from: &[usize], most_links: usize) {
+        for _ in 0..60 * most_links {
+            if self.links >= most_links || from.is_empty() {
+                return;
+            }
+            let a = from[self.random.below(from.len())];
+            let b = self.random.below(self.sample.n);
+            self.try_link(a, b);
+        }
+    }
+}
+
+/// About `links` random links on n nodes, of which the given count is high.
+pub fn with_high(random: &mut Random, n: usize, links: usize, high: usize) -> Sample {
+    let mut numbers: Vec<usize> = (0..n).collect();
+    random.shuffle(&mut numbers);
+    let (above, below) = numbers.split_at(high.min(n));
+    let mut growing = Growing {
+        random,
+        sample: Sample::new("random", n),
+        degrees: vec![0; n],
+        high: vec![false; n],
+        threshold: reference::threshold(n).expect("1 to 1,024 nodes"),
+        links: 0,
+    };
+    for &h in above {
+        growing.high[h] = true;
+    }
+    for &h in above {
+        growing.raise(h, links);
+    }
+    growing.fill(below, links);
+    growing.fill(above, links);
+    growing.sample
+}

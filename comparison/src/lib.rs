@@ -1,0 +1,11 @@
+//! The proved library's calls in Rust, and the codes of the second implementation's answers.
+//!
+//! Nothing checks these declarations against the archive but the comparison itself; `include/puxerdau.h` has the same ones for C.
+
+pub mod careful;
+pub mod codes;
+pub mod graphs;
+pub mod proved;
+
+#[path = "../../reference/tests/common/mod.rs"]
+pub mod common;

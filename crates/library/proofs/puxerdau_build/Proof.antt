@@ -1,0 +1,45 @@
+-- `library::puxerdau_build` meets its contract: the call's outcome, in code.
+-- Assumes nothing.
+use mathlib.Core.Path.{ap, _∙_}
+use Rattle.library.specs.Code.{code, count}
+use Rattle.model.specs.Building.{Building}
+use borrow.Author.Needs.{needs}
+use Rattle.library.proofs.puxerdau_build.Statement.{statement}
+use Rattle.library.proofs.puxerdau_build.Tie as tie
+use Rattle.library.proofs.puxerdau_build.Reads as reads
+use Rattle.library.proofs.puxerdau_build.Lts as lts
+use Rattle.library.proofs.counting_code.Reads as counting-code-reads
+use Rattle.tables.proofs.build.Reads as build-reads
+
+build-requires : tie.Need-build-requires
+build-requires c κs = search needs
+
+counting-code-requires : tie.Need-counting-code-requires
+counting-code-requires c κs = search needs
+
+same-length : tie.Need-same-length
+same-length c = search needs
+
+same-length-2 : tie.Need-same-length-2
+same-length-2 c = search needs
+
+same-length-3 : tie.Need-same-length-3
+same-length-3 c = search needs
+
+same-length-4 : tie.Need-same-length-4
+same-length-4 c = search needs
+
+returns : tie.Need-returns
+returns c = ((c .counting-code .ensures) ∙ ap (λ (x : Building). code count (x .answer)) (c .before .before .before .before .before .before .before .before .before .build .ensures), (ap (λ (x : Building). x .full) (c .before .before .before .before .before .before .before .before .before .build .ensures), (ap (λ (x : Building). x .low) (c .before .before .before .before .before .before .before .before .before .build .ensures), (ap (λ (x : Building). x .report) (c .before .before .before .before .before .before .before .before .before .build .ensures), ap (λ (x : Building). x .hubs) (c .before .before .before .before .before .before .before .before .before .build .ensures)))))
+
+pub puxerdau-build-spec : {M : Type 1} → statement M
+puxerdau-build-spec =
+    tie.close
+    (tie.spec
+    build-requires
+    counting-code-requires
+    same-length
+    same-length-2
+    same-length-3
+    same-length-4
+    returns)

@@ -1,0 +1,32 @@
+-- `library::puxerdau_read` meets its contract: the call's outcome, in code.
+-- Assumes nothing.
+use mathlib.Core.Path.{ap, _∙_}
+use Rattle.library.specs.Code.{code, size}
+use Rattle.model.specs.Reading.{Reading}
+use borrow.Author.Needs.{needs}
+use Rattle.library.proofs.puxerdau_read.Statement.{statement}
+use Rattle.library.proofs.puxerdau_read.Tie as tie
+use Rattle.library.proofs.puxerdau_read.Reads as reads
+use Rattle.library.proofs.puxerdau_read.Lts as lts
+use Rattle.library.proofs.reading_code.Reads as reading-code-reads
+use Rattle.reading.proofs.read_survey.Reads as read-survey-reads
+
+read-survey-requires : tie.Need-read-survey-requires
+read-survey-requires c κs = search needs
+
+reading-code-requires : tie.Need-reading-code-requires
+reading-code-requires c κs = search needs
+
+same-length : tie.Need-same-length
+same-length c = search needs
+
+same-length-2 : tie.Need-same-length-2
+same-length-2 c = search needs
+
+returns : tie.Need-returns
+returns c = ((c .reading-code .ensures) ∙ ap (λ (x : Reading). code size (x .answer)) ((c .before .before .before .before .before .read-survey .ensures .0)), (ap (λ (x : Reading). x .starts) ((c .before .before .before .before .before .read-survey .ensures .0)), ap (λ (x : Reading). x .neighbours) ((c .before .before .before .before .before .read-survey .ensures .0))))
+
+pub puxerdau-read-spec : {M : Type 1} → statement M
+puxerdau-read-spec =
+    tie.close
+    (tie.spec read-survey-requires reading-code-requires same-length same-length-2 returns)

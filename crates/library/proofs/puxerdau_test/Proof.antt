@@ -1,0 +1,23 @@
+-- `library::puxerdau_test` meets its contract: the call's outcome, in code.
+-- Assumes nothing.
+use mathlib.Core.Path.{ap, _∙_}
+use Rattle.library.specs.Code.{code, tested}
+use borrow.Author.Needs.{needs}
+use Rattle.library.proofs.puxerdau_test.Statement.{statement}
+use Rattle.library.proofs.puxerdau_test.Tie as tie
+use Rattle.library.proofs.puxerdau_test.Reads as reads
+use Rattle.library.proofs.puxerdau_test.Lts as lts
+use Rattle.library.proofs.testing_code.Reads as testing-code-reads
+use Rattle.verdict.proofs.test.Reads as test-reads
+
+test-requires : tie.Need-test-requires
+test-requires c κs = search needs
+
+testing-code-requires : tie.Need-testing-code-requires
+testing-code-requires c κs = search needs
+
+returns : tie.Need-returns
+returns c = (c .testing-code .ensures) ∙ ap (code tested) ((c .before .test .ensures .0))
+
+pub puxerdau-test-spec : {M : Type 1} → statement M
+puxerdau-test-spec = tie.close (tie.spec test-requires testing-code-requires returns)

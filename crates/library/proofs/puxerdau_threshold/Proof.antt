@@ -1,0 +1,23 @@
+-- `library::puxerdau_threshold` meets its contract: the call's outcome, in code.
+-- Assumes nothing.
+use mathlib.Core.Path.{ap, _∙_}
+use Rattle.library.specs.Code.{code, count}
+use borrow.Author.Needs.{needs}
+use Rattle.library.proofs.puxerdau_threshold.Statement.{statement}
+use Rattle.library.proofs.puxerdau_threshold.Tie as tie
+use Rattle.library.proofs.puxerdau_threshold.Reads as reads
+use Rattle.library.proofs.puxerdau_threshold.Lts as lts
+use Rattle.library.proofs.counting_code.Reads as counting-code-reads
+use Rattle.threshold.proofs.threshold_of.Reads as threshold-of-reads
+
+threshold-of-requires : tie.Need-threshold-of-requires
+threshold-of-requires c κs = search needs
+
+counting-code-requires : tie.Need-counting-code-requires
+counting-code-requires c κs = search needs
+
+returns : tie.Need-returns
+returns c = (c .counting-code .ensures) ∙ ap (code count) (c .before .threshold-of .ensures)
+
+pub puxerdau-threshold-spec : {M : Type 1} → statement M
+puxerdau-threshold-spec = tie.close (tie.spec threshold-of-requires counting-code-requires returns)

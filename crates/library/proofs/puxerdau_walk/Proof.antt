@@ -1,0 +1,28 @@
+-- `library::puxerdau_walk` meets its contract: the call's outcome, in code.
+-- Assumes nothing.
+use mathlib.Core.Path.{ap, _∙_}
+use Rattle.library.specs.Code.{code, answerField}
+use Rattle.model.specs.Walking.{Walking}
+use borrow.Author.Needs.{needs}
+use Rattle.library.proofs.puxerdau_walk.Statement.{statement}
+use Rattle.library.proofs.puxerdau_walk.Tie as tie
+use Rattle.library.proofs.puxerdau_walk.Reads as reads
+use Rattle.library.proofs.puxerdau_walk.Lts as lts
+use Rattle.library.proofs.asking_code.Reads as asking-code-reads
+use Rattle.walks.proofs.write_walk.Reads as write-walk-reads
+
+write-walk-requires : tie.Need-write-walk-requires
+write-walk-requires c κs = search needs
+
+asking-code-requires : tie.Need-asking-code-requires
+asking-code-requires c κs = search needs
+
+same-length : tie.Need-same-length
+same-length c = search needs
+
+returns : tie.Need-returns
+returns c = ((c .asking-code .ensures) ∙ ap (λ (x : Walking). code answerField (x .answer)) ((c .before .before .before .write-walk .ensures .0)), ap (λ (x : Walking). x .walk) ((c .before .before .before .write-walk .ensures .0)))
+
+pub puxerdau-walk-spec : {M : Type 1} → statement M
+puxerdau-walk-spec =
+    tie.close (tie.spec write-walk-requires asking-code-requires same-length returns)

@@ -1,0 +1,28 @@
+-- `library::puxerdau_write` meets its contract: the call's outcome, in code.
+-- Assumes nothing.
+use mathlib.Core.Path.{ap, _∙_}
+use Rattle.library.specs.Code.{code, count}
+use Rattle.model.specs.Writing.{Writing}
+use borrow.Author.Needs.{needs}
+use Rattle.library.proofs.puxerdau_write.Statement.{statement}
+use Rattle.library.proofs.puxerdau_write.Tie as tie
+use Rattle.library.proofs.puxerdau_write.Reads as reads
+use Rattle.library.proofs.puxerdau_write.Lts as lts
+use Rattle.library.proofs.counting_code.Reads as counting-code-reads
+use Rattle.writing.proofs.write_survey.Reads as write-survey-reads
+
+write-survey-requires : tie.Need-write-survey-requires
+write-survey-requires c κs = search needs
+
+counting-code-requires : tie.Need-counting-code-requires
+counting-code-requires c κs = search needs
+
+same-length : tie.Need-same-length
+same-length c = search needs
+
+returns : tie.Need-returns
+returns c = ((c .counting-code .ensures) ∙ ap (λ (x : Writing). code count (x .answer)) (c .before .before .before .write-survey .ensures), ap (λ (x : Writing). x .buffer) (c .before .before .before .write-survey .ensures))
+
+pub puxerdau-write-spec : {M : Type 1} → statement M
+puxerdau-write-spec =
+    tie.close (tie.spec write-survey-requires counting-code-requires same-length returns)

@@ -1,0 +1,59 @@
+-- `library::testing_code` meets its contract: by cases of the answer.
+-- Assumes nothing.
+use mathlib.Core.Path.{sym, ap, _∙_}
+use Rattle.model.specs.Answers.{testAnswer}
+use Rattle.library.specs.Code.{code, tested}
+use Prim.Native.Nat.{_+_, _*_, _%_}
+use Rattle.model.specs.declared.Testing.{Testing}
+use borrow.Author.Needs.{needs}
+use Rattle.library.proofs.testing_code.Statement.{statement}
+use Rattle.library.proofs.testing_code.Tie as tie
+use Rattle.library.proofs.testing_code.Reads as reads
+use Rattle.library.proofs.testing_code.Lts as lts
+use Rattle.library.proofs.verdict_field.Reads as verdict-field-reads
+use Rattle.refusals.proofs.refusal_number.Reads as refusal-number-reads
+
+enum-known-x : tie.Need-enum-known-x
+enum-known-x c = search needs
+
+refusal-number-requires : tie.Need-refusal-number-requires
+refusal-number-requires c κs = search needs
+
+cast-result : tie.Need-cast-result
+cast-result c = search needs
+
+enum-known-x-2 : tie.Need-enum-known-x-2
+enum-known-x-2 c = search needs
+
+verdict-field-requires : tie.Need-verdict-field-requires
+verdict-field-requires c κs = search needs
+
+mul-result : tie.Need-mul-result
+mul-result c = search needs
+
+add-result : tie.Need-add-result
+add-result c = search needs
+
+mul-result-2 : tie.Need-mul-result-2
+mul-result-2 c = search needs
+
+returns : tie.Need-returns
+returns c = search needs
+
+returns-2 : tie.Need-returns-2
+returns-2 c = ap (λ k. 65536 * (k + 65536 * ((c .before .before .x2 .given .0 .0 .searches) % 65536))) ((c .verdict-field .ensures .0)) ∙ sym (ap (λ (y : Testing). code tested (testAnswer y)) (c .before .before .x2 .given .1))
+
+pub testing-code-spec : {M : Type 1} → statement M
+testing-code-spec =
+    tie.close
+    (tie.spec
+    enum-known-x
+    refusal-number-requires
+    cast-result
+    enum-known-x-2
+    verdict-field-requires
+    mul-result
+    add-result
+    mul-result-2
+    returns
+    returns-2)

@@ -1,0 +1,41 @@
+-- `nodeset::take_out` meets its contract, by the law for one cleared bit.
+-- Assumes nothing.
+use Rattle.nodeset.proofs.Bits.{set-without}
+use borrow.Author.Needs.{needs}
+use Rattle.nodeset.proofs.take_out.Statement.{statement}
+use Rattle.nodeset.proofs.take_out.Tie as tie
+use Rattle.nodeset.proofs.take_out.Reads as reads
+use Rattle.nodeset.proofs.take_out.Lts as lts
+
+mul-words : tie.Need-mul-words
+mul-words c = search needs
+
+slice-read-words : tie.Need-slice-read-words
+slice-read-words c = search needs
+
+shl-words : tie.Need-shl-words
+shl-words c = search needs
+
+mul-words-2 : tie.Need-mul-words-2
+mul-words-2 c = search needs
+
+slice-write-words : tie.Need-slice-write-words
+slice-write-words c = search needs
+
+same-length : tie.Need-same-length
+same-length c = search needs
+
+returns : tie.Need-returns
+returns c = set-without (c .before .args .words .now) (c .before .args .v) (c .before .pre)
+
+pub take-out-spec : {M : Type 1} → statement M
+take-out-spec =
+    tie.close
+    (tie.spec
+    mul-words
+    slice-read-words
+    shl-words
+    mul-words-2
+    slice-write-words
+    same-length
+    returns)
