@@ -32,13 +32,13 @@ same-length : tie.Need-same-length Inv-loop μ-loop
 same-length c = (c .before .before .before .loop .inv .1)
 
 returns : tie.Need-returns Inv-loop μ-loop
-returns c = sym (match-low (c .before .before .before .before .args .neighbours .now) (c .before .before .before .before .args .last) (c .before .before .before .before .args .n) (c .before .before .before .before .args .v) (c .before .before .before .before .args .row .now) (c .before .before .before .loop .before) (c .before .before .before .loop .i) (c .before .before .before .loop .cursors) (c .before .before .loop-test .taken) (c .if1 .taken)) ∙ (c .before .before .before .loop .inv .2)
+returns c = sym (match-low (c .before .before .before .before .args .neighbours .now) (c .before .before .before .before .args .last) (c .before .before .before .before .args .n) (c .before .before .before .before .args .v) (c .before .before .before .before .args .row .now) (c .before .before .before .loop .before) (c .before .before .before .loop .i) (c .before .before .before .loop .cursors) (c .before .before .loop-test .taken) (omega (arith, c .if1 .taken))) ∙ (c .before .before .before .loop .inv .2)
 
 same-length-2 : tie.Need-same-length-2 Inv-loop μ-loop
 same-length-2 c = (c .before .before .before .before .loop .inv .1)
 
 returns-2 : tie.Need-returns-2 Inv-loop μ-loop
-returns-2 c = sym (match-high (c .before .before .before .before .before .args .neighbours .now) (c .before .before .before .before .before .args .last) (c .before .before .before .before .before .args .n) (c .before .before .before .before .before .args .v) (c .before .before .before .before .before .args .row .now) (c .before .before .before .before .loop .before) (c .before .before .before .before .loop .i) (c .before .before .before .before .loop .cursors) (c .before .before .before .loop-test .taken) (c .before .if1 .left) (c .if2 .taken)) ∙ (c .before .before .before .before .loop .inv .2)
+returns-2 c = sym (match-high (c .before .before .before .before .before .args .neighbours .now) (c .before .before .before .before .before .args .last) (c .before .before .before .before .before .args .n) (c .before .before .before .before .before .args .v) (c .before .before .before .before .before .args .row .now) (c .before .before .before .before .loop .before) (c .before .before .before .before .loop .i) (c .before .before .before .before .loop .cursors) (c .before .before .before .loop-test .taken) (omega (arith, c .before .if1 .left)) (c .if2 .taken)) ∙ (c .before .before .before .before .loop .inv .2)
 
 mul-at : tie.Need-mul-at Inv-loop μ-loop
 mul-at c = search needs
@@ -53,7 +53,7 @@ same-length-3 : tie.Need-same-length-3 Inv-loop μ-loop
 same-length-3 c = (c .before .before .before .before .before .before .loop .inv .1)
 
 returns-3 : tie.Need-returns-3 Inv-loop μ-loop
-returns-3 c = sym (match-past (c .before .before .before .before .before .before .before .args .neighbours .now) (c .before .before .before .before .before .before .before .args .last) (c .before .before .before .before .before .before .before .args .n) (c .before .before .before .before .before .before .before .args .v) (c .before .before .before .before .before .before .before .args .row .now) (c .before .before .before .before .before .before .loop .before) (c .before .before .before .before .before .before .loop .i) (c .before .before .before .before .before .before .loop .cursors) (c .before .before .before .before .before .loop-test .taken) (c .before .before .before .if1 .left) (c .before .before .if2 .left) (c .if3 .taken)) ∙ (c .before .before .before .before .before .before .loop .inv .2)
+returns-3 c = sym (match-past (c .before .before .before .before .before .before .before .args .neighbours .now) (c .before .before .before .before .before .before .before .args .last) (c .before .before .before .before .before .before .before .args .n) (c .before .before .before .before .before .before .before .args .v) (c .before .before .before .before .before .before .before .args .row .now) (c .before .before .before .before .before .before .loop .before) (c .before .before .before .before .before .before .loop .i) (c .before .before .before .before .before .before .loop .cursors) (c .before .before .before .before .before .loop-test .taken) (omega (arith, c .before .before .before .if1 .left)) (c .before .before .if2 .left) (c .if3 .taken)) ∙ (c .before .before .before .before .before .before .loop .inv .2)
 
 mul-if4 : tie.Need-mul-if4 Inv-loop μ-loop
 mul-if4 c = omega (arith, (c .before .slice-known .given) (getD (c .before .before .before .before .before .before .before .args .row .now) (c .before .before .before .before .before .before .loop .i) 0))
@@ -68,7 +68,7 @@ same-length-4 : tie.Need-same-length-4 Inv-loop μ-loop
 same-length-4 c = (c .before .before .before .before .before .before .before .before .loop .inv .1)
 
 returns-4 : tie.Need-returns-4 Inv-loop μ-loop
-returns-4 c = sym (match-other (c .before .before .before .before .before .before .before .before .before .args .neighbours .now) (c .before .before .before .before .before .before .before .before .before .args .last) (c .before .before .before .before .before .before .before .before .before .args .n) (c .before .before .before .before .before .before .before .before .before .args .v) (c .before .before .before .before .before .before .before .before .before .args .row .now) (c .before .before .before .before .before .before .before .before .loop .before) (c .before .before .before .before .before .before .before .before .loop .i) (c .before .before .before .before .before .before .before .before .loop .cursors) (c .before .before .before .before .before .before .before .loop-test .taken) (c .before .before .before .before .before .if1 .left) (c .before .before .before .before .if2 .left) (c .before .before .if3 .left) (c .if4 .taken)) ∙ (c .before .before .before .before .before .before .before .before .loop .inv .2)
+returns-4 c = sym (match-other (c .before .before .before .before .before .before .before .before .before .args .neighbours .now) (c .before .before .before .before .before .before .before .before .before .args .last) (c .before .before .before .before .before .before .before .before .before .args .n) (c .before .before .before .before .before .before .before .before .before .args .v) (c .before .before .before .before .before .before .before .before .before .args .row .now) (c .before .before .before .before .before .before .before .before .loop .before) (c .before .before .before .before .before .before .before .before .loop .i) (c .before .before .before .before .before .before .before .before .loop .cursors) (c .before .before .before .before .before .before .before .loop-test .taken) (omega (arith, c .before .before .before .before .before .if1 .left)) (c .before .before .before .before .if2 .left) (c .before .before .if3 .left) (λ e. omega (arith, c .if4 .taken))) ∙ (c .before .before .before .before .before .before .before .before .loop .inv .2)
 
 add-cursors : tie.Need-add-cursors Inv-loop μ-loop
 add-cursors c = omega (arith, (c .before .before .before .slice-known .given) (getD (c .before .before .before .before .before .before .before .before .before .args .row .now) (c .before .before .before .before .before .before .before .before .loop .i) 0))
@@ -89,7 +89,7 @@ loop-less : tie.Need-loop-less Inv-loop μ-loop
 loop-less c = search needs
 
 loop-again : tie.Need-loop-again Inv-loop μ-loop
-loop-again c = (omega arith, length-set (c .before .before .before .before .before .before .before .before .loop .cursors) (getD (c .before .before .before .before .before .before .before .before .before .args .row .now) (c .before .before .before .before .before .before .before .before .loop .i) 0) (getD (c .before .before .before .before .before .before .before .before .loop .cursors) (getD (c .before .before .before .before .before .before .before .before .before .args .row .now) (c .before .before .before .before .before .before .before .before .loop .i) 0) 0 + 1) ∙ (c .before .before .before .before .before .before .before .before .loop .inv .1), sym (match-next (c .before .before .before .before .before .before .before .before .before .args .neighbours .now) (c .before .before .before .before .before .before .before .before .before .args .last) (c .before .before .before .before .before .before .before .before .before .args .n) (c .before .before .before .before .before .before .before .before .before .args .v) (c .before .before .before .before .before .before .before .before .before .args .row .now) (c .before .before .before .before .before .before .before .before .loop .before) (c .before .before .before .before .before .before .before .before .loop .i) (c .before .before .before .before .before .before .before .before .loop .cursors) (c .before .before .before .before .before .before .before .loop-test .taken) (c .before .before .before .before .before .if1 .left) (c .before .before .before .before .if2 .left) (c .before .before .if3 .left) (c .if4 .left)) ∙ (c .before .before .before .before .before .before .before .before .loop .inv .2))
+loop-again c = (omega arith, length-set (c .before .before .before .before .before .before .before .before .loop .cursors) (getD (c .before .before .before .before .before .before .before .before .before .args .row .now) (c .before .before .before .before .before .before .before .before .loop .i) 0) (getD (c .before .before .before .before .before .before .before .before .loop .cursors) (getD (c .before .before .before .before .before .before .before .before .before .args .row .now) (c .before .before .before .before .before .before .before .before .loop .i) 0) 0 + 1) ∙ (c .before .before .before .before .before .before .before .before .loop .inv .1), sym (match-next (c .before .before .before .before .before .before .before .before .before .args .neighbours .now) (c .before .before .before .before .before .before .before .before .before .args .last) (c .before .before .before .before .before .before .before .before .before .args .n) (c .before .before .before .before .before .before .before .before .before .args .v) (c .before .before .before .before .before .before .before .before .before .args .row .now) (c .before .before .before .before .before .before .before .before .loop .before) (c .before .before .before .before .before .before .before .before .loop .i) (c .before .before .before .before .before .before .before .before .loop .cursors) (c .before .before .before .before .before .before .before .loop-test .taken) (omega (arith, c .before .before .before .before .before .if1 .left)) (c .before .before .before .before .if2 .left) (c .before .before .if3 .left) (omega (arith, c .if4 .left))) ∙ (c .before .before .before .before .before .before .before .before .loop .inv .2))
 
 same-length-5 : tie.Need-same-length-5 Inv-loop μ-loop
 same-length-5 c = (c .before .loop .inv .1)
