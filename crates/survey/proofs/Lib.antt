@@ -1,4 +1,4 @@
 pub mod RowLaws
 pub mod Pass
-pub mod Mirror
+pub mod Cursors
 pub mod Judging

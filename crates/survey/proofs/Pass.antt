@@ -1,92 +1,87 @@
--- One pass over a row, step by step.
+-- One pass over a row and over all rows, step by step.
 -- Assumes nothing.
-use mathlib.Core.Path.{_≡_, sym, ap, _∙_, subst}
-use mathlib.Core.Bool.{Bool, true, false, not}
-use mathlib.Core.List.{List, [], _∷_}
+use mathlib.Core.Path.{_≡_, sym, ap, _∙_}
+use mathlib.Core.Bool.{Bool, true, false}
+use mathlib.Core.List.{List}
 use Prim.Native.Nat.{ℕ, suc, _+_, _-_, _≤_, _<_}
-use native.Mathlib.Nat.{zero-add}
 use native.Mathlib.Omega.{arith}
 use borrow.Author.Tests.{le-leb, lt-leb, lt-ltb, le-ltb, eq-eqb, ne-eqb}
-use lib.Dec.{eqb, leb}
+use lib.Dec.{leb, ltb}
 use lib.ListN.{length, getD, drop, set, drop-of-length-le}
 use Rattle.model.specs.Basics.{if_then_else_}
-use Rattle.model.specs.Survey.{neighboursOf}
 use Rattle.model.proofs.Loops.{drop-next}
-use Rattle.survey.specs.Matching.{stands, moved, pass, Pass, matchRow, matchRows}
+use Rattle.survey.specs.Matching.{stands, moved, left, pass, Pass, matchRow, matchRows}
 
--- no more nodes are counted than there are
-row-count : (starts neighbours : List ℕ) (v : ℕ) (xs : List ℕ) (k : ℕ) (cs : List ℕ) → matchRow starts neighbours v k xs cs .count ≤ k + length xs
-unfolding matchRow
-row-count starts neighbours v [] k cs = omega arith
-row-count starts neighbours v (x ∷ xs) k cs = at (leb v x) (stands starts neighbours v x cs) (row-count starts neighbours v xs (k + 1) (moved x cs))
-  where
-    at : (b c : Bool) → matchRow starts neighbours v (k + 1) xs (moved x cs) .count ≤ k + 1 + length xs
-        → (if b then pass (not (eqb x v)) k cs else if c then matchRow starts neighbours v (k + 1) xs (moved x cs) else pass false k cs) .count ≤ k + suc (length xs)
-    at true c h = omega arith
-    at false true h = omega arith
-    at false false h = omega arith
-
-module _ (starts neighbours : List ℕ) (v : ℕ) (row : List ℕ) (i : ℕ) (cs : List ℕ) where
+module _ (neighbours : List ℕ) (last n v : ℕ) (row : List ℕ) (b i : ℕ) (cs : List ℕ) where
   abbrev x : ℕ
   x = getD row i 0
 
-  pub match-end : length row ≤ i → matchRow starts neighbours v i (drop i row) cs ≡ pass true i cs
+  pub match-end : length row ≤ i → matchRow neighbours last n v b (drop i row) cs ≡ pass true cs
   unfolding matchRow
-  match-end h = ap (λ (l : List ℕ). matchRow starts neighbours v i l cs) (drop-of-length-le row h)
+  match-end h = ap (λ (l : List ℕ). matchRow neighbours last n v b l cs) (drop-of-length-le row h)
 
-  unrolled : i < length row → matchRow starts neighbours v i (drop i row) cs
-      ≡ (if leb v x then pass (not (eqb x v)) i cs
-      else if stands starts neighbours v x cs then matchRow starts neighbours v (i + 1) (drop (i + 1) row) (moved x cs)
-      else pass false i cs)
+  unrolled : i < length row → matchRow neighbours last n v b (drop i row) cs
+      ≡ (if leb x b then pass false cs
+      else if leb n x then pass false cs
+      else if stands neighbours last v x cs then matchRow neighbours last n v x (drop (i + 1) row) (moved x cs)
+      else pass false cs)
   unfolding matchRow
-  unrolled h = ap (λ (l : List ℕ). matchRow starts neighbours v i l cs) (drop-next row i h)
+  unrolled h = ap (λ (l : List ℕ). matchRow neighbours last n v b l cs) (drop-next row i h)
 
-  pub match-large : i < length row → v ≤ getD row i 0 → matchRow starts neighbours v i (drop i row) cs ≡ pass (not (eqb (getD row i 0) v)) i cs
-  match-large h l = unrolled h ∙ rw (le-leb v x l)
+  pub match-low : i < length row → getD row i 0 ≤ b → matchRow neighbours last n v b (drop i row) cs ≡ pass false cs
+  match-low h l = unrolled h ∙ rw (le-leb x b l)
 
-  pub match-past : i < length row → getD row i 0 < v → getD starts (getD row i 0 + 1) 0 ≤ getD cs (getD row i 0) 0
-      → matchRow starts neighbours v i (drop i row) cs ≡ pass false i cs
+  pub match-high : i < length row → b < getD row i 0 → n ≤ getD row i 0 → matchRow neighbours last n v b (drop i row) cs ≡ pass false cs
+  match-high h a l = unrolled h ∙ rw (lt-leb x b a, le-leb n x l)
+
+  pub match-past : i < length row → b < getD row i 0 → getD row i 0 < n → last ≤ getD cs (getD row i 0) 0
+      → matchRow neighbours last n v b (drop i row) cs ≡ pass false cs
   unfolding stands
-  match-past h l e = unrolled h ∙ rw (lt-leb v x l, le-ltb (getD cs x 0) (getD starts (x + 1) 0) e)
+  match-past h a l e = unrolled h ∙ rw (lt-leb x b a, lt-leb n x l, le-ltb (getD cs x 0) last e)
 
-  pub match-other : i < length row → getD row i 0 < v → getD cs (getD row i 0) 0 < getD starts (getD row i 0 + 1) 0
-      → (getD neighbours (getD cs (getD row i 0) 0) 0 ≡ v → ⊥) → matchRow starts neighbours v i (drop i row) cs ≡ pass false i cs
+  pub match-other : i < length row → b < getD row i 0 → getD row i 0 < n → getD cs (getD row i 0) 0 < last
+      → (getD neighbours (getD cs (getD row i 0) 0) 0 ≡ v → ⊥) → matchRow neighbours last n v b (drop i row) cs ≡ pass false cs
   unfolding stands
-  match-other h l e d = unrolled h ∙ rw (lt-leb v x l, lt-ltb (getD cs x 0) (getD starts (x + 1) 0) e, ne-eqb (getD neighbours (getD cs x 0) 0) v d)
+  match-other h a l e d = unrolled h ∙ rw (lt-leb x b a, lt-leb n x l, lt-ltb (getD cs x 0) last e, ne-eqb (getD neighbours (getD cs x 0) 0) v d)
 
-  pub match-next : i < length row → getD row i 0 < v → getD cs (getD row i 0) 0 < getD starts (getD row i 0 + 1) 0
+  pub match-next : i < length row → b < getD row i 0 → getD row i 0 < n → getD cs (getD row i 0) 0 < last
       → getD neighbours (getD cs (getD row i 0) 0) 0 ≡ v
-      → matchRow starts neighbours v i (drop i row) cs ≡ matchRow starts neighbours v (i + 1) (drop (i + 1) row) (set cs (getD row i 0) (getD cs (getD row i 0) 0 + 1))
+      → matchRow neighbours last n v b (drop i row) cs
+      ≡ matchRow neighbours last n v (getD row i 0) (drop (i + 1) row) (set cs (getD row i 0) (getD cs (getD row i 0) 0 + 1))
   unfolding stands moved
-  match-next h l e d = unrolled h ∙ rw (lt-leb v x l, lt-ltb (getD cs x 0) (getD starts (x + 1) 0) e, eq-eqb (getD neighbours (getD cs x 0) 0) v d)
+  match-next h a l e d = unrolled h ∙ rw (lt-leb x b a, lt-leb n x l, lt-ltb (getD cs x 0) last e, eq-eqb (getD neighbours (getD cs x 0) 0) v d)
 
 -- ---- all rows
 
 module _ (starts neighbours : List ℕ) (n v : ℕ) (cs : List ℕ) where
-  pub rows-end : n ≤ v → matchRows starts neighbours (n - v) v cs ≡ pass true v cs
+  pub rows-end : n ≤ v → matchRows starts neighbours n (n - v) v cs ≡ pass true cs
   unfolding matchRows
-  rows-end h = let e : n - v ≡ 0 = omega arith in ap (λ (k : ℕ). matchRows starts neighbours k v cs) e
+  rows-end h = let e : n - v ≡ 0 = omega arith in ap (λ (k : ℕ). matchRows starts neighbours n k v cs) e
 
-  module _ (h : v < n) (row : List ℕ) (own : row ≡ neighboursOf starts neighbours v) (good : Bool) (count : ℕ) (cs′ : List ℕ)
-      (e : pass good count cs′ ≡ matchRow starts neighbours v 0 row cs) where
-    through : matchRows starts neighbours (n - v) v cs
-        ≡ (if good then matchRows starts neighbours (n - (v + 1)) (v + 1) (set cs′ v (getD starts v 0 + count)) else pass false v cs′)
-    unfolding matchRows
-    through =
-        let q : n - v ≡ suc (n - (v + 1)) = omega arith in
-        let f : matchRow starts neighbours v 0 (neighboursOf starts neighbours v) cs ≡ pass good count cs′ =
-        ap (λ (l : List ℕ). matchRow starts neighbours v 0 l cs) (sym own) ∙ sym e in
-        ap (λ (k : ℕ). matchRows starts neighbours k v cs) q
-        ∙ ap (λ (p : Pass). if p .good then matchRows starts neighbours (n - (v + 1)) (v + 1) (set (p .cursors) v (getD starts v 0 + p .count)) else pass false v (p .cursors)) f
+  -- one row more
+  onward : Pass → Pass
+  onward p = if ltb (getD starts (v + 1) 0) (getD cs v 0) then pass false cs
+      else if p .good then matchRows starts neighbours n (n - (v + 1)) (v + 1) (p .cursors)
+      else pass false (p .cursors)
 
-    pub rows-bad : good ≡ false → matchRows starts neighbours (n - v) v cs ≡ pass false v cs′
-    rows-bad g = through ∙ rw g
+  through : v < n → matchRows starts neighbours n (n - v) v cs
+      ≡ onward (matchRow neighbours (getD starts n 0) n v v (left starts neighbours cs v) cs)
+  unfolding matchRows onward
+  through h = let q : n - v ≡ suc (n - (v + 1)) = omega arith in ap (λ (k : ℕ). matchRows starts neighbours n k v cs) q
 
-    pub rows-next : good ≡ true → matchRows starts neighbours (n - v) v cs ≡ matchRows starts neighbours (n - (v + 1)) (v + 1) (set cs′ v (getD starts v 0 + count))
-    rows-next g = through ∙ rw g
+  pub rows-past : v < n → getD starts (v + 1) 0 < getD cs v 0 → matchRows starts neighbours n (n - v) v cs ≡ pass false cs
+  unfolding onward
+  rows-past h l = through h ∙ rw (lt-ltb (getD starts (v + 1) 0) (getD cs v 0) l)
 
-    pub row-counted : count ≤ length row
-    row-counted = subst (λ (p : Pass). p .count ≤ length row) (sym e) (subst (λ (k : ℕ). matchRow starts neighbours v 0 row cs .count ≤ k) (zero-add (length row)) (counted row 0 cs))
-      where
-        counted : (xs : List ℕ) (k : ℕ) (cs : List ℕ) → matchRow starts neighbours v k xs cs .count ≤ k + length xs
-        counted xs k cs = row-count starts neighbours v xs k cs
+  module _ (h : v < n) (inside : getD cs v 0 ≤ getD starts (v + 1) 0) (good : Bool) (cs′ : List ℕ)
+      (e : pass good cs′ ≡ matchRow neighbours (getD starts n 0) n v v (left starts neighbours cs v) cs) where
+    passed : matchRows starts neighbours n (n - v) v cs
+        ≡ (if good then matchRows starts neighbours n (n - (v + 1)) (v + 1) cs′ else pass false cs′)
+    unfolding onward
+    passed = through h ∙ ap onward (sym e) ∙ rw (le-ltb (getD starts (v + 1) 0) (getD cs v 0) inside)
+
+    pub rows-bad : good ≡ false → matchRows starts neighbours n (n - v) v cs ≡ pass false cs′
+    rows-bad g = passed ∙ rw g
+
+    pub rows-next : good ≡ true → matchRows starts neighbours n (n - v) v cs ≡ matchRows starts neighbours n (n - (v + 1)) (v + 1) cs′
+    rows-next g = passed ∙ rw g

@@ -2,13 +2,13 @@
 use model::Accepting;
 use model::Refusal;
 ghost use mathlib.Core.Path.{_≡_};
-ghost use Prim.Native.Nat.{ℕ, _+_, _<_, _≤_};
-ghost use lib.Dec.{ltb, leb, eqb};
+ghost use Prim.Native.Nat.{ℕ, _+_, _/_, _%_, _<_, _≤_};
+ghost use lib.Dec.{leb};
 ghost use lib.ListN.{length, getD};
 ghost use Rattle.model.specs.Basics.{all, upTo};
 ghost use Rattle.model.specs.Answers.{acceptAnswer};
-ghost use Rattle.model.specs.Survey.{neighboursOf, ascending, isSurvey, accepting};
-ghost use Rattle.survey.specs.Rows.{Rows, SortedRows, mirrors};
+ghost use Rattle.model.specs.Survey.{neighboursOf, isSurvey, accepting};
+ghost use Rattle.survey.specs.Rows.{Rows};
 ghost use Rattle.survey.specs.Matching.{pass, matchRow, matchRows};
 
 // Node v's own neighbours, as a part of the neighbour list.
@@ -21,126 +21,69 @@ pub fn own<'a>(n: usize, starts: &[u32], neighbours: &'a [u16], v: usize) -> &'a
     &neighbours[a..e]
 }
 
-// Whether every number of the list is below n.
-fn all_below(list: &[u16], n: usize) -> bool
-    ensures { λ r. ⌜ r ≡ all (λ x. ltb x n) (now (list .entry)) ⌝ }
-{
-    let mut good = true;
-    let mut i = 0;
-    while i < list.len() {
-        good = good & ((list[i] as usize) < n);
-        i += 1;
-    }
-    good
-}
-
-// Whether the list ascends strictly.
-fn ascends(list: &[u16]) -> bool
-    ensures { λ r. ⌜ r ≡ ascending (now (list .entry)) ⌝ }
-{
-    let mut good = true;
-    let mut i = 1;
-    while i < list.len() {
-        good = good & (list[i - 1] < list[i]);
-        i += 1;
-    }
-    good
-}
-
-// Whether each row ascends strictly.
-fn rows_ascend(n: usize, starts: &[u32], neighbours: &[u16]) -> bool
-    requires { ⌜ Rows n (now starts) (now neighbours) ⌝ }
-    ensures { λ r. ⌜ r ≡ all (λ v. ascending (neighboursOf (now (starts .entry)) (now (neighbours .entry)) v)) (upTo n) ⌝ }
+// Each node's cursor is put at its row's start.
+fn put_cursors(n: usize, starts: &[u32], cursors: &mut [u32])
+    requires { ⌜ (n ≤ length (now starts)) × (n ≤ length (now cursors)) ⌝ }
+    ensures { λ _. ⌜ ((x : ℕ) → x < n → getD (now (cursors .exit)) x 0 ≡ getD (now (starts .entry)) x 0) ⌝ }
 {
     let mut v = 0;
     while v < n {
-        let row = own(n, starts, neighbours, v);
-        if !ascends(row) {
-            return false;
-        }
+        cursors[v] = starts[v];
         v += 1;
     }
-    true
 }
 
-// How a row was matched: whether all went well, and how many of its nodes are smaller than the row's own.
-pub struct Matched {
-    pub good: bool,
-    pub count: usize,
-}
-
-// Matches the smaller nodes of row v: at each one's cursor must stand v, and the cursor moves on.
+// Meets the larger nodes of row v, which must ascend from v on and lie below n: at each one's cursor must stand v, and the cursor
+// moves on.
 fn match_row(
+    n: usize,
+    last: usize,
     v: usize,
     row: &[u16],
-    starts: &[u32],
     neighbours: &[u16],
-    cursors: &mut [u16],
-) -> Matched
-    requires { ⌜ (v ≤ 1024) × (v < length (now starts)) × (v ≤ length (now cursors)) ⌝ }
-    requires { ⌜ ((x : ℕ) → x < v → getD (now starts) (x + 1) 0 ≤ length (now neighbours)) ⌝ }
-    requires { ⌜ ((x : ℕ) → x < v → getD (now starts) (x + 1) 0 < 65536) ⌝ }
-    ensures { λ r. ⌜ pass (r .good) (r .count) (now (cursors .exit)) ≡ matchRow (now (starts .entry)) (now (neighbours .entry)) v 0 (now (row .entry)) (now (cursors .entry)) ⌝ }
+    cursors: &mut [u32],
+) -> bool
+    requires { ⌜ (n ≤ length (now cursors)) × (last ≤ 32768) × (last ≤ length (now neighbours)) ⌝ }
+    ensures { λ r. ⌜ pass r (now (cursors .exit)) ≡ matchRow (now (neighbours .entry)) last n v v (now (row .entry)) (now (cursors .entry)) ⌝ }
 {
+    let mut before = v;
     let mut i = 0;
     while i < row.len() {
         let x = row[i] as usize;
-        if v <= x {
-            return Matched {
-                good: x != v,
-                count: i,
-            };
+        if x <= before {
+            return false;
+        }
+        if n <= x {
+            return false;
         }
         let at = cursors[x] as usize;
-        let end = starts[x + 1] as usize;
-        if end <= at {
-            return Matched {
-                good: false,
-                count: i,
-            };
+        if last <= at {
+            return false;
         }
         if neighbours[at] as usize != v {
-            return Matched {
-                good: false,
-                count: i,
-            };
+            return false;
         }
-        cursors[x] = (at + 1) as u16;
+        cursors[x] = (at + 1) as u32;
+        before = x;
         i += 1;
     }
-    Matched {
-        good: true,
-        count: i,
-    }
-}
-
-// Matches all rows, until one cannot be matched.
-fn match_rows(n: usize, starts: &[u32], neighbours: &[u16], cursors: &mut [u16]) -> bool
-    requires { ⌜ SortedRows n (now starts) (now neighbours) × (n ≤ length (now cursors)) ⌝ }
-    ensures { λ r. ⌜ r ≡ matchRows (now (starts .entry)) (now (neighbours .entry)) n 0 (now (cursors .entry)) .good ⌝ }
-    ensures { λ r. ⌜ now (cursors .exit) ≡ matchRows (now (starts .entry)) (now (neighbours .entry)) n 0 (now (cursors .entry)) .cursors ⌝ }
-{
-    let mut v = 0;
-    while v < n {
-        let row = own(n, starts, neighbours, v);
-        let matched = match_row(v, row, starts, neighbours, cursors);
-        if !matched.good {
-            return false;
-        }
-        cursors[v] = (starts[v] as usize + matched.count) as u16;
-        v += 1;
-    }
     true
 }
 
-// Whether each node's cursor is at the end of its row.
-fn all_matched(n: usize, starts: &[u32], cursors: &[u16]) -> bool
-    requires { ⌜ (n + 1 ≤ length (now starts)) × (n ≤ length (now cursors)) ⌝ }
-    ensures { λ r. ⌜ r ≡ all (λ v. eqb (getD (now (cursors .entry)) v 0) (getD (now (starts .entry)) (v + 1) 0)) (upTo n) ⌝ }
+// Matches all rows, until one cannot be matched. Once the rows below v are, v's cursor is behind its smaller nodes.
+fn match_rows(n: usize, starts: &[u32], neighbours: &[u16], cursors: &mut [u32]) -> bool
+    requires { ⌜ Rows n (now starts) (now neighbours) × (n ≤ length (now cursors)) × (getD (now starts) n 0 ≤ 32768) ⌝ }
+    ensures { λ r. ⌜ r ≡ matchRows (now (starts .entry)) (now (neighbours .entry)) n n 0 (now (cursors .entry)) .good ⌝ }
 {
+    let last = starts[n] as usize;
     let mut v = 0;
     while v < n {
-        if cursors[v] as u32 != starts[v + 1] {
+        let at = cursors[v] as usize;
+        let end = starts[v + 1] as usize;
+        if end < at {
+            return false;
+        }
+        if !match_row(n, last, v, &neighbours[at..end], neighbours, cursors) {
             return false;
         }
         v += 1;
@@ -148,17 +91,15 @@ fn all_matched(n: usize, starts: &[u32], cursors: &[u16]) -> bool
     true
 }
 
-// Whether no node is its own neighbour and b stands at a exactly when a stands at b. Linear: each node's larger neighbours are met
-// in their order while the rows are passed, so one cursor for each node is enough.
-fn mirrored(n: usize, starts: &[u32], neighbours: &[u16]) -> bool
-    requires { ⌜ SortedRows n (now starts) (now neighbours) ⌝ }
-    ensures { λ r. ⌜ r ≡ mirrors n (neighboursOf (now (starts .entry)) (now (neighbours .entry))) ⌝ }
+// Whether rows that can be read ascend strictly, hold nodes below n other than their own, and b stands at a exactly when a stands at b.
+// One pass: each node's smaller neighbours are met in their order while the rows are passed, so one cursor for each node is enough.
+fn matched(n: usize, starts: &[u32], neighbours: &[u16]) -> bool
+    requires { ⌜ Rows n (now starts) (now neighbours) × (getD (now starts) n 0 % 2 ≡ 0) × (getD (now starts) n 0 / 2 ≤ 16384) ⌝ }
+    ensures { λ r. ⌜ r ≡ isSurvey n (now (starts .entry)) (now (neighbours .entry)) ⌝ }
 {
-    let mut cursors = [0u16; 1024];
-    if !match_rows(n, starts, neighbours, &mut cursors) {
-        return false;
-    }
-    all_matched(n, starts, &cursors)
+    let mut cursors = [0u32; 1024];
+    put_cursors(n, starts, &mut cursors);
+    match_rows(n, starts, neighbours, &mut cursors)
 }
 
 // Whether the starts never fall up to the n-th.
@@ -197,13 +138,7 @@ pub fn is_survey(n: usize, starts: &[u32], neighbours: &[u16]) -> bool
     if neighbours.len() < last {
         return false;
     }
-    if !all_below(&neighbours[..last], n) {
-        return false;
-    }
-    if !rows_ascend(n, starts, neighbours) {
-        return false;
-    }
-    mirrored(n, starts, neighbours)
+    matched(n, starts, neighbours)
 }
 
 // The refusals that all calls over a survey share: 2, 8 for `starts`, 9.

@@ -1,71 +1,81 @@
 -- `survey::match_rows` meets its contract: what is left of the rows still says the whole.
 -- Assumes nothing.
-use borrow.Author.Needs.{needs}
 use mathlib.Core.Path.{_≡_, refl, sym, _∙_, ap}
 use Prim.Native.Nat.{ℕ, _+_, _≤_, _-_}
-use native.Mathlib.Omega.{arith}
-use lib.ListN.{length, length-set}
-use borrow.Author.Tests.{not-true, not-false}
 use native.Mathlib.Nat.{sub-zero}
-use mathlib.Core.Path.{subst}
-use mathlib.Core.List.{List}
-use Rattle.survey.proofs.Mirror.{place-small}
-use Rattle.survey.specs.Matching.{Pass, matchRows}
-use Rattle.survey.proofs.RowLaws.{start-within, start-last}
-use Rattle.survey.proofs.Pass.{rows-end, rows-bad, rows-next, row-counted}
+use native.Mathlib.Omega.{arith}
+use borrow.Author.Tests.{not-true, not-false}
+use lib.ListN.{length}
+use Rattle.survey.specs.Matching.{left, Pass, matchRows}
+use Rattle.survey.proofs.RowLaws.{start-within}
+use Rattle.survey.proofs.Pass.{rows-end, rows-past, rows-bad, rows-next}
+use borrow.Author.Needs.{needs}
 use Rattle.survey.proofs.match_rows.Statement.{statement}
 use Rattle.survey.proofs.match_rows.Tie as tie
 
 abbrev Inv-loop : tie.InvT-loop
-Inv-loop n starts neighbours cursors₀ v₀ cursors v = (v ≤ n) × (length cursors ≡ length cursors₀) × (matchRows starts neighbours (n - v) v cursors ≡ matchRows starts neighbours n 0 cursors₀)
+Inv-loop n starts neighbours cursors₀ last v₀ cursors v = (v ≤ n) × (length cursors ≡ length cursors₀) × (matchRows starts neighbours n (n - v) v cursors ≡ matchRows starts neighbours n n 0 cursors₀)
 
 abbrev μ-loop : tie.MeasureT-loop
-μ-loop n starts neighbours cursors₀ v₀ cursors v = n - v
+μ-loop n starts neighbours cursors₀ last v₀ cursors v = n - v
+
+mul-last : tie.Need-mul-last Inv-loop μ-loop
+mul-last c = omega (arith, (c .before .before .before .pre .0 .room), (c .before .before .before .pre .0 .few))
+
+shared-slice-read-last : tie.Need-shared-slice-read-last Inv-loop μ-loop
+shared-slice-read-last c = omega (arith, (c .before .before .before .before .pre .0 .room))
+
+cast-last : tie.Need-cast-last Inv-loop μ-loop
+cast-last c = omega (arith, (c .shared-slice-known3 .given) (c .before .before .before .before .args .n))
 
 loop-holds : tie.Need-loop-holds Inv-loop μ-loop
-loop-holds c = (omega arith, refl, ap (λ (k : ℕ). matchRows (c .before .before .before .args .starts .now) (c .before .before .before .args .neighbours .now) k 0 (c .before .before .before .args .cursors .now)) (sub-zero (c .before .before .before .args .n)))
+loop-holds c = (omega arith, refl, ap (λ (k : ℕ). matchRows (c .before .before .before .before .args .starts .now) (c .before .before .before .before .args .neighbours .now) (c .before .before .before .before .args .n) k 0 (c .before .before .before .before .args .cursors .now)) (sub-zero (c .before .before .before .before .args .n)))
 
-own-requires : tie.Need-own-requires Inv-loop μ-loop
-own-requires c κs = ((c .before .before .before .before .before .pre .0) .rows, (c .loop-test .taken))
+mul-at : tie.Need-mul-at Inv-loop μ-loop
+mul-at c = omega (arith, (c .before .before .before .before .before .before .pre .0 .few))
 
-match-row-requires : tie.Need-match-row-requires Inv-loop μ-loop
-match-row-requires c κs =
-    let s = (c .before .before .before .before .before .before .before .pre .0) in (
-      (omega (arith, s .rows .few), omega (arith, s .rows .room), omega (arith, (c .before .before .before .loop .inv .1))),
-      (
-        λ x h. start-within (c .before .before .before .before .before .before .before .args .n) (c .before .before .before .before .before .before .before .args .starts .now) (c .before .before .before .before .before .before .before .args .neighbours .now) (s .rows) (x + 1) (omega arith),
-        λ x h. let r = start-last (c .before .before .before .before .before .before .before .args .n) (c .before .before .before .before .before .before .before .args .starts .now) (c .before .before .before .before .before .before .before .args .neighbours .now) (s .rows) (x + 1) (omega arith) in omega (arith, s .small),
-      ),
-    )
+slice-read-at : tie.Need-slice-read-at Inv-loop μ-loop
+slice-read-at c = omega (arith, (c .before .before .loop .inv .1))
+
+cast-at : tie.Need-cast-at Inv-loop μ-loop
+cast-at c = omega (arith, (c .slice-known2 .given) (c .before .before .loop .v))
+
+add-end : tie.Need-add-end Inv-loop μ-loop
+add-end c = omega (arith, (c .before .before .before .before .before .before .before .pre .0 .few))
+
+mul-end : tie.Need-mul-end Inv-loop μ-loop
+mul-end c = omega (arith, (c .before .before .before .before .before .before .before .pre .0 .few))
+
+shared-slice-read-end : tie.Need-shared-slice-read-end Inv-loop μ-loop
+shared-slice-read-end c = omega (arith, (c .before .before .before .before .before .before .before .before .pre .0 .room))
+
+cast-end : tie.Need-cast-end Inv-loop μ-loop
+cast-end c = omega (arith, (c .shared-slice-known4 .given) ((c .before .before .before .loop .v) + 1))
 
 same-length : tie.Need-same-length Inv-loop μ-loop
-same-length c = (c .before .before .before .before .match-row .kept .1 .1 .1 .1 .0) ∙ (c .before .before .before .before .before .before .before .before .loop .inv .1)
+same-length c = (c .before .before .before .before .loop .inv .1)
 
 returns : tie.Need-returns Inv-loop μ-loop
-returns c =
-    let e = sym (rows-bad (c .before .before .before .before .before .before .before .before .before .before .before .before .args .starts .now) (c .before .before .before .before .before .before .before .before .before .before .before .before .args .neighbours .now) (c .before .before .before .before .before .before .before .before .before .before .before .before .args .n) (c .before .before .before .before .before .before .before .before .loop .v) (c .before .before .before .before .before .before .before .before .loop .cursors) (c .before .before .before .before .before .before .before .loop-test .taken) (c .before .before .before .before .before .before .own .result .now) (c .before .before .before .before .before .before .own .ensures) (c .before .before .before .before .match-row .result .good) (c .before .before .before .before .match-row .result .count) (c .before .before .before .before .match-row .last .1 .1 .1 .1 .0) (c .before .before .before .before .match-row .ensures) (not-true _ (c .if1 .taken))) ∙ (c .before .before .before .before .before .before .before .before .loop .inv .2) in
-    (ap (λ (p : Pass). p .good) e, ap (λ (p : Pass). p .cursors) e)
+returns c = ap (λ (p : Pass). p .good) (sym (rows-past (c .before .before .before .before .before .before .before .before .before .args .starts .now) (c .before .before .before .before .before .before .before .before .before .args .neighbours .now) (c .before .before .before .before .before .before .before .before .before .args .n) (c .before .before .before .before .loop .v) (c .before .before .before .before .loop .cursors) (c .before .before .before .loop-test .taken) (c .if1 .taken)) ∙ (c .before .before .before .before .loop .inv .2))
 
-mul-cursors : tie.Need-mul-cursors Inv-loop μ-loop
-mul-cursors c = search needs
+mul-match-row : tie.Need-mul-match-row Inv-loop μ-loop
+mul-match-row c = omega (arith, (c .before .before .slice-known2 .given) (c .before .before .before .before .loop .v))
 
-shared-slice-read-cursors : tie.Need-shared-slice-read-cursors Inv-loop μ-loop
-shared-slice-read-cursors c = search needs
+part-match-row-start : tie.Need-part-match-row-start Inv-loop μ-loop
+part-match-row-start c = (c .if1 .left)
 
-cast-cursors : tie.Need-cast-cursors Inv-loop μ-loop
-cast-cursors c = omega (arith, (c .shared-slice-known3 .given) (c .before .before .before .before .before .before .before .before .before .loop .v))
+part-match-row-end : tie.Need-part-match-row-end Inv-loop μ-loop
+part-match-row-end c = start-within (c .before .before .before .before .before .before .before .before .before .args .n) (c .before .before .before .before .before .before .before .before .before .args .starts .now) (c .before .before .before .before .before .before .before .before .before .args .neighbours .now) (c .before .before .before .before .before .before .before .before .before .pre .0) ((c .before .before .before .before .loop .v) + 1) (omega arith)
 
-add-cursors : tie.Need-add-cursors Inv-loop μ-loop
-add-cursors c = omega (arith, place-small (c .before .before .before .before .before .before .before .before .before .before .before .before .before .before .args .n) (c .before .before .before .before .before .before .before .before .before .before .before .before .before .before .args .starts .now) (c .before .before .before .before .before .before .before .before .before .before .before .before .before .before .args .neighbours .now) (c .before .before .before .before .before .before .before .before .before .before .before .before .before .before .pre .0) (c .before .before .before .before .before .before .before .before .before .before .loop .v) (c .before .before .before .before .before .before .match-row .result .count) (c .before .before .before .before .before .before .before .before .before .loop-test .taken) (subst (λ (l : List ℕ). (c .before .before .before .before .before .before .match-row .result .count) ≤ length l) (c .before .before .before .before .before .before .before .before .own .ensures) (row-counted (c .before .before .before .before .before .before .before .before .before .before .before .before .before .before .args .starts .now) (c .before .before .before .before .before .before .before .before .before .before .before .before .before .before .args .neighbours .now) (c .before .before .before .before .before .before .before .before .before .before .before .before .before .before .args .n) (c .before .before .before .before .before .before .before .before .before .before .loop .v) (c .before .before .before .before .before .before .before .before .before .before .loop .cursors) (c .before .before .before .before .before .before .before .before .before .loop-test .taken) (c .before .before .before .before .before .before .before .before .own .result .now) (c .before .before .before .before .before .before .before .before .own .ensures) (c .before .before .before .before .before .before .match-row .result .good) (c .before .before .before .before .before .before .match-row .result .count) (c .before .before .before .before .before .before .match-row .last .1 .1 .1 .1 .0) (c .before .before .before .before .before .before .match-row .ensures))))
+match-row-requires : tie.Need-match-row-requires Inv-loop μ-loop
+match-row-requires c κs = (omega (arith, (c .before .before .before .before .before .before .loop .inv .1)), omega arith, (c .before .before .before .before .before .before .before .before .before .before .before .pre .0 .within))
 
-cast-cursors-2 : tie.Need-cast-cursors-2 Inv-loop μ-loop
-cast-cursors-2 c = omega (arith, place-small (c .before .before .before .before .before .before .before .before .before .before .before .before .before .before .args .n) (c .before .before .before .before .before .before .before .before .before .before .before .before .before .before .args .starts .now) (c .before .before .before .before .before .before .before .before .before .before .before .before .before .before .args .neighbours .now) (c .before .before .before .before .before .before .before .before .before .before .before .before .before .before .pre .0) (c .before .before .before .before .before .before .before .before .before .before .loop .v) (c .before .before .before .before .before .before .match-row .result .count) (c .before .before .before .before .before .before .before .before .before .loop-test .taken) (subst (λ (l : List ℕ). (c .before .before .before .before .before .before .match-row .result .count) ≤ length l) (c .before .before .before .before .before .before .before .before .own .ensures) (row-counted (c .before .before .before .before .before .before .before .before .before .before .before .before .before .before .args .starts .now) (c .before .before .before .before .before .before .before .before .before .before .before .before .before .before .args .neighbours .now) (c .before .before .before .before .before .before .before .before .before .before .before .before .before .before .args .n) (c .before .before .before .before .before .before .before .before .before .before .loop .v) (c .before .before .before .before .before .before .before .before .before .before .loop .cursors) (c .before .before .before .before .before .before .before .before .before .loop-test .taken) (c .before .before .before .before .before .before .before .before .own .result .now) (c .before .before .before .before .before .before .before .before .own .ensures) (c .before .before .before .before .before .before .match-row .result .good) (c .before .before .before .before .before .before .match-row .result .count) (c .before .before .before .before .before .before .match-row .last .1 .1 .1 .1 .0) (c .before .before .before .before .before .before .match-row .ensures))))
+same-length-2 : tie.Need-same-length-2 Inv-loop μ-loop
+same-length-2 c = (c .before .before .before .match-row .kept .1 .1 .1 .1 .1 .0) ∙ (c .before .before .before .before .before .before .before .before .before .before .loop .inv .1)
 
-mul-cursors-2 : tie.Need-mul-cursors-2 Inv-loop μ-loop
-mul-cursors-2 c = search needs
-
-slice-write-cursors : tie.Need-slice-write-cursors Inv-loop μ-loop
-slice-write-cursors c = omega (arith, (c .before .before .before .before .before .before .match-row .kept .1 .1 .1 .1 .0), (c .before .before .before .before .before .before .before .before .before .before .loop .inv .1))
+returns-2 : tie.Need-returns-2 Inv-loop μ-loop
+unfolding left
+returns-2 c = ap (λ (p : Pass). p .good) (sym (rows-bad (c .before .before .before .before .before .before .before .before .before .before .before .before .before .before .before .args .starts .now) (c .before .before .before .before .before .before .before .before .before .before .before .before .before .before .before .args .neighbours .now) (c .before .before .before .before .before .before .before .before .before .before .before .before .before .before .before .args .n) (c .before .before .before .before .before .before .before .before .before .before .loop .v) (c .before .before .before .before .before .before .before .before .before .before .loop .cursors) (c .before .before .before .before .before .before .before .before .before .loop-test .taken) (c .before .before .before .before .before .before .if1 .left) (c .before .before .before .match-row .result) (c .before .before .before .match-row .last .1 .1 .1 .1 .1 .0) (c .before .before .before .match-row .ensures) (not-true _ (c .if2 .taken))) ∙ (c .before .before .before .before .before .before .before .before .before .before .loop .inv .2))
 
 add-v : tie.Need-add-v Inv-loop μ-loop
 add-v c = search needs
@@ -74,19 +84,14 @@ loop-less : tie.Need-loop-less Inv-loop μ-loop
 loop-less c = search needs
 
 loop-again : tie.Need-loop-again Inv-loop μ-loop
-loop-again c = (
-  omega arith,
-  length-set (c .before .before .before .before .before .before .match-row .last .1 .1 .1 .1 .0) (c .before .before .before .before .before .before .before .before .before .before .loop .v) _ ∙ (c .before .before .before .before .before .before .match-row .kept .1 .1 .1 .1 .0) ∙ (c .before .before .before .before .before .before .before .before .before .before .loop .inv .1),
-  sym (rows-next (c .before .before .before .before .before .before .before .before .before .before .before .before .before .before .args .starts .now) (c .before .before .before .before .before .before .before .before .before .before .before .before .before .before .args .neighbours .now) (c .before .before .before .before .before .before .before .before .before .before .before .before .before .before .args .n) (c .before .before .before .before .before .before .before .before .before .before .loop .v) (c .before .before .before .before .before .before .before .before .before .before .loop .cursors) (c .before .before .before .before .before .before .before .before .before .loop-test .taken) (c .before .before .before .before .before .before .before .before .own .result .now) (c .before .before .before .before .before .before .before .before .own .ensures) (c .before .before .before .before .before .before .match-row .result .good) (c .before .before .before .before .before .before .match-row .result .count) (c .before .before .before .before .before .before .match-row .last .1 .1 .1 .1 .0) (c .before .before .before .before .before .before .match-row .ensures) (not-false _ (c .before .before .if1 .left))) ∙ (c .before .before .before .before .before .before .before .before .before .before .loop .inv .2),
-)
+unfolding left
+loop-again c = (omega arith, (c .before .before .before .match-row .kept .1 .1 .1 .1 .1 .0) ∙ (c .before .before .before .before .before .before .before .before .before .before .loop .inv .1), sym (rows-next (c .before .before .before .before .before .before .before .before .before .before .before .before .before .before .before .args .starts .now) (c .before .before .before .before .before .before .before .before .before .before .before .before .before .before .before .args .neighbours .now) (c .before .before .before .before .before .before .before .before .before .before .before .before .before .before .before .args .n) (c .before .before .before .before .before .before .before .before .before .before .loop .v) (c .before .before .before .before .before .before .before .before .before .before .loop .cursors) (c .before .before .before .before .before .before .before .before .before .loop-test .taken) (c .before .before .before .before .before .before .if1 .left) (c .before .before .before .match-row .result) (c .before .before .before .match-row .last .1 .1 .1 .1 .1 .0) (c .before .before .before .match-row .ensures) (not-false _ (c .if2 .left))) ∙ (c .before .before .before .before .before .before .before .before .before .before .loop .inv .2))
 
-same-length-2 : tie.Need-same-length-2 Inv-loop μ-loop
-same-length-2 c = (c .before .loop .inv .1)
+same-length-3 : tie.Need-same-length-3 Inv-loop μ-loop
+same-length-3 c = (c .before .loop .inv .1)
 
-returns-2 : tie.Need-returns-2 Inv-loop μ-loop
-returns-2 c =
-    let e = sym (rows-end (c .before .before .before .before .before .args .starts .now) (c .before .before .before .before .before .args .neighbours .now) (c .before .before .before .before .before .args .n) (c .before .loop .v) (c .before .loop .cursors) (c .loop-test .left)) ∙ (c .before .loop .inv .2) in
-    (ap (λ (p : Pass). p .good) e, ap (λ (p : Pass). p .cursors) e)
+returns-3 : tie.Need-returns-3 Inv-loop μ-loop
+returns-3 c = ap (λ (p : Pass). p .good) (sym (rows-end (c .before .before .before .before .before .before .args .starts .now) (c .before .before .before .before .before .before .args .neighbours .now) (c .before .before .before .before .before .before .args .n) (c .before .loop .v) (c .before .loop .cursors) (c .loop-test .left)) ∙ (c .before .loop .inv .2))
 
 pub match-rows-spec : {M : Type 1} → statement M
 match-rows-spec =
@@ -94,20 +99,27 @@ match-rows-spec =
     (tie.spec
     Inv-loop
     μ-loop
+    mul-last
+    shared-slice-read-last
+    cast-last
     loop-holds
-    own-requires
-    match-row-requires
+    mul-at
+    slice-read-at
+    cast-at
+    add-end
+    mul-end
+    shared-slice-read-end
+    cast-end
     same-length
     returns
-    mul-cursors
-    shared-slice-read-cursors
-    cast-cursors
-    add-cursors
-    cast-cursors-2
-    mul-cursors-2
-    slice-write-cursors
+    mul-match-row
+    part-match-row-start
+    part-match-row-end
+    match-row-requires
+    same-length-2
+    returns-2
     add-v
     loop-less
     loop-again
-    same-length-2
-    returns-2)
+    same-length-3
+    returns-3)
