@@ -65,6 +65,38 @@ module _ (a b : List ℕ) (total i : ℕ) (c : Counted a b total i) where
       let e : i ≡ length a = omega (arith, c .within) in
       c .count ∙ ap (λ (n : ℕ). length (keep (both (member a) (member b)) (upTo (64 * n)))) e
 
+-- ---- what is in both sets
+
+pub record Shared (a b c : List ℕ) (i : ℕ) : Type 0 where
+  pub within : i ≤ length a
+  pub same : length c ≡ length a
+  pub done : (j : ℕ) → j < i → getD c j 0 ≡ bitAnd (getD a j 0) (getD b j 0)
+
+pub shared-none : (a b c : List ℕ) → length c ≡ length a → Shared a b c 0
+shared-none a b c e = record { within = omega arith; same = e; done = λ j h. absurd (omega arith) }
+
+module _ (a b c : List ℕ) (i : ℕ) (s : Shared a b c i) where
+  pub shared-more : i < length a → Shared a b (set c i (bitAnd (getD a i 0) (getD b i 0))) (i + 1)
+  shared-more h =
+      let w = bitAnd (getD a i 0) (getD b i 0) in
+      record {
+        within = omega arith;
+        same = length-set c i w ∙ s .same;
+        done = below-next (λ (j : ℕ). getD (set c i w) j 0 ≡ bitAnd (getD a j 0) (getD b j 0)) i
+            (λ j q. getD-set-other c i j w 0 (omega arith) ∙ s .done j q)
+            (getD-set-same c i w 0 (omega (arith, s .same)));
+      }
+
+  pub shared-all : length a ≤ i → member c ≡ both (member a) (member b)
+  unfolding member both
+  shared-all h = fun-ext (λ v. ⊎-elim (λ q. ap (λ (x : ℕ). bit x (v % 64)) (s .done (v / 64) q) ∙ bit-and (getD a (v / 64) 0) (getD b (v / 64) 0) (v % 64)) (λ q. past v q) (lt-or (v / 64) i))
+    where
+      past : (v : ℕ) → i ≤ v / 64 → bit (getD c (v / 64) 0) (v % 64) ≡ (bit (getD a (v / 64) 0) (v % 64) && bit (getD b (v / 64) 0) (v % 64))
+      past v q =
+          let x : getD c (v / 64) 0 ≡ 0 = List·getD-eq-default c 0 (omega (arith, s .same)) in
+          let y : getD a (v / 64) 0 ≡ 0 = List·getD-eq-default a 0 (omega arith) in
+          rw (x, y, bit-of-zero (v % 64)) refl
+
 -- ---- one set taken out of another
 
 pub record Removed (b a₀ a : List ℕ) (i : ℕ) : Type 0 where

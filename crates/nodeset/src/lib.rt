@@ -50,6 +50,18 @@ pub fn common(a: &[u64], b: &[u64]) -> usize
     total
 }
 
+// Another set becomes what is in both sets.
+pub fn write_common(a: &[u64], b: &[u64], into: &mut [u64])
+    requires { ⌜ (length (now a) ≡ length (now b)) × (length (now into) ≡ length (now a)) ⌝ }
+    ensures { λ _. ⌜ member (now (into .exit)) ≡ both (member (now (a .entry))) (member (now (b .entry))) ⌝ }
+{
+    let mut i = 0;
+    while i < a.len() {
+        into[i] = a[i] & b[i];
+        i += 1;
+    }
+}
+
 // Takes the members of b out of a.
 pub fn remove(a: &mut [u64], b: &[u64])
     requires { ⌜ length (now a) ≡ length (now b) ⌝ }

@@ -9,12 +9,13 @@ ghost use lib.Dec.{T, eqb, ltb};
 ghost use lib.ListN.{length, getD};
 ghost use Rattle.lists.specs.Writing.{written};
 ghost use Rattle.model.specs.Basics.{none, if_then_else_, upTo, has, over};
-ghost use Rattle.model.specs.Graph.{between, fewest};
-ghost use Rattle.model.specs.Survey.{neighboursOf, linked, Accepted};
+ghost use Rattle.model.specs.Graph.{fewest};
+ghost use Rattle.model.specs.Survey.{neighboursOf, Accepted};
 ghost use Rattle.model.specs.Tables.{entry, via, fullOf, lowTable, reportOf};
 ghost use Rattle.model.specs.Answers.{answered};
 ghost use Rattle.model.specs.Building.{Building, built, returned, building};
 ghost use Rattle.nodeset.specs.NodeSet.{member};
+ghost use Rattle.layers.specs.Matrix.{edgesIn};
 ghost use Rattle.tables.specs.Rows.{relaxed};
 
 // The entry for "none".
@@ -60,38 +61,33 @@ fn fill_full(n: usize, starts: &[u32], neighbours: &[u16], hubs: &[u16], full: &
     }
 }
 
-// Row a of Low: the fewest links through low nodes from a, if a is low; else all none.
-fn low_row(
-    n: usize,
-    starts: &[u32],
-    neighbours: &[u16],
-    low_nodes: &[u64],
-    a: usize,
-    low: &mut [u16],
-)
-    requires { ⌜ Accepted n (now starts) (now neighbours) × (length (now «low_nodes») ≡ 16) × (a < n) × (n * n ≤ length (now low)) ⌝ }
+// Row a of Low: the fewest links from a over the links of a matrix, if a is low; else all none.
+fn low_row(n: usize, rows: &[u64], low_nodes: &[u64], a: usize, low: &mut [u16])
+    requires { ⌜ (n ≤ 1024) × (length (now rows) ≡ 16384) × (length (now «low_nodes») ≡ 16) × (a < n) × (n * n ≤ length (now low)) ⌝ }
     ensures { λ _. ⌜ now (low .exit) ≡ written (now (low .entry)) (a * n)
-        (map (λ b. if member (now («low_nodes» .entry)) a then fewest (between (member (now («low_nodes» .entry))) (linked n (neighboursOf (now (starts .entry)) (now (neighbours .entry))))) n a b else none) (upTo n)) ⌝ }
+        (map (λ b. if member (now («low_nodes» .entry)) a then fewest (edgesIn (now (rows .entry))) n a b else none) (upTo n)) ⌝ }
 {
-    if nodeset::contains(low_nodes, a) {
-        search::search_row(n, starts, neighbours, low_nodes, a, low);
-        return;
-    }
     let start = a * n;
     let end = start + n;
+    if nodeset::contains(low_nodes, a) {
+        layers::search(n, rows, a, &mut low[start..end]);
+        return;
+    }
     lists::fill16(&mut low[start..end], NONE);
 }
 
-// Low: the fewest links through low nodes only, row by row.
+// Low: the fewest links through low nodes only, row by row, from a matrix of the links between low nodes.
 fn fill_low(n: usize, s: usize, starts: &[u32], neighbours: &[u16], low: &mut [u16])
     requires { ⌜ Accepted n (now starts) (now neighbours) × (n * n ≤ length (now low)) ⌝ }
     ensures { λ _. ⌜ now (low .exit) ≡ over (lowTable n s (neighboursOf (now (starts .entry)) (now (neighbours .entry)))) (now (low .entry)) ⌝ }
 {
     let mut low_nodes = [0u64; 16];
     hubs::low_nodes(n, s, starts, neighbours, &mut low_nodes);
+    let mut rows = [0u64; 16384];
+    layers::link_rows(n, starts, neighbours, &low_nodes, &mut rows);
     let mut a = 0;
     while a < n {
-        low_row(n, starts, neighbours, &low_nodes, a, low);
+        low_row(n, &rows, &low_nodes, a, low);
         a += 1;
     }
 }

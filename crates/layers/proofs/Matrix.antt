@@ -1,0 +1,209 @@
+-- Links put into a matrix one by one, and one node's links put into a set.
+-- Assumes nothing.
+use mathlib.Core.Path.{_≡_, refl, sym, ap, _∙_, subst, fun-ext}
+use mathlib.Core.Logic.{_⊎_, ⊎-elim}
+use mathlib.Core.Bool.{Bool, true, false, _&&_, _||_, and-false, or-comm}
+use mathlib.Core.List.{List}
+use Prim.Native.Nat.{ℕ, _+_, _*_, _/_, _%_, _≤_, _<_}
+use native.Mathlib.Omega.{arith}
+use borrow.Author.Tests.{lt-ltb, le-ltb, eq-eqb, ne-eqb, eqb-true}
+use lib.Bits.{bitOr}
+use lib.Dec.{T, eqb, ltb}
+use lib.ListN.{length, getD, set, drop, replicate, length-set, drop-of-length-le}
+use lib.Seq.{getD-set-same, getD-set-other}
+use Rattle.model.specs.Basics.{has}
+use Rattle.model.specs.Graph.{Edges, between}
+use Rattle.model.specs.Survey.{Graph, linked, IsGraph}
+use Rattle.model.proofs.Acceptance.{linked-is, linked-has, linked-of}
+use Rattle.model.proofs.Loops.{drop-next, below-next}
+use Rattle.model.proofs.Tests.{and-l, and-r, and-i, T-true, true-T, same-test, eq-T, eq-or, lt-or}
+use Rattle.nodeset.specs.NodeSet.{Nodes, bit, member, nobody, with}
+use Rattle.nodeset.proofs.Bits.{bit-or, empty-words}
+use Rattle.layers.specs.Matrix.{edgesIn}
+
+-- two matrices have the same links
+same-edges : (E F : Edges) → ((u x : ℕ) → E u x ≡ F u x) → E ≡ F
+same-edges E F h = fun-ext (λ u. fun-ext (h u))
+
+-- ---- one link
+
+-- the number of a pair tells the pair
+pair-test : (u x v w : ℕ) → x < 1024 → w < 1024 → eqb (1024 * u + x) (1024 * v + w) ≡ (eqb u v && eqb x w)
+pair-test u x v w hx hw =
+    same-test (eqb (1024 * u + x) (1024 * v + w)) (eqb u v && eqb x w)
+    (λ t. let e = eqb-true (1024 * u + x) (1024 * v + w) (T-true (eqb (1024 * u + x) (1024 * v + w)) t) in
+    and-i (eqb u v) (eqb x w) (eq-T u v (omega arith)) (eq-T x w (omega arith)))
+    (λ t. let a = eqb-true u v (T-true (eqb u v) (and-l (eqb u v) (eqb x w) t)) in
+    let b = eqb-true x w (T-true (eqb x w) (and-r (eqb u v) (eqb x w) t)) in
+    eq-T (1024 * u + x) (1024 * v + w) (omega arith))
+
+-- the matrix with the link v-w
+edge-with : (ws ws′ : List ℕ) (v w : ℕ) → w < 1024 → member ws′ ≡ with (member ws) (1024 * v + w)
+    → edgesIn ws′ ≡ (λ u x. (eqb u v && eqb x w) || edgesIn ws u x)
+unfolding edgesIn with
+edge-with ws ws′ v w hw e = same-edges (edgesIn ws′) (λ u x. (eqb u v && eqb x w) || edgesIn ws u x) (λ u x.
+    ap (λ (p : Nodes). ltb x 1024 && p (1024 * u + x)) e
+    ∙ ⊎-elim (λ l. near u x l) (λ l. far u x l) (lt-or x 1024))
+  where
+    near : (u x : ℕ) → x < 1024 → (ltb x 1024 && (eqb (1024 * u + x) (1024 * v + w) || member ws (1024 * u + x))) ≡ ((eqb u v && eqb x w) || (ltb x 1024 && member ws (1024 * u + x)))
+    near u x l = rw (lt-ltb x 1024 l, pair-test u x v w l hw) refl
+
+    far : (u x : ℕ) → 1024 ≤ x → (ltb x 1024 && (eqb (1024 * u + x) (1024 * v + w) || member ws (1024 * u + x))) ≡ ((eqb u v && eqb x w) || (ltb x 1024 && member ws (1024 * u + x)))
+    far u x l = rw (le-ltb x 1024 l, ne-eqb x w (λ (q : x ≡ w). omega arith), and-false (eqb u v)) refl
+
+-- a test at x is the test at w where x is w
+at-one : (p : Nodes) (x w : ℕ) (b : Bool) → p w ≡ b → (eqb x w && p x) ≡ (eqb x w && b)
+at-one p x w b e = ⊎-elim (λ q. ap (λ (c : Bool). eqb x w && c) (ap p q ∙ e)) (λ d. rw (ne-eqb x w d) refl) (eq-or x w)
+
+pub link-not : (E : Edges) (p : Nodes) (v w : ℕ) → p w ≡ false → E ≡ (λ u x. (eqb u v && (eqb x w && p x)) || E u x)
+link-not E p v w e = same-edges E (λ u x. (eqb u v && (eqb x w && p x)) || E u x) (λ u x.
+    sym (rw (at-one p x w false e, and-false (eqb x w), and-false (eqb u v)) refl))
+
+pub link-put : (ws ws′ : List ℕ) (p : Nodes) (v w : ℕ) → w < 1024 → p w ≡ true → member ws′ ≡ with (member ws) (1024 * v + w)
+    → edgesIn ws′ ≡ (λ u x. (eqb u v && (eqb x w && p x)) || edgesIn ws u x)
+link-put ws ws′ p v w h t e =
+    edge-with ws ws′ v w h e
+    ∙ same-edges (λ u x. (eqb u v && eqb x w) || edgesIn ws u x) (λ u x. (eqb u v && (eqb x w && p x)) || edgesIn ws u x) (λ u x.
+    ap (λ (b : Bool). (eqb u v && b) || edgesIn ws u x) (sym (at-one p x w true t ∙ alone (eqb x w))))
+  where
+    alone : (b : Bool) → (b && true) ≡ b
+    alone true = refl
+    alone false = refl
+
+-- ---- the links of a list, one more at a time: those that are in the matrix, and those to be put into it
+
+pub record Linking (v : ℕ) (list : List ℕ) (p : Nodes) (E₀ : Edges) (ws : List ℕ) (i : ℕ) : Type 0 where
+  pub within : i ≤ length list
+  pub long : length ws ≡ 16384
+  pub says : (u x : ℕ) → ((eqb u v && (has x (drop i list) && p x)) || edgesIn ws u x) ≡ ((eqb u v && (has x list && p x)) || E₀ u x)
+
+module _ (v : ℕ) (list : List ℕ) (p : Nodes) (ws₀ : List ℕ) where
+  pub linking-none : length ws₀ ≡ 16384 → Linking v list p (edgesIn ws₀) ws₀ 0
+  linking-none l = record { within = omega arith; long = l; says = λ u x. refl }
+
+  module _ (ws : List ℕ) (i : ℕ) (h : Linking v list p (edgesIn ws₀) ws i) where
+    pub linking-more : (ws′ : List ℕ) → i < length list → length ws′ ≡ length ws
+        → edgesIn ws′ ≡ (λ u x. (eqb u v && (eqb x (getD list i 0) && p x)) || edgesIn ws u x) → Linking v list p (edgesIn ws₀) ws′ (i + 1)
+    unfolding has
+    linking-more ws′ l k e = record {
+      within = omega arith;
+      long = k ∙ h .long;
+      says = λ u x.
+          ap (λ (F : Edges). (eqb u v && (has x (drop (i + 1) list) && p x)) || F u x) e
+          ∙ spread (eqb u v) (eqb x (getD list i 0)) (has x (drop (i + 1) list)) (p x) (edgesIn ws u x)
+          ∙ ap (λ (r : List ℕ). (eqb u v && (has x r && p x)) || edgesIn ws u x) (sym (drop-next list i l)) ∙ h .says u x;
+    }
+      where
+        spread : (e q r t s : Bool) → ((e && (r && t)) || ((e && (q && t)) || s)) ≡ ((e && ((q || r) && t)) || s)
+        spread false q r t s = refl
+        spread true true true true s = refl
+        spread true true true false s = refl
+        spread true true false true s = refl
+        spread true true false false s = refl
+        spread true false true true s = refl
+        spread true false true false s = refl
+        spread true false false t s = refl
+
+    pub linking-all : length list ≤ i → edgesIn ws ≡ (λ u x. (eqb u v && (has x list && p x)) || edgesIn ws₀ u x)
+    unfolding has
+    linking-all l = same-edges (edgesIn ws) (λ u x. (eqb u v && (has x list && p x)) || edgesIn ws₀ u x) (λ u x.
+        sym (rw (drop-of-length-le list l, and-false (eqb u v)) refl) ∙ h .says u x)
+
+-- ---- the links of one node, and of the nodes below v
+
+module _ (n : ℕ) (G : Graph) (g : IsGraph n G) (p : Nodes) (v : ℕ) where
+  -- a test of u and x where u is v
+  at-node : (F H : Edges) → ((x : ℕ) → F v x ≡ H v x) → (u x : ℕ) → (eqb u v && F u x) ≡ (eqb u v && H u x)
+  at-node F H h u x =
+      ⊎-elim (λ q. ap (λ (b : Bool). eqb u v && b) (ap (λ (y : ℕ). F y x) q ∙ h x ∙ ap (λ (y : ℕ). H y x) (sym q))) (λ d. rw (ne-eqb u v d) refl) (eq-or u v)
+
+  pub node-not : (E : Edges) → p v ≡ false → E ≡ (λ u x. (eqb u v && between p (linked n G) u x) || E u x)
+  node-not E e = same-edges E (λ u x. (eqb u v && between p (linked n G) u x) || E u x) (λ u x.
+      sym (ap (λ (b : Bool). b || E u x) (
+      at-node (between p (linked n G)) (λ a b. false) (λ y. rw e refl) u x ∙ and-false (eqb u v))))
+
+  pub node-put : (E E′ : Edges) (own : List ℕ) → v < n → p v ≡ true → own ≡ G v → E′ ≡ (λ u x. (eqb u v && (has x own && p x)) || E u x)
+      → E′ ≡ (λ u x. (eqb u v && between p (linked n G) u x) || E u x)
+  node-put E E′ own h t o e =
+      e ∙ same-edges (λ u x. (eqb u v && (has x own && p x)) || E u x) (λ u x. (eqb u v && between p (linked n G) u x) || E u x) (λ u x.
+      ap (λ (b : Bool). b || E u x) (at-node (λ a b. has b own && p b) (between p (linked n G)) (λ y. here y) u x))
+    where
+      here : (y : ℕ) → (has y own && p y) ≡ between p (linked n G) v y
+      here y =
+          same-test (has y own && p y) (between p (linked n G) v y)
+          (λ q. and-i (p v && p y) (linked n G v y) (and-i (p v) (p y) (true-T (p v) t) (and-r (has y own) (p y) q))
+          (linked-of n G g v y h (subst (λ (l : List ℕ). T (has y l)) o (and-l (has y own) (p y) q))))
+          (λ q. and-i (has y own) (p y) (subst (λ (l : List ℕ). T (has y l)) (sym o) (linked-has n G v y (and-r (p v && p y) (linked n G v y) q)))
+          (and-r (p v) (p y) (and-l (p v && p y) (linked n G v y) q)))
+
+  -- what the matrix holds after the nodes below v
+  pub rows-next : (E E′ : Edges) → E ≡ (λ u x. ltb u v && between p (linked n G) u x) → E′ ≡ (λ u x. (eqb u v && between p (linked n G) u x) || E u x)
+      → E′ ≡ (λ u x. ltb u (v + 1) && between p (linked n G) u x)
+  rows-next E E′ e f =
+      f ∙ same-edges (λ u x. (eqb u v && between p (linked n G) u x) || E u x) (λ u x. ltb u (v + 1) && between p (linked n G) u x) (λ u x.
+      ap (λ (F : Edges). (eqb u v && between p (linked n G) u x) || F u x) e
+      ∙ ⊎-elim (λ q. at u (between p (linked n G) u x) q) (λ d. other u (between p (linked n G) u x) d) (eq-or u v))
+    where
+      at : (u : ℕ) (b : Bool) → u ≡ v → ((eqb u v && b) || (ltb u v && b)) ≡ (ltb u (v + 1) && b)
+      at u b q = rw (eq-eqb u v q, le-ltb u v (omega arith), lt-ltb u (v + 1) (omega arith)) (or-comm b false)
+
+      other : (u : ℕ) (b : Bool) → (u ≡ v → ⊥) → ((eqb u v && b) || (ltb u v && b)) ≡ (ltb u (v + 1) && b)
+      other u b d = ⊎-elim
+          (λ l. rw (ne-eqb u v d, lt-ltb u v l, lt-ltb u (v + 1) (omega arith)) refl)
+          (λ l. rw (ne-eqb u v d, le-ltb u v l, le-ltb u (v + 1) (omega arith)) refl)
+          (lt-or u v)
+
+pub rows-none : (F : Edges) (ws : List ℕ) → ws ≡ replicate 16384 0 → edgesIn ws ≡ (λ u x. ltb u 0 && F u x)
+unfolding edgesIn nobody
+rows-none F ws e = same-edges (edgesIn ws) (λ u x. ltb u 0 && F u x) (λ u x.
+    ap (λ (m : Nodes). ltb x 1024 && m (1024 * u + x)) (ap member e ∙ empty-words 16384)
+    ∙ and-false (ltb x 1024) ∙ sym (rw (le-ltb u 0 (omega arith)) refl))
+
+pub rows-all : (n v : ℕ) (G : Graph) (p : Nodes) (E : Edges) → v ≡ n → E ≡ (λ u x. ltb u v && between p (linked n G) u x) → E ≡ between p (linked n G)
+rows-all n v G p E q e =
+    e ∙ same-edges (λ u x. ltb u v && between p (linked n G) u x) (between p (linked n G)) (λ u x.
+    same-test (ltb u v && between p (linked n G) u x) (between p (linked n G) u x)
+    (λ t. and-r (ltb u v) (between p (linked n G) u x) t)
+    (λ t. let l = linked-is n G u x (and-r (p u && p x) (linked n G u x) t) in
+    and-i (ltb u v) (between p (linked n G) u x) (true-T (ltb u v) (lt-ltb u v (omega (arith, l .first)))) t))
+
+-- ---- one node's links put into a set, word by word
+
+pub record Joining (rows : List ℕ) (v : ℕ) (f₀ f : List ℕ) (i : ℕ) : Type 0 where
+  pub within : i ≤ 16
+  pub long : length f ≡ 16
+  pub done : (j : ℕ) → j < i → getD f j 0 ≡ bitOr (getD f₀ j 0) (getD rows (16 * v + j) 0)
+  pub rest : (j : ℕ) → i ≤ j → getD f j 0 ≡ getD f₀ j 0
+
+module _ (rows : List ℕ) (v : ℕ) (f₀ : List ℕ) where
+  pub joining-none : length f₀ ≡ 16 → Joining rows v f₀ f₀ 0
+  joining-none l = record { within = omega arith; long = l; done = λ j h. absurd (omega arith); rest = λ j h. refl }
+
+  module _ (f : List ℕ) (i : ℕ) (h : Joining rows v f₀ f i) where
+    pub joining-more : i < 16 → Joining rows v f₀ (set f i (bitOr (getD f i 0) (getD rows (16 * v + i) 0))) (i + 1)
+    joining-more l =
+        let w = bitOr (getD f i 0) (getD rows (16 * v + i) 0) in
+        record {
+          within = omega arith;
+          long = length-set f i w ∙ h .long;
+          done = below-next (λ (j : ℕ). getD (set f i w) j 0 ≡ bitOr (getD f₀ j 0) (getD rows (16 * v + j) 0)) i
+              (λ j q. getD-set-other f i j w 0 (omega arith) ∙ h .done j q)
+              (getD-set-same f i w 0 (omega (arith, h .long)) ∙ ap (λ (x : ℕ). bitOr x (getD rows (16 * v + i) 0)) (h .rest i (omega arith)));
+          rest = λ j q. getD-set-other f i j w 0 (omega arith) ∙ h .rest j (omega arith);
+        }
+
+    pub joining-all : 16 ≤ i → length f₀ ≡ 16 → member f ≡ (λ x. edgesIn rows v x || member f₀ x)
+    unfolding member edgesIn
+    joining-all l k = fun-ext (λ x. ⊎-elim (λ q. near x q) (λ q. far x q) (lt-or x 1024))
+      where
+        near : (x : ℕ) → x < 1024 → bit (getD f (x / 64) 0) (x % 64) ≡ ((ltb x 1024 && bit (getD rows ((1024 * v + x) / 64) 0) ((1024 * v + x) % 64)) || bit (getD f₀ (x / 64) 0) (x % 64))
+        near x q =
+            let a : (1024 * v + x) / 64 ≡ 16 * v + x / 64 = omega arith in
+            let b : (1024 * v + x) % 64 ≡ x % 64 = omega arith in
+            ap (λ (y : ℕ). bit y (x % 64)) (h .done (x / 64) (omega arith))
+            ∙ bit-or (getD f₀ (x / 64) 0) (getD rows (16 * v + x / 64) 0) (x % 64)
+            ∙ or-comm (bit (getD f₀ (x / 64) 0) (x % 64)) (bit (getD rows (16 * v + x / 64) 0) (x % 64))
+            ∙ sym (rw (lt-ltb x 1024 q, a, b) refl)
+
+        far : (x : ℕ) → 1024 ≤ x → bit (getD f (x / 64) 0) (x % 64) ≡ ((ltb x 1024 && bit (getD rows ((1024 * v + x) / 64) 0) ((1024 * v + x) % 64)) || bit (getD f₀ (x / 64) 0) (x % 64))
+        far x q = ap (λ (y : ℕ). bit y (x % 64)) (h .rest (x / 64) (omega (arith, h .within))) ∙ sym (rw (le-ltb x 1024 q) refl)
