@@ -1,4 +1,5 @@
 // The hubs: a dominating set of the high nodes, chosen greedily. Sets of nodes are 64-bit words.
+use model::NONE;
 ghost use mathlib.Core.Path.{_≡_};
 ghost use mathlib.Core.Bool.{_&&_, _||_};
 ghost use Prim.Native.Nat.{ℕ, _/_, _<_, _≤_};
@@ -8,9 +9,6 @@ ghost use Rattle.model.specs.Basics.{upTo, has, keep, over};
 ghost use Rattle.model.specs.Survey.{neighboursOf, Accepted};
 ghost use Rattle.model.specs.Hubs.{isHigh, isLow, closed, gain, best, hubs, hubList};
 ghost use Rattle.nodeset.specs.NodeSet.{member, without};
-
-// What the list holds after the hubs.
-const NONE: u16 = 65535;
 
 // The nodes with at least s neighbours, put into the empty set. A node's degree is known from two starts.
 pub fn high_nodes(n: usize, s: usize, starts: &[u32], neighbours: &[u16], words: &mut [u64])

@@ -1,4 +1,5 @@
 // Breadth-first search by words: a node's neighbours are 16 words of a matrix, and a layer of the search is a set.
+use model::NONE;
 ghost use mathlib.Core.Path.{_≡_};
 ghost use mathlib.Core.Bool.{_&&_, _||_};
 ghost use mathlib.Core.List.{map};
@@ -10,9 +11,6 @@ ghost use Rattle.model.specs.Graph.{between, fewest};
 ghost use Rattle.model.specs.Survey.{neighboursOf, linked, Accepted};
 ghost use Rattle.nodeset.specs.NodeSet.{member, membersFrom};
 ghost use Rattle.layers.specs.Matrix.{edgesIn, marked};
-
-// The distance of a node that is not reached.
-const NONE: u16 = 65535;
 
 // Puts the link v-w into the matrix, if w is allowed.
 fn link(v: usize, w: usize, allowed: &[u64], rows: &mut [u64])

@@ -2,6 +2,7 @@
 use model::Answer;
 use model::Asking;
 use model::Counting;
+use model::NONE;
 use model::Reading;
 use model::Refusal;
 use model::Route;
@@ -15,9 +16,6 @@ ghost use Rattle.model.specs.Survey.{neighboursOf, Accepted};
 ghost use Rattle.model.specs.Listing.{reportText, routeText, pairLine, pairLines, listingOf, listed, listing};
 ghost use Rattle.model.specs.Writing.{writingOf, returned};
 ghost use Rattle.listing.specs.Rows.{most, answerText, rowText};
-
-// The report of a pair that no chain joins.
-const NONE: u16 = 65535;
 
 // Writes two bytes at a place, and returns the place after them.
 fn write_two(buffer: &mut [u8], at: usize, x: u8, y: u8) -> usize

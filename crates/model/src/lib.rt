@@ -1,5 +1,8 @@
 // The types that the open calls share. What each call answers and leaves is defined in specs/.
 
+// The entry that means none: an infinite distance, or no node.
+pub const NONE: u16 = 65535;
+
 // Why a call refuses. `number` of specs/Answers.antt gives each its number in document 01.
 pub enum Refusal {
     // The text is not in the stated form.

@@ -1,6 +1,7 @@
 // Asking a pair: the report with its route, read off the three tables.
 use model::Answer;
 use model::Asking;
+use model::NONE;
 use model::Refusal;
 use model::Route;
 ghost use mathlib.Core.Path.{_≡_};
@@ -16,9 +17,6 @@ ghost use Rattle.model.specs.Tables.{entry, via, AreBuilt};
 ghost use Rattle.model.specs.Pair.{answer, taken, attaining, pair};
 ghost use Rattle.model.specs.Asking.{asking};
 ghost use Rattle.model.specs.Demand.{AllowedAnswer};
-
-// An entry of a table that means none: an infinite distance. As a node, no node.
-pub const NONE: u16 = 65535;
 
 // Entry (row, column) of a table of n nodes.
 pub fn entry_at(n: usize, table: &[u16], row: usize, column: usize) -> u16

@@ -1,4 +1,5 @@
 // Breadth-first search over an accepted survey, linear in its nodes and links.
+use model::NONE;
 ghost use mathlib.Core.Path.{_≡_};
 ghost use mathlib.Core.Logic.{_⊎_};
 ghost use mathlib.Core.List.{map};
@@ -11,9 +12,6 @@ ghost use Rattle.model.specs.Graph.{between, fewest};
 ghost use Rattle.model.specs.Survey.{neighboursOf, linked, Accepted};
 ghost use Rattle.nodeset.specs.NodeSet.{member};
 ghost use Rattle.search.specs.Visiting.{unreached, progress, visited, visitedAll, Unvisited};
-
-// The distance of a node that is not reached.
-const NONE: u16 = 65535;
 
 // Gives node w the distance d and a place in the queue, if it is unvisited: allowed, and without a distance. Returns the queue's new end.
 fn visit(

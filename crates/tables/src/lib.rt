@@ -1,5 +1,6 @@
 // The three tables and the hub list, built from a survey.
 use model::Counting;
+use model::NONE;
 use model::Refusal;
 ghost use mathlib.Core.Path.{_≡_};
 ghost use mathlib.Core.Bool.{not, _||_};
@@ -17,9 +18,6 @@ ghost use Rattle.model.specs.Building.{Building, built, returned, building};
 ghost use Rattle.nodeset.specs.NodeSet.{member};
 ghost use Rattle.layers.specs.Matrix.{edgesIn};
 ghost use Rattle.tables.specs.Rows.{relaxed};
-
-// The entry for "none".
-const NONE: u16 = 65535;
 
 // The lesser of two numbers.
 fn lesser(a: u32, b: u32) -> u32

@@ -1,5 +1,6 @@
 // The two-or-four test: whether some two nodes are unjoined, and which of two depths the searches from a few nodes show.
 use model::Accepting;
+use model::NONE;
 use model::Tested;
 use model::Testing;
 use model::Verdict;
@@ -15,9 +16,6 @@ ghost use Rattle.model.specs.TwoOrFour.{sources, tested};
 ghost use Rattle.model.specs.Testing.{testing};
 ghost use Rattle.model.specs.Demand.{RightVerdict};
 ghost use Rattle.verdict.specs.Depth.{greatest, distances, ofDepth};
-
-// The entry for "none": deeper than any distance.
-const NONE: u16 = 65535;
 
 // The greater of two numbers.
 fn greater(a: u16, b: u16) -> u16

@@ -63,7 +63,7 @@ fn next_node(
         }
         i += 1;
     }
-    pairs::NONE
+    model::NONE
 }
 
 // Takes d steps from v, each to the first neighbour that leaves one link fewer, and tells whether they end at the goal. A node's
@@ -90,7 +90,7 @@ fn take_steps(
     }
     let row = survey::own(n, starts, neighbours, v);
     let x = next_node(n, starts, neighbours, row, limit, table, step, d - 1);
-    if x == pairs::NONE {
+    if x == model::NONE {
         return false;
     }
     take_steps(
@@ -329,7 +329,7 @@ pub fn write_walk(
         → AllowedAnswer (linked n (neighboursOf (now (starts .entry)) (now (neighbours .entry)))) a b (asking n (now (full .entry)) (now (low .entry)) (now (report .entry)) a b)
         × WalkAnswers (length (now (walk .entry))) (asking n (now (full .entry)) (now (low .entry)) (now (report .entry)) a b) (walked r (now (walk .exit)))) ⌝ }
 {
-    lists::fill16(walk, pairs::NONE);
+    lists::fill16(walk, model::NONE);
     match judge(n, starts, neighbours, full, low, report, a, b) {
         Asking::Refused(k) => Asking::Refused(k),
         Asking::Answered(x) => write_route(n, starts, neighbours, full, low, a, b, x, walk),
