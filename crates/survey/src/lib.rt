@@ -21,14 +21,14 @@ pub fn own<'a>(n: usize, starts: &[u32], neighbours: &'a [u16], v: usize) -> &'a
     &neighbours[a..e]
 }
 
-// Whether every number of the list is below n.
-fn all_below(list: &[u16], n: usize) -> bool
+// Whether every number of the list is below n. Both have 16 bits, so that many are compared at once.
+fn all_below(list: &[u16], n: u16) -> bool
     ensures { λ r. ⌜ r ≡ all (λ x. ltb x n) (now (list .entry)) ⌝ }
 {
     let mut good = true;
     let mut i = 0;
     while i < list.len() {
-        good = good & ((list[i] as usize) < n);
+        good = good & (list[i] < n);
         i += 1;
     }
     good
@@ -197,7 +197,7 @@ pub fn is_survey(n: usize, starts: &[u32], neighbours: &[u16]) -> bool
     if neighbours.len() < last {
         return false;
     }
-    if !all_below(&neighbours[..last], n) {
+    if !all_below(&neighbours[..last], n as u16) {
         return false;
     }
     if !rows_ascend(n, starts, neighbours) {

@@ -26,9 +26,6 @@ mul-good c = omega arith
 shared-slice-read-good : tie.Need-shared-slice-read-good Inv-loop μ-loop
 shared-slice-read-good c = omega arith
 
-cast-good : tie.Need-cast-good Inv-loop μ-loop
-cast-good c = omega (arith, c .shared-slice-known .given (c .before .before .loop .i))
-
 add-i : tie.Need-add-i Inv-loop μ-loop
 add-i c = omega arith
 
@@ -54,7 +51,6 @@ all-below-spec =
     loop-holds
     mul-good
     shared-slice-read-good
-    cast-good
     add-i
     loop-less
     loop-again

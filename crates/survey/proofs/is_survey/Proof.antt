@@ -43,6 +43,9 @@ returns-5 c = sym (not-within (c .before .before .before .before .before .before
 slice-aggregate-all-below : tie.Need-slice-aggregate-all-below
 slice-aggregate-all-below c = sym (length-take-le (getD (c .before .before .before .before .before .before .before .before .before .before .before .args .starts .now) (c .before .before .before .before .before .before .before .before .before .before .before .args .n) 0) (c .before .before .before .before .before .before .before .before .before .before .before .args .neighbours .now) (c .before .if5 .left))
 
+cast-all-below : tie.Need-cast-all-below
+cast-all-below c = search needs
+
 all-below-requires : tie.Need-all-below-requires
 all-below-requires c κs = search needs
 
@@ -76,6 +79,7 @@ is-survey-spec =
     returns-4
     returns-5
     slice-aggregate-all-below
+    cast-all-below
     all-below-requires
     returns-6
     rows-ascend-requires
