@@ -138,14 +138,13 @@ fn all_matched(n: usize, starts: &[u32], cursors: &[u16]) -> bool
     requires { ⌜ (n + 1 ≤ length (now starts)) × (n ≤ length (now cursors)) ⌝ }
     ensures { λ r. ⌜ r ≡ all (λ v. eqb (getD (now (cursors .entry)) v 0) (getD (now (starts .entry)) (v + 1) 0)) (upTo n) ⌝ }
 {
+    let mut good = true;
     let mut v = 0;
     while v < n {
-        if cursors[v] as u32 != starts[v + 1] {
-            return false;
-        }
+        good = good & (cursors[v] as u32 == starts[v + 1]);
         v += 1;
     }
-    true
+    good
 }
 
 // Whether no node is its own neighbour and b stands at a exactly when a stands at b. Linear: each node's larger neighbours are met
@@ -166,14 +165,13 @@ fn starts_rise(n: usize, starts: &[u32]) -> bool
     requires { ⌜ n + 1 ≤ length (now starts) ⌝ }
     ensures { λ r. ⌜ r ≡ all (λ v. leb (getD (now (starts .entry)) v 0) (getD (now (starts .entry)) (v + 1) 0)) (upTo n) ⌝ }
 {
+    let mut good = true;
     let mut v = 0;
     while v < n {
-        if starts[v + 1] < starts[v] {
-            return false;
-        }
+        good = good & (starts[v] <= starts[v + 1]);
         v += 1;
     }
-    true
+    good
 }
 
 // Whether the lists are a survey's, for n from 1 to 1,024 and `starts` long enough. Linear in nodes and links.

@@ -1,46 +1,42 @@
--- `survey::all_matched` meets its contract: every node below v passes the test.
+-- `survey::all_matched` meets its contract: what was found is whether all nodes below v pass the test.
 -- Assumes nothing.
-use borrow.Author.Needs.{needs}
-use mathlib.Core.Path.{_≡_, sym}
-use mathlib.Core.Bool.{true}
-use Prim.Native.Nat.{ℕ, _+_, _≤_, _<_, _-_}
+use Prim.Native.Nat.{ℕ, _+_, _-_}
 use native.Mathlib.Omega.{arith}
 use lib.Dec.{eqb}
 use lib.ListN.{getD}
-use borrow.Author.Tests.{eq-eqb, ne-eqb}
-use Rattle.model.proofs.Loops.{every-below, some-fails, below-next}
+use borrow.Author.Needs.{needs}
+use Rattle.survey.proofs.Nodes.{Tested, tested-none, tested-more, tested-all}
 use Rattle.survey.proofs.all_matched.Statement.{statement}
 use Rattle.survey.proofs.all_matched.Tie as tie
+use Rattle.survey.proofs.all_matched.Reads as reads
+use Rattle.survey.proofs.all_matched.Lts as lts
 
 abbrev Inv-loop : tie.InvT-loop
-Inv-loop n starts cursors v₀ v = (v ≤ n) × ((u : ℕ) → u < v → eqb (getD cursors u 0) (getD starts (u + 1) 0) ≡ true)
+Inv-loop n starts cursors good₀ v₀ good v = Tested (λ u. eqb (getD cursors u 0) (getD starts (u + 1) 0)) n v good
 
 abbrev μ-loop : tie.MeasureT-loop
-μ-loop n starts cursors v₀ v = n - v
+μ-loop n starts cursors good₀ v₀ good v = n - v
 
 loop-holds : tie.Need-loop-holds Inv-loop μ-loop
-loop-holds c = (omega arith, λ u h. absurd (omega arith))
+loop-holds c = tested-none (λ (u : ℕ). eqb (getD (c .args .cursors .now) u 0) (getD (c .args .starts .now) (u + 1) 0)) (c .args .n)
 
-mul-if1 : tie.Need-mul-if1 Inv-loop μ-loop
-mul-if1 c = search needs
+mul-good : tie.Need-mul-good Inv-loop μ-loop
+mul-good c = search needs
 
-shared-slice-read-if1 : tie.Need-shared-slice-read-if1 Inv-loop μ-loop
-shared-slice-read-if1 c = search needs
+shared-slice-read-good : tie.Need-shared-slice-read-good Inv-loop μ-loop
+shared-slice-read-good c = search needs
 
-cast-if1 : tie.Need-cast-if1 Inv-loop μ-loop
-cast-if1 c = omega (arith, (c .shared-slice-known .given) (c .before .before .loop .v))
+cast-good : tie.Need-cast-good Inv-loop μ-loop
+cast-good c = omega (arith, (c .shared-slice-known .given) (c .before .before .loop .v))
 
-add-if1 : tie.Need-add-if1 Inv-loop μ-loop
-add-if1 c = search needs
+add-good : tie.Need-add-good Inv-loop μ-loop
+add-good c = search needs
 
-mul-if1-2 : tie.Need-mul-if1-2 Inv-loop μ-loop
-mul-if1-2 c = search needs
+mul-good-2 : tie.Need-mul-good-2 Inv-loop μ-loop
+mul-good-2 c = search needs
 
-shared-slice-read-if1-2 : tie.Need-shared-slice-read-if1-2 Inv-loop μ-loop
-shared-slice-read-if1-2 c = search needs
-
-returns : tie.Need-returns Inv-loop μ-loop
-returns c = sym (some-fails (λ u. (eqb (getD (c .before .before .before .before .before .args .cursors .now) u 0) (getD (c .before .before .before .before .before .args .starts .now) (u + 1) 0))) (c .before .before .before .before .before .args .n) (c .before .before .before .before .loop .v) (c .before .before .before .loop-test .taken) (ne-eqb _ _ (c .if1 .taken)))
+shared-slice-read-good-2 : tie.Need-shared-slice-read-good-2 Inv-loop μ-loop
+shared-slice-read-good-2 c = search needs
 
 add-v : tie.Need-add-v Inv-loop μ-loop
 add-v c = search needs
@@ -49,10 +45,10 @@ loop-less : tie.Need-loop-less Inv-loop μ-loop
 loop-less c = search needs
 
 loop-again : tie.Need-loop-again Inv-loop μ-loop
-loop-again c = (omega arith, below-next (λ (u : ℕ). (eqb (getD (c .before .before .before .before .before .args .cursors .now) u 0) (getD (c .before .before .before .before .before .args .starts .now) (u + 1) 0)) ≡ true) (c .before .before .before .before .loop .v) (c .before .before .before .before .loop .inv .1) (eq-eqb _ _ (c .if1 .left)))
+loop-again c = tested-more (λ (u : ℕ). eqb (getD (c .before .before .before .before .args .cursors .now) u 0) (getD (c .before .before .before .before .args .starts .now) (u + 1) 0)) (c .before .before .before .before .args .n) (c .before .before .before .loop .v) (c .before .before .before .loop .good) (omega (arith, (c .before .before .loop-test .taken))) (c .before .before .before .loop .inv)
 
-returns-2 : tie.Need-returns-2 Inv-loop μ-loop
-returns-2 c = sym (every-below (λ u. (eqb (getD (c .before .before .args .cursors .now) u 0) (getD (c .before .before .args .starts .now) (u + 1) 0))) (c .before .before .args .n) (λ u h. (c .before .loop .inv .1) u (omega arith)))
+returns : tie.Need-returns Inv-loop μ-loop
+returns c = tested-all (λ (u : ℕ). eqb (getD (c .before .before .args .cursors .now) u 0) (getD (c .before .before .args .starts .now) (u + 1) 0)) (c .before .before .args .n) (c .before .loop .v) (c .before .loop .good) (c .loop-test .left) (c .before .loop .inv)
 
 pub all-matched-spec : {M : Type 1} → statement M
 all-matched-spec =
@@ -61,14 +57,13 @@ all-matched-spec =
     Inv-loop
     μ-loop
     loop-holds
-    mul-if1
-    shared-slice-read-if1
-    cast-if1
-    add-if1
-    mul-if1-2
-    shared-slice-read-if1-2
-    returns
+    mul-good
+    shared-slice-read-good
+    cast-good
+    add-good
+    mul-good-2
+    shared-slice-read-good-2
     add-v
     loop-less
     loop-again
-    returns-2)
+    returns)

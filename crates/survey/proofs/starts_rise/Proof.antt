@@ -1,43 +1,39 @@
--- `survey::starts_rise` meets its contract: every node below v passes the test.
+-- `survey::starts_rise` meets its contract: what was found is whether all nodes below v pass the test.
 -- Assumes nothing.
-use borrow.Author.Needs.{needs}
-use mathlib.Core.Path.{_≡_, sym}
-use mathlib.Core.Bool.{true}
-use Prim.Native.Nat.{ℕ, _+_, _≤_, _<_, _-_}
+use Prim.Native.Nat.{ℕ, _+_, _-_}
 use native.Mathlib.Omega.{arith}
 use lib.Dec.{leb}
 use lib.ListN.{getD}
-use borrow.Author.Tests.{lt-leb, le-leb}
-use Rattle.model.proofs.Loops.{every-below, some-fails, below-next}
+use borrow.Author.Needs.{needs}
+use Rattle.survey.proofs.Nodes.{Tested, tested-none, tested-more, tested-all}
 use Rattle.survey.proofs.starts_rise.Statement.{statement}
 use Rattle.survey.proofs.starts_rise.Tie as tie
+use Rattle.survey.proofs.starts_rise.Reads as reads
+use Rattle.survey.proofs.starts_rise.Lts as lts
 
 abbrev Inv-loop : tie.InvT-loop
-Inv-loop n starts v₀ v = (v ≤ n) × ((u : ℕ) → u < v → leb (getD starts u 0) (getD starts (u + 1) 0) ≡ true)
+Inv-loop n starts good₀ v₀ good v = Tested (λ u. leb (getD starts u 0) (getD starts (u + 1) 0)) n v good
 
 abbrev μ-loop : tie.MeasureT-loop
-μ-loop n starts v₀ v = n - v
+μ-loop n starts good₀ v₀ good v = n - v
 
 loop-holds : tie.Need-loop-holds Inv-loop μ-loop
-loop-holds c = (omega arith, λ u h. absurd (omega arith))
+loop-holds c = tested-none (λ (u : ℕ). leb (getD (c .args .starts .now) u 0) (getD (c .args .starts .now) (u + 1) 0)) (c .args .n)
 
-add-if1 : tie.Need-add-if1 Inv-loop μ-loop
-add-if1 c = search needs
+mul-good : tie.Need-mul-good Inv-loop μ-loop
+mul-good c = search needs
 
-mul-if1 : tie.Need-mul-if1 Inv-loop μ-loop
-mul-if1 c = search needs
+shared-slice-read-good : tie.Need-shared-slice-read-good Inv-loop μ-loop
+shared-slice-read-good c = search needs
 
-shared-slice-read-if1 : tie.Need-shared-slice-read-if1 Inv-loop μ-loop
-shared-slice-read-if1 c = search needs
+add-good : tie.Need-add-good Inv-loop μ-loop
+add-good c = search needs
 
-mul-if1-2 : tie.Need-mul-if1-2 Inv-loop μ-loop
-mul-if1-2 c = search needs
+mul-good-2 : tie.Need-mul-good-2 Inv-loop μ-loop
+mul-good-2 c = search needs
 
-shared-slice-read-if1-2 : tie.Need-shared-slice-read-if1-2 Inv-loop μ-loop
-shared-slice-read-if1-2 c = search needs
-
-returns : tie.Need-returns Inv-loop μ-loop
-returns c = sym (some-fails (λ u. (leb (getD (c .before .before .before .before .before .args .starts .now) u 0) (getD (c .before .before .before .before .before .args .starts .now) (u + 1) 0))) (c .before .before .before .before .before .args .n) (c .before .before .before .before .loop .v) (c .before .before .before .loop-test .taken) (lt-leb _ _ (c .if1 .taken)))
+shared-slice-read-good-2 : tie.Need-shared-slice-read-good-2 Inv-loop μ-loop
+shared-slice-read-good-2 c = search needs
 
 add-v : tie.Need-add-v Inv-loop μ-loop
 add-v c = search needs
@@ -46,10 +42,10 @@ loop-less : tie.Need-loop-less Inv-loop μ-loop
 loop-less c = search needs
 
 loop-again : tie.Need-loop-again Inv-loop μ-loop
-loop-again c = (omega arith, below-next (λ (u : ℕ). (leb (getD (c .before .before .before .before .before .args .starts .now) u 0) (getD (c .before .before .before .before .before .args .starts .now) (u + 1) 0)) ≡ true) (c .before .before .before .before .loop .v) (c .before .before .before .before .loop .inv .1) (le-leb _ _ (c .if1 .left)))
+loop-again c = tested-more (λ (u : ℕ). leb (getD (c .before .before .before .before .args .starts .now) u 0) (getD (c .before .before .before .before .args .starts .now) (u + 1) 0)) (c .before .before .before .before .args .n) (c .before .before .before .loop .v) (c .before .before .before .loop .good) (omega (arith, (c .before .before .loop-test .taken))) (c .before .before .before .loop .inv)
 
-returns-2 : tie.Need-returns-2 Inv-loop μ-loop
-returns-2 c = sym (every-below (λ u. (leb (getD (c .before .before .args .starts .now) u 0) (getD (c .before .before .args .starts .now) (u + 1) 0))) (c .before .before .args .n) (λ u h. (c .before .loop .inv .1) u (omega arith)))
+returns : tie.Need-returns Inv-loop μ-loop
+returns c = tested-all (λ (u : ℕ). leb (getD (c .before .before .args .starts .now) u 0) (getD (c .before .before .args .starts .now) (u + 1) 0)) (c .before .before .args .n) (c .before .loop .v) (c .before .loop .good) (c .loop-test .left) (c .before .loop .inv)
 
 pub starts-rise-spec : {M : Type 1} → statement M
 starts-rise-spec =
@@ -58,13 +54,12 @@ starts-rise-spec =
     Inv-loop
     μ-loop
     loop-holds
-    add-if1
-    mul-if1
-    shared-slice-read-if1
-    mul-if1-2
-    shared-slice-read-if1-2
-    returns
+    mul-good
+    shared-slice-read-good
+    add-good
+    mul-good-2
+    shared-slice-read-good-2
     add-v
     loop-less
     loop-again
-    returns-2)
+    returns)
