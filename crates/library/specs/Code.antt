@@ -1,6 +1,6 @@
 -- Answers as one number of 64 bits, for callers in C.
 -- Assumes nothing.
-use Prim.Native.Nat.{ℕ, _+_, _*_, _%_}
+use Prim.Native.Nat.{ℕ, _+_, _*_}
 use Rattle.model.specs.declared.Size.{Size}
 use Rattle.model.specs.declared.Route.{Route}
 use Rattle.model.specs.declared.Route.the-variants.{Itself, Low, Through, NoRoute}
@@ -10,7 +10,8 @@ use Rattle.model.specs.declared.Verdict.the-variants.{Parted, Long, Short}
 use Rattle.model.specs.declared.Tested.{Tested}
 use Rattle.model.specs.Answers.{Outcome, refused, answered}
 
--- the low 16 bits are document 01's number of the refusal, or 0 where there is an answer; above them stand the answer's values
+-- the low 16 bits are document 01's number of the refusal, or 0 where there is an answer; above them stand the answer's values. That
+-- each value fits its field is proved in proofs/Fits.antt
 abbrev pub code : {A : Type 0} → (values : A → ℕ) → Outcome A → ℕ
 code values (refused k) = k
 code values (answered x) = 65536 * values x
@@ -19,13 +20,13 @@ code values (answered x) = 65536 * values x
 abbrev pub nothing : Unit {0} → ℕ
 nothing x = 0
 
--- a count takes the 48 bits that are left
+-- a count has the 48 bits that are left
 abbrev pub count : ℕ → ℕ
-count k = k % 281474976710656
+count k = k
 
 -- two fields of 16 bits: nodes, then links
 abbrev pub size : Size → ℕ
-size x = x .nodes % 65536 + 65536 * (x .links % 65536)
+size x = x .nodes + 65536 * x .links
 
 -- two fields of 16 bits: which of the four routes, then the hub, or 0
 abbrev pub routeField : Route → ℕ
@@ -45,4 +46,4 @@ verdictField Short = 2
 
 -- two fields of 16 bits: the verdict, then the count of searches
 abbrev pub tested : Tested → ℕ
-tested x = verdictField (x .verdict) + 65536 * (x .searches % 65536)
+tested x = verdictField (x .verdict) + 65536 * x .searches

@@ -5,12 +5,14 @@ use model::Asking;
 use model::Counting;
 use model::Reading;
 use model::Route;
+use model::Size;
+use model::Tested;
 use model::Testing;
 use model::Verdict;
 ghost use mathlib.Core.Path.{_≡_};
-ghost use Prim.Native.Nat.{_<_, _^_};
+ghost use Prim.Native.Nat.{ℕ, _<_, _^_};
 ghost use lib.ListN.{length};
-ghost use Rattle.model.specs.Answers.{acceptAnswer, readAnswer, countAnswer, pairAnswer, testAnswer};
+ghost use Rattle.model.specs.Answers.{answered, acceptAnswer, readAnswer, countAnswer, pairAnswer, testAnswer};
 ghost use Rattle.model.specs.Survey.{accepting};
 ghost use Rattle.model.specs.Threshold.{thresholdAnswer};
 ghost use Rattle.model.specs.Reading.{reading};
@@ -33,21 +35,23 @@ fn accepting_code(x: Accepting) -> u64
 
 // What a call answers whose value is a count, as one number.
 fn counting_code(x: Counting) -> u64
+    requires { ⌜ ((k : ℕ) → countAnswer x ≡ answered k → k < 2 ^ 48) ⌝ }
     ensures { λ r. ⌜ r ≡ code count (countAnswer x) ⌝ }
 {
     match x {
         Counting::Refused(k) => refusals::refusal_number(k) as u64,
-        Counting::Count(c) => 65536 * (c as u64 % 281474976710656),
+        Counting::Count(c) => 65536 * (c as u64),
     }
 }
 
 // What reading answers, as one number.
 fn reading_code(x: Reading) -> u64
+    requires { ⌜ ((s : Size) → readAnswer x ≡ answered s → (s .nodes < 65536) × (s .links < 65536)) ⌝ }
     ensures { λ r. ⌜ r ≡ code size (readAnswer x) ⌝ }
 {
     match x {
         Reading::Refused(k) => refusals::refusal_number(k) as u64,
-        Reading::Read(s) => 65536 * (s.nodes as u64 % 65536 + 65536 * (s.links as u64 % 65536)),
+        Reading::Read(s) => 65536 * (s.nodes as u64 + 65536 * (s.links as u64)),
     }
 }
 
@@ -91,13 +95,14 @@ fn verdict_field(x: Verdict) -> u64
 
 // What testing answers, as one number.
 fn testing_code(x: Testing) -> u64
+    requires { ⌜ ((t : Tested) → testAnswer x ≡ answered t → t .searches < 65536) ⌝ }
     ensures { λ r. ⌜ r ≡ code tested (testAnswer x) ⌝ }
 {
     match x {
         Testing::Refused(k) => refusals::refusal_number(k) as u64,
         Testing::Tested(t) => {
             let verdict = t.verdict;
-            65536 * (verdict_field(verdict) + 65536 * (t.searches as u64 % 65536))
+            65536 * (verdict_field(verdict) + 65536 * (t.searches as u64))
         }
     }
 }

@@ -2,6 +2,7 @@
 -- Assumes nothing.
 use mathlib.Core.Path.{sym, ap}
 use Rattle.model.specs.Answers.{countAnswer}
+use native.Mathlib.Omega.{arith}
 use Rattle.library.specs.Code.{code, count}
 use Rattle.model.specs.declared.Counting.{Counting}
 use borrow.Author.Needs.{needs}
@@ -24,7 +25,7 @@ enum-known-x-2 : tie.Need-enum-known-x-2
 enum-known-x-2 c = search needs
 
 mul-result : tie.Need-mul-result
-mul-result c = search needs
+mul-result c = omega (arith, (c .before .before .before .pre) (c .before .x2 .given .0 .0) (ap countAnswer (c .before .x2 .given .1)))
 
 returns : tie.Need-returns
 returns c = search needs

@@ -1,6 +1,8 @@
 -- `library::puxerdau_build` meets its contract: the call's outcome, in code.
 -- Assumes nothing.
-use mathlib.Core.Path.{ap, _∙_}
+use mathlib.Core.Path.{sym, ap, _∙_}
+use Rattle.library.proofs.Fits.{hubs-fit}
+use native.Mathlib.Omega.{arith}
 use Rattle.library.specs.Code.{code, count}
 use Rattle.model.specs.Building.{Building}
 use borrow.Author.Needs.{needs}
@@ -15,7 +17,7 @@ build-requires : tie.Need-build-requires
 build-requires c κs = search needs
 
 counting-code-requires : tie.Need-counting-code-requires
-counting-code-requires c κs = search needs
+counting-code-requires c κs = λ k e. omega (arith, hubs-fit (c .before .before .before .before .before .before .before .before .before .before .before .before .before .before .before .before .before .before .before .args .n) (c .before .before .before .before .before .before .before .before .before .before .before .before .before .before .before .before .before .before .before .args .starts .now) (c .before .before .before .before .before .before .before .before .before .before .before .before .before .before .before .before .before .before .before .args .neighbours .now) (c .before .before .before .before .before .before .before .before .before .before .before .before .before .before .before .before .before .before .before .args .full .now) (c .before .before .before .before .before .before .before .before .before .before .before .before .before .before .before .before .before .before .before .args .low .now) (c .before .before .before .before .before .before .before .before .before .before .before .before .before .before .before .before .before .before .before .args .report .now) (c .before .before .before .before .before .before .before .before .before .before .before .before .before .before .before .before .before .before .before .args .hubs .now) k (sym (ap (λ (x : Building). x .answer) (c .before .before .before .before .before .before .before .before .build .ensures)) ∙ e))
 
 same-length : tie.Need-same-length
 same-length c = search needs

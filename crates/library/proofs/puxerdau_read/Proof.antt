@@ -1,6 +1,9 @@
 -- `library::puxerdau_read` meets its contract: the call's outcome, in code.
 -- Assumes nothing.
-use mathlib.Core.Path.{ap, _∙_}
+use mathlib.Core.Path.{sym, ap, _∙_}
+use Rattle.library.proofs.Fits.{read-fits}
+use native.Mathlib.Omega.{arith}
+use lib.ListN.{length}
 use Rattle.library.specs.Code.{code, size}
 use Rattle.model.specs.Reading.{Reading}
 use borrow.Author.Needs.{needs}
@@ -15,7 +18,7 @@ read-survey-requires : tie.Need-read-survey-requires
 read-survey-requires c κs = search needs
 
 reading-code-requires : tie.Need-reading-code-requires
-reading-code-requires c κs = search needs
+reading-code-requires c κs = λ s e. let f = read-fits (c .before .before .before .before .before .before .before .before .before .before .args .text .now) (length (c .before .before .before .before .before .before .before .before .before .before .args .starts .now)) (length (c .before .before .before .before .before .before .before .before .before .before .args .neighbours .now)) s (sym (ap (λ (x : Reading). x .answer) ((c .before .before .before .before .read-survey .ensures .0))) ∙ e) in (omega (arith, f .0), omega (arith, f .1))
 
 same-length : tie.Need-same-length
 same-length c = search needs

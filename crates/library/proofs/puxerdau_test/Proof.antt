@@ -1,6 +1,8 @@
 -- `library::puxerdau_test` meets its contract: the call's outcome, in code.
 -- Assumes nothing.
-use mathlib.Core.Path.{ap, _∙_}
+use mathlib.Core.Path.{sym, ap, _∙_}
+use Rattle.library.proofs.Fits.{searches-fit}
+use native.Mathlib.Omega.{arith}
 use Rattle.library.specs.Code.{code, tested}
 use borrow.Author.Needs.{needs}
 use Rattle.library.proofs.puxerdau_test.Statement.{statement}
@@ -14,7 +16,7 @@ test-requires : tie.Need-test-requires
 test-requires c κs = search needs
 
 testing-code-requires : tie.Need-testing-code-requires
-testing-code-requires c κs = search needs
+testing-code-requires c κs = λ t e. omega (arith, searches-fit (c .before .before .before .args .n) (c .before .before .before .args .starts .now) (c .before .before .before .args .neighbours .now) t (sym ((c .test .ensures .0)) ∙ e))
 
 returns : tie.Need-returns
 returns c = (c .testing-code .ensures) ∙ ap (code tested) ((c .before .test .ensures .0))

@@ -1,6 +1,8 @@
 -- `library::puxerdau_threshold` meets its contract: the call's outcome, in code.
 -- Assumes nothing.
-use mathlib.Core.Path.{ap, _∙_}
+use mathlib.Core.Path.{sym, ap, _∙_}
+use Rattle.library.proofs.Fits.{threshold-fits}
+use native.Mathlib.Omega.{arith}
 use Rattle.library.specs.Code.{code, count}
 use borrow.Author.Needs.{needs}
 use Rattle.library.proofs.puxerdau_threshold.Statement.{statement}
@@ -14,7 +16,7 @@ threshold-of-requires : tie.Need-threshold-of-requires
 threshold-of-requires c κs = search needs
 
 counting-code-requires : tie.Need-counting-code-requires
-counting-code-requires c κs = search needs
+counting-code-requires c κs = λ k e. omega (arith, threshold-fits (c .before .args .n) k (sym (c .threshold-of .ensures) ∙ e))
 
 returns : tie.Need-returns
 returns c = (c .counting-code .ensures) ∙ ap (code count) (c .before .threshold-of .ensures)

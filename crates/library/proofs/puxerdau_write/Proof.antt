@@ -1,6 +1,8 @@
 -- `library::puxerdau_write` meets its contract: the call's outcome, in code.
 -- Assumes nothing.
-use mathlib.Core.Path.{ap, _∙_}
+use mathlib.Core.Path.{sym, ap, _∙_}
+use Rattle.library.proofs.Fits.{text-fits}
+use native.Mathlib.Omega.{arith}
 use Rattle.library.specs.Code.{code, count}
 use Rattle.model.specs.Writing.{Writing}
 use borrow.Author.Needs.{needs}
@@ -15,7 +17,7 @@ write-survey-requires : tie.Need-write-survey-requires
 write-survey-requires c κs = search needs
 
 counting-code-requires : tie.Need-counting-code-requires
-counting-code-requires c κs = search needs
+counting-code-requires c κs = λ k e. omega (arith, text-fits (c .before .before .before .before .before .before .before .args .n) (c .before .before .before .before .before .before .before .args .starts .now) (c .before .before .before .before .before .before .before .args .neighbours .now) (c .before .before .before .before .before .before .before .args .buffer .now) k (sym (ap (λ (x : Writing). x .answer) (c .before .before .write-survey .ensures)) ∙ e))
 
 same-length : tie.Need-same-length
 same-length c = search needs

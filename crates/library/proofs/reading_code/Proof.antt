@@ -2,6 +2,7 @@
 -- Assumes nothing.
 use mathlib.Core.Path.{sym, ap}
 use Rattle.model.specs.Answers.{readAnswer}
+use native.Mathlib.Omega.{arith}
 use Rattle.library.specs.Code.{code, size}
 use Rattle.model.specs.declared.Reading.{Reading}
 use borrow.Author.Needs.{needs}
@@ -24,13 +25,13 @@ enum-known-x-2 : tie.Need-enum-known-x-2
 enum-known-x-2 c = search needs
 
 mul-result : tie.Need-mul-result
-mul-result c = search needs
+mul-result c = omega (arith, ((c .before .before .before .pre) (c .before .x2 .given .0 .0) (ap readAnswer (c .before .x2 .given .1))) .1)
 
 add-result : tie.Need-add-result
-add-result c = search needs
+add-result c = omega (arith, ((c .before .before .before .pre) (c .before .x2 .given .0 .0) (ap readAnswer (c .before .x2 .given .1))) .0, ((c .before .before .before .pre) (c .before .x2 .given .0 .0) (ap readAnswer (c .before .x2 .given .1))) .1)
 
 mul-result-2 : tie.Need-mul-result-2
-mul-result-2 c = search needs
+mul-result-2 c = omega (arith, ((c .before .before .before .pre) (c .before .x2 .given .0 .0) (ap readAnswer (c .before .x2 .given .1))) .0, ((c .before .before .before .pre) (c .before .x2 .given .0 .0) (ap readAnswer (c .before .x2 .given .1))) .1)
 
 returns : tie.Need-returns
 returns c = search needs

@@ -2,8 +2,9 @@
 -- Assumes nothing.
 use mathlib.Core.Path.{sym, ap, _∙_}
 use Rattle.model.specs.Answers.{testAnswer}
+use native.Mathlib.Omega.{arith}
 use Rattle.library.specs.Code.{code, tested}
-use Prim.Native.Nat.{_+_, _*_, _%_}
+use Prim.Native.Nat.{_+_, _*_}
 use Rattle.model.specs.declared.Testing.{Testing}
 use borrow.Author.Needs.{needs}
 use Rattle.library.proofs.testing_code.Statement.{statement}
@@ -29,19 +30,19 @@ verdict-field-requires : tie.Need-verdict-field-requires
 verdict-field-requires c κs = search needs
 
 mul-result : tie.Need-mul-result
-mul-result c = search needs
+mul-result c = omega (arith, (c .before .before .before .before .pre) (c .before .before .x2 .given .0 .0) (ap testAnswer (c .before .before .x2 .given .1)))
 
 add-result : tie.Need-add-result
-add-result c = search needs
+add-result c = omega (arith, (c .before .before .before .before .pre) (c .before .before .x2 .given .0 .0) (ap testAnswer (c .before .before .x2 .given .1)), (c .verdict-field .ensures .1))
 
 mul-result-2 : tie.Need-mul-result-2
-mul-result-2 c = search needs
+mul-result-2 c = omega (arith, (c .before .before .before .before .pre) (c .before .before .x2 .given .0 .0) (ap testAnswer (c .before .before .x2 .given .1)), (c .verdict-field .ensures .1))
 
 returns : tie.Need-returns
 returns c = search needs
 
 returns-2 : tie.Need-returns-2
-returns-2 c = ap (λ k. 65536 * (k + 65536 * ((c .before .before .x2 .given .0 .0 .searches) % 65536))) ((c .verdict-field .ensures .0)) ∙ sym (ap (λ (y : Testing). code tested (testAnswer y)) (c .before .before .x2 .given .1))
+returns-2 c = ap (λ k. 65536 * (k + 65536 * (c .before .before .x2 .given .0 .0 .searches))) ((c .verdict-field .ensures .0)) ∙ sym (ap (λ (y : Testing). code tested (testAnswer y)) (c .before .before .x2 .given .1))
 
 pub testing-code-spec : {M : Type 1} → statement M
 testing-code-spec =

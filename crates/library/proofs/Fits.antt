@@ -1,0 +1,147 @@
+-- The values of every answer are within the limits of document 01, so that each fits its field of the code.
+-- Assumes nothing.
+use mathlib.Core.Path.{_≡_, refl, ap, _∙_, subst}
+use mathlib.Core.Bool.{not, _||_}
+use mathlib.Core.List.{List, [], _∷_}
+use Prim.Native.Nat.{ℕ, _+_, _*_, _≤_}
+use native.Mathlib.Nat.{le-refl, le-trans, mul-le-mul}
+use native.Mathlib.Omega.{arith}
+use borrow.Author.Tests.{eq-eqb, ne-eqb}
+use lib.Dec.{eqb, ltb}
+use lib.ListN.{length, getD, length-append}
+use Rattle.model.specs.declared.Size.{Size}
+use Rattle.model.specs.declared.Tested.{Tested}
+use Rattle.model.specs.Answers.{Outcome, refused, answered}
+use Rattle.model.specs.Basics.{none, if_then_else_, gather}
+use Rattle.model.specs.SurveyText.{lineOf, linkLines, surveyText}
+use Rattle.model.specs.Survey.{Graph, neighboursOf, badSize, isSurvey, accepting, Accepted}
+use Rattle.model.specs.Threshold.{threshold, thresholdAnswer, bitLength}
+use Rattle.model.specs.Hubs.{isLow, closed, hubs}
+use Rattle.model.specs.Reading.{Parsed, parse, Reading, readingOf, reading}
+use Rattle.model.specs.Building.{Building, built, building}
+use Rattle.model.specs.TwoOrFour.{sources, tested}
+use Rattle.model.specs.Testing.{testingOf, testing}
+use Rattle.model.specs.Writing.{Writing, textOf, writingOf, writing}
+use Rattle.model.proofs.Tests.{picked}
+use Rattle.model.proofs.Outcomes.{never}
+use Rattle.model.proofs.Lists.{First, found, nothing, first-below}
+use Rattle.model.proofs.Numbers.{length-le}
+use Rattle.model.proofs.Lines.{length-line}
+use Rattle.model.proofs.Links.{AllFresh, TextRead, parse-sound}
+use Rattle.model.proofs.ReadBack.{read-back}
+use Rattle.model.proofs.Acceptance.{size-bounds, accepting-facts, few-neighbours}
+use Rattle.model.proofs.Covering.{hubs-length}
+use Rattle.model.proofs.Threshold.{bitLength-is, threshold-is}
+
+-- reading: n and m
+pub read-fits : (text : List ℕ) (p q : ℕ) (x : Size) → reading text p q .answer ≡ answered x → (x .nodes ≤ 1024) × (x .links ≤ 16384)
+unfolding reading readingOf
+read-fits text p q x e = at (parse 1024 16384 p q text) refl e
+  where
+    at : (o : Outcome Parsed) → parse 1024 16384 p q text ≡ o → readingOf p q o .answer ≡ answered x → (x .nodes ≤ 1024) × (x .links ≤ 16384)
+    at (refused k) h e = never e
+    at (answered y) h e =
+        let r = parse-sound 1024 16384 p q text y h in
+        let s : _≡_ {A = Size} (record { nodes = y .nodes; links = length (y .links) }) x = cc in
+        subst (λ (z : Size). (z .nodes ≤ 1024) × (z .links ≤ 16384)) s (r .within .size, r .within .few)
+
+-- building: the count of hubs
+pub hubs-fit : (n : ℕ) (starts neighbours full low report list : List ℕ) (k : ℕ) → building n starts neighbours full low report list .answer ≡ answered k → k ≤ 1024
+unfolding building built
+hubs-fit n starts neighbours full low report list k =
+    let P : Building → Type 0 = λ b. b .answer ≡ answered k → k ≤ 1024 in
+    picked P (badSize n) _ _ (λ h e. never e) (λ g.
+    picked P (ltb (length starts) (n + 1) || ltb (length full) (n * n) || ltb (length low) (n * n) || ltb (length report) (n * n) || ltb (length list) n) _ _ (λ h e. never e) (λ h.
+    picked P (not (isSurvey n starts neighbours)) _ _ (λ i e. never e) (λ i e.
+    let j : length (hubs n (threshold n) (neighboursOf starts neighbours)) ≡ k = cc in
+    omega (arith, size-bounds n g .1, hubs-length n (neighboursOf starts neighbours) (threshold n)))))
+
+-- the threshold
+few : (n : ℕ) → n ≤ 1024 → threshold n ≤ 1024
+few n h = threshold-is n .least 1024 (small n (bitLength n) h (bitLength-is n .least 11 (omega arith)))
+  where
+    small : (a b : ℕ) → a ≤ 1024 → b ≤ 11 → a * b ≤ 1024 * 1024
+    small a b h k = le-trans (mul-le-mul h k) (omega arith)
+
+pub threshold-fits : (n k : ℕ) → thresholdAnswer n ≡ answered k → k ≤ 1024
+unfolding thresholdAnswer
+threshold-fits n k =
+    picked (λ (o : Outcome ℕ). o ≡ answered k → k ≤ 1024) (badSize n) _ _ (λ h e. never e) (λ g e.
+    let j : threshold n ≡ k = cc in
+    omega (arith, few n (size-bounds n g .1)))
+
+-- a text that is read has at most 24 bytes in each of its lines
+lines-few : (n : ℕ) → n ≤ 1024 → (ls done : List (ℕ × ℕ)) → AllFresh n done ls → length (linkLines ls) ≤ 24 * length ls
+unfolding linkLines gather
+lines-few n h [] done f = omega arith
+lines-few n h (l ∷ ls) done f =
+    omega (
+      arith,
+      length-append (lineOf 76 (l .0) (l .1)) (linkLines ls),
+      length-line 76 (l .0) (l .1),
+      length-le 9 (l .0) (omega (arith, f .0 .below-a)),
+      length-le 9 (l .1) (omega (arith, f .0 .below-b)),
+      lines-few n h ls (l ∷ done) (f .1),
+    )
+
+read-few : (p q : ℕ) (text : List ℕ) (x : Parsed) → TextRead 1024 16384 p q text x → length text ≤ 24 * 16385
+unfolding surveyText
+read-few p q text x r =
+    let n = x .nodes in
+    let m = length (x .links) in
+    omega (
+      arith,
+      ap length (r .is-text) ∙ length-append (lineOf 83 n m) (linkLines (x .links)),
+      length-line 83 n m,
+      length-le 9 n (omega (arith, r .within .size)),
+      length-le 9 m (omega (arith, r .within .few)),
+      lines-few n (r .within .size) (x .links) [] (r .fresh),
+      r .within .few,
+    )
+
+-- writing back: the text's length. The text can be read again
+text-few : (n : ℕ) (starts neighbours : List ℕ) → Accepted n starts neighbours → length (textOf n starts neighbours) ≤ 24 * 16385
+unfolding reading readingOf
+text-few n starts neighbours acc =
+    at (parse 1024 16384 (n + 1) (getD starts n 0) text) refl
+    (ap (λ (r : Reading). r .answer) (read-back n starts neighbours acc (n + 1) (getD starts n 0) (le-refl (n + 1)) (le-refl (getD starts n 0))))
+  where
+    text : List ℕ
+    text = textOf n starts neighbours
+
+    at : (o : Outcome Parsed) → parse 1024 16384 (n + 1) (getD starts n 0) text ≡ o → {x : Size} → readingOf (n + 1) (getD starts n 0) o .answer ≡ answered x → length text ≤ 24 * 16385
+    at (refused k) h e = never e
+    at (answered y) h e = read-few (n + 1) (getD starts n 0) text y (parse-sound 1024 16384 (n + 1) (getD starts n 0) text y h)
+
+pub text-fits : (n : ℕ) (starts neighbours buffer : List ℕ) (k : ℕ) → writing n starts neighbours buffer .answer ≡ answered k → k ≤ 24 * 16385
+unfolding writing writingOf
+text-fits n starts neighbours buffer k = at (accepting n starts neighbours) refl
+  where
+    at : (o : Outcome (Unit {0})) → accepting n starts neighbours ≡ o → writingOf o (textOf n starts neighbours) buffer .answer ≡ answered k → k ≤ 24 * 16385
+    at (refused r) h e = never e
+    at (answered x) h e =
+        picked (λ (w : Writing). w .answer ≡ answered k → k ≤ 24 * 16385) (ltb (length buffer) (length (textOf n starts neighbours))) _ _ (λ i e. never e) (λ i e.
+        let j : length (textOf n starts neighbours) ≡ k = cc in
+        omega (arith, text-few n starts neighbours (accepting-facts n starts neighbours x h))) e
+
+-- testing: the count of searches
+sources-few : (n : ℕ) (starts neighbours : List ℕ) (s : ℕ) → Accepted n starts neighbours → length (sources n s (neighboursOf starts neighbours)) ≤ 1024
+unfolding sources closed
+sources-few n starts neighbours s acc = at (first-below (isLow s (neighboursOf starts neighbours)) none n)
+  where
+    G : Graph
+    G = neighboursOf starts neighbours
+
+    at : {x : ℕ} → First (isLow s G) none 0 n x → length (if eqb x none then hubs n s G else (x ∷ G x)) ≤ 1024
+    at {x} (found lo hi t least) = rw (ne-eqb x none (λ q. omega (arith, acc .size))) (omega (arith, few-neighbours n starts neighbours acc x (omega arith), acc .size))
+    at {x} (nothing d least) = rw (eq-eqb x none d) (omega (arith, hubs-length n G s, acc .size))
+
+pub searches-fit : (n : ℕ) (starts neighbours : List ℕ) (t : Tested) → testing n starts neighbours ≡ answered t → t .searches ≤ 1024
+unfolding testing testingOf tested
+searches-fit n starts neighbours t = at (accepting n starts neighbours) refl
+  where
+    at : (o : Outcome (Unit {0})) → accepting n starts neighbours ≡ o → testingOf o (tested n (threshold n) (neighboursOf starts neighbours)) ≡ answered t → t .searches ≤ 1024
+    at (refused r) h e = never e
+    at (answered x) h e =
+        let j : _≡_ {A = Tested} (tested n (threshold n) (neighboursOf starts neighbours)) t = cc in
+        subst (λ (y : Tested). y .searches ≤ 1024) j (sources-few n starts neighbours (threshold n) (accepting-facts n starts neighbours x h))
