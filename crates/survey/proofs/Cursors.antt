@@ -9,12 +9,12 @@ use Prim.Native.Nat.{ℕ, zero, suc, _+_, _-_, _/_, _%_, _≤_, _<_}
 use native.Mathlib.Nat.{add-zero}
 use native.Mathlib.Omega.{arith}
 use borrow.Author.Tests.{leb-true, leb-false, ltb-true, ltb-false}
-use lib.Dec.{T, eqb, ltb, leb, eqb→eq, ltb→lt, lt→ltb}
+use lib.Dec.{T, eqb, ltb, leb, ltb→lt, lt→ltb}
 use lib.ListN.{length, getD, take, drop, length-set, length-take, length-drop}
 use lib.Seq.{getD-take, getD-drop, getD-set-same, getD-set-other, take-suc, take-add, drop-drop}
 use Rattle.model.specs.Basics.{if_then_else_, upTo, has, keep}
 use Rattle.model.specs.Survey.{Graph, neighboursOf, ascending, IsSurvey}
-use Rattle.model.proofs.Tests.{and-l, and-r, and-i, lt-or, eq-T, eq-or, false-no}
+use Rattle.model.proofs.Tests.{is, isnt, lt-or, eq-or}
 use Rattle.model.proofs.Lists.{has-head, has-tail, none-in, of-single, has-append, has-later, of-append, has-keep, of-keep, keep-same, keep-length}
 use Rattle.model.proofs.Ascending.{ascending-above, ascending-cons, ascending-tail, ascending-keep, keep-of-ascending, standing, ascending-front}
 use Rattle.survey.specs.Rows.{Rows}
@@ -45,20 +45,36 @@ length-moved : (x : ℕ) (cs : List ℕ) → length (moved x cs) ≡ length cs
 unfolding moved
 length-moved x cs = length-set cs x (getD cs x 0 + 1)
 
-pub row-length : (neighbours : List ℕ) (last n v b : ℕ) (xs cs : List ℕ) → length (matchRow neighbours last n v b xs cs .cursors) ≡ length cs
-unfolding matchRow
-row-length neighbours last n v b [] cs = refl
-row-length neighbours last n v b (x ∷ xs) cs = at (leb x b) (leb n x) (stands neighbours last v x cs) (row-length neighbours last n v x xs (moved x cs))
-  where
-    R : Pass
-    R = matchRow neighbours last n v x xs (moved x cs)
+module _ (neighbours : List ℕ) (last n v : ℕ) where
+  pub row-length : (g : Bool) (b : ℕ) (xs cs : List ℕ) → length (matchRow neighbours last n v g b xs cs .cursors) ≡ length cs
+  unfolding matchRow
+  row-length g b [] cs = refl
+  row-length g b (x ∷ xs) cs = at (leb x b) (leb n x) (leb last (getD cs x 0)) (row-length (g && stands neighbours v x cs) x xs (moved x cs))
+    where
+      R : Pass
+      R = matchRow neighbours last n v (g && stands neighbours v x cs) x xs (moved x cs)
 
-    at : (p q s : Bool) → length (R .cursors) ≡ length (moved x cs)
-        → length ((if p then pass false cs else if q then pass false cs else if s then R else pass false cs) .cursors) ≡ length cs
-    at true q s h = refl
-    at false true s h = refl
-    at false false true h = h ∙ length-moved x cs
-    at false false false h = refl
+      at : (p q s : Bool) → length (R .cursors) ≡ length (moved x cs)
+          → length ((if p then pass false cs else if q then pass false cs else if s then pass false cs else R) .cursors) ≡ length cs
+      at true q s h = refl
+      at false true s h = refl
+      at false false true h = refl
+      at false false false h = h ∙ length-moved x cs
+
+  -- what has gone wrong stays so
+  spoiled : (b : ℕ) (xs cs : List ℕ) → matchRow neighbours last n v false b xs cs .good ≡ false
+  unfolding matchRow
+  spoiled b [] cs = refl
+  spoiled b (x ∷ xs) cs = at (leb x b) (leb n x) (leb last (getD cs x 0)) (spoiled x xs (moved x cs))
+    where
+      R : Pass
+      R = matchRow neighbours last n v false x xs (moved x cs)
+
+      at : (p q s : Bool) → R .good ≡ false → (if p then pass false cs else if q then pass false cs else if s then pass false cs else R) .good ≡ false
+      at true q s h = refl
+      at false true s h = refl
+      at false false true h = refl
+      at false false false h = h
 
 module _ (n : ℕ) (starts neighbours : List ℕ) (ok : Rows n starts neighbours) where
   abbrev G : Graph
@@ -241,7 +257,7 @@ module _ (n : ℕ) (starts neighbours : List ℕ) (ok : Rows n starts neighbours
   -- what a pass over row v comes to: all that is left of it is met, or the lists are not a survey's
   data RowEnd (v : ℕ) (row : List ℕ) : Pass → Type 0 where
     went : (b : ℕ) (cs : List ℕ) → Within v b row cs → RowEnd v row (pass true cs)
-    stuck : (cs : List ℕ) → (IsSurvey n starts neighbours → ⊥) → RowEnd v row (pass false cs)
+    stuck : (p : Pass) → p .good ≡ false → (IsSurvey n starts neighbours → ⊥) → RowEnd v row p
 
   module _ (v : ℕ) (hv : v < n) (cs₀ : List ℕ) (u : Upto v cs₀) where
     at-cursor : IsSurvey n starts neighbours → getD cs₀ v 0 ≤ getD starts (v + 1) 0
@@ -302,39 +318,39 @@ module _ (n : ℕ) (starts neighbours : List ℕ) (ok : Rows n starts neighbours
             )
 
       row-right : (xs done : List ℕ) (b : ℕ) (cs : List ℕ) → row ≡ done ++ xs → n ≤ length cs → Within v b done cs
-          → RowEnd v row (matchRow neighbours (getD starts n 0) n v b xs cs)
+          → RowEnd v row (matchRow neighbours (getD starts n 0) n v true b xs cs)
       unfolding matchRow stands
       row-right [] done b cs e room w = went b cs (subst (λ (l : List ℕ). Within v b l cs) (sym (e ∙ append-nil done)) w)
       row-right (x ∷ xs) done b cs e room w = first (leb x b) refl (λ done′ b′ cs′ e′ r w′. row-right xs done′ b′ cs′ e′ r w′)
         where
           Rec : Type 0
-          Rec = (done′ : List ℕ) (b′ : ℕ) (cs′ : List ℕ) → row ≡ done′ ++ xs → n ≤ length cs′ → Within v b′ done′ cs′ → RowEnd v row (matchRow neighbours (S n) n v b′ xs cs′)
-
-          R : Pass
-          R = matchRow neighbours (S n) n v x xs (moved x cs)
-
-          A : Bool
-          A = ltb (getD cs x 0) (S n)
+          Rec = (done′ : List ℕ) (b′ : ℕ) (cs′ : List ℕ) → row ≡ done′ ++ xs → n ≤ length cs′ → Within v b′ done′ cs′
+              → RowEnd v row (matchRow neighbours (S n) n v true b′ xs cs′)
 
           B : Bool
           B = eqb (getD neighbours (getD cs x 0) 0) v
 
-          third : b < x → x < n → (c : Bool) → stands neighbours (S n) v x cs ≡ c → Rec → RowEnd v row (if c then R else pass false cs)
-          third l h true q rec =
-              let t : T (A && B) = subst T (sym q) tt in
-              let step = within-next v b done cs w x l h (omega arith) (ltb→lt (getD cs x 0) (S n) (and-l A B t)) (eqb→eq (getD neighbours (getD cs x 0) 0) v (and-r A B t)) in
-              rec (done ++ x ∷ []) x (moved x cs) (e ∙ sym (append-assoc done (x ∷ []) xs)) (omega (arith, length-moved x cs)) step
-          third l h false q rec = stuck cs (λ s.
-              let g = next-stands s b x done xs cs e w in
-              false-no (A && B) q (and-i A B (lt→ltb (getD cs x 0) (S n) (g .0)) (eq-T (getD neighbours (getD cs x 0) 0) v (g .1))))
+          R : Bool → Pass
+          R g = matchRow neighbours (S n) n v g x xs (moved x cs)
 
-          second : b < x → (c : Bool) → leb n x ≡ c → Rec → RowEnd v row (if c then pass false cs else if stands neighbours (S n) v x cs then R else pass false cs)
-          second l true q rec = stuck cs (λ s. let g = next-below s b x done xs cs e w in let h = leb-true n x q in omega arith)
-          second l false q rec = third l (leb-false n x q) (stands neighbours (S n) v x cs) refl rec
+          fourth : b < x → x < n → getD cs x 0 < S n → (c : Bool) → B ≡ c → Rec → RowEnd v row (R c)
+          fourth l h f true q rec =
+              let step = within-next v b done cs w x l h (omega arith) f (is (getD neighbours (getD cs x 0) 0) v q) in
+              rec (done ++ x ∷ []) x (moved x cs) (e ∙ sym (append-assoc done (x ∷ []) xs)) (omega (arith, length-moved x cs)) step
+          fourth l h f false q rec =
+              stuck (R false) (spoiled neighbours (S n) n v x xs (moved x cs)) (λ s. isnt (getD neighbours (getD cs x 0) 0) v q (next-stands s b x done xs cs e w .1))
+
+          third : b < x → x < n → (c : Bool) → leb (S n) (getD cs x 0) ≡ c → Rec → RowEnd v row (if c then pass false cs else R B)
+          third l h true q rec = stuck (pass false cs) refl (λ s. let g = next-stands s b x done xs cs e w .0 in let f = leb-true (S n) (getD cs x 0) q in omega arith)
+          third l h false q rec = fourth l h (leb-false (S n) (getD cs x 0) q) B refl rec
+
+          second : b < x → (c : Bool) → leb n x ≡ c → Rec → RowEnd v row (if c then pass false cs else if leb (S n) (getD cs x 0) then pass false cs else R B)
+          second l true q rec = stuck (pass false cs) refl (λ s. let g = next-below s b x done xs cs e w in let h = leb-true n x q in omega arith)
+          second l false q rec = third l (leb-false n x q) (leb (S n) (getD cs x 0)) refl rec
 
           first : (c : Bool) → leb x b ≡ c → Rec
-              → RowEnd v row (if c then pass false cs else if leb n x then pass false cs else if stands neighbours (S n) v x cs then R else pass false cs)
-          first true q rec = stuck cs (λ s. let g = next-above s b x done xs cs e w in let h = leb-true x b q in omega arith)
+              → RowEnd v row (if c then pass false cs else if leb n x then pass false cs else if leb (S n) (getD cs x 0) then pass false cs else R B)
+          first true q rec = stuck (pass false cs) refl (λ s. let g = next-above s b x done xs cs e w in let h = leb-true x b q in omega arith)
           first false q rec = second (leb-false x b q) (leb n x) refl rec
 
       -- a row more is matched
@@ -400,7 +416,7 @@ module _ (n : ℕ) (starts neighbours : List ℕ) (ok : Rows n starts neighbours
       hv = omega arith
 
       P : Pass
-      P = matchRow neighbours (S n) n v v (left starts neighbours cs v) cs
+      P = matchRow neighbours (S n) n v true v (left starts neighbours cs v) cs
 
       R : Pass
       R = matchRows starts neighbours n k (v + 1) (P .cursors)
@@ -415,13 +431,15 @@ module _ (n : ℕ) (starts neighbours : List ℕ) (ok : Rows n starts neighbours
           → (n ≤ length (p .cursors) → Upto (v + 1) (p .cursors) → Right (matchRows starts neighbours n k (v + 1) (p .cursors)))
           → Right (if p .good then matchRows starts neighbours n k (v + 1) (p .cursors) else pass false (p .cursors))
       ended i (went b cs′ w) l rec = rec (omega (arith, l)) (row-done v hv cs u i b cs′ w)
-      ended i (stuck cs′ f) l rec = (λ g. absurd (subst T (sym g) tt), λ g. f)
+      ended i (stuck p g f) l rec =
+          subst (λ (c : Bool). Right (if c then matchRows starts neighbours n k (v + 1) (p .cursors) else pass false (p .cursors))) (sym g)
+          (λ t. absurd (subst T (sym t) tt), λ t. f)
 
       past : (c : Bool) → ltb (S (v + 1)) (getD cs v 0) ≡ c → Rec → Right (if c then pass false cs else if P .good then R else pass false (P .cursors))
       past true q rec = (λ g. absurd (subst T (sym g) tt), λ g s. let a = at-cursor v hv cs u s in let l = ltb-true (S (v + 1)) (getD cs v 0) q in omega arith)
       past false q rec =
           let i = ltb-false (S (v + 1)) (getD cs v 0) q in
-          ended i (row-right v hv cs u i (left starts neighbours cs v) [] v cs refl room (within-none v cs u)) (row-length neighbours (S n) n v v (left starts neighbours cs v) cs) rec
+          ended i (row-right v hv cs u i (left starts neighbours cs v) [] v cs refl room (within-none v cs u)) (row-length neighbours (S n) n v true v (left starts neighbours cs v) cs) rec
 
   pub all-met : (cs : List ℕ) → Upto n cs → getD starts n 0 % 2 ≡ 0 → getD starts n 0 / 2 ≤ 16384 → IsSurvey n starts neighbours
   all-met cs u even few = record {

@@ -7,9 +7,9 @@ use lib.Dec.{eqb, ltb, leb}
 use lib.ListN.{getD, set, take, drop}
 use Rattle.model.specs.Basics.{if_then_else_}
 
--- v stands at x's cursor, which is before the last start
-unfoldable pub stands : List ℕ → ℕ → ℕ → ℕ → List ℕ → Bool
-stands neighbours last v x cursors = ltb (getD cursors x 0) last && eqb (getD neighbours (getD cursors x 0) 0) v
+-- v stands at x's cursor
+unfoldable pub stands : List ℕ → ℕ → ℕ → List ℕ → Bool
+stands neighbours v x cursors = eqb (getD neighbours (getD cursors x 0) 0) v
 
 -- x's cursor moved on
 unfoldable pub moved : ℕ → List ℕ → List ℕ
@@ -27,21 +27,22 @@ pub record Pass : Type 0 where
 abbrev pub pass : Bool → List ℕ → Pass
 pass g cs = record { good = g; cursors = cs }
 
--- entries of row v behind the entry `before`: they ascend and lie below n, and v must stand at each one's cursor, which moves on
-unfoldable pub matchRow : List ℕ → ℕ → ℕ → ℕ → ℕ → List ℕ → List ℕ → Pass
-matchRow neighbours last n v before [] cursors = pass true cursors
-matchRow neighbours last n v before (x ∷ xs) cursors =
-    let rest = matchRow neighbours last n v x xs (moved x cursors) in
+-- entries of row v behind the entry `before`: they ascend and lie below n, and v must stand at each one's cursor, which moves on;
+-- `good` is whether it stood at those before
+unfoldable pub matchRow : List ℕ → ℕ → ℕ → ℕ → Bool → ℕ → List ℕ → List ℕ → Pass
+matchRow neighbours last n v good before [] cursors = pass good cursors
+matchRow neighbours last n v good before (x ∷ xs) cursors =
+    let rest = matchRow neighbours last n v (good && stands neighbours v x cursors) x xs (moved x cursors) in
     if leb x before then pass false cursors
     else if leb n x then pass false cursors
-    else if stands neighbours last v x cursors then rest
-    else pass false cursors
+    else if leb last (getD cursors x 0) then pass false cursors
+    else rest
 
 -- k rows from row v on, each from its cursor on
 unfoldable pub matchRows : List ℕ → List ℕ → ℕ → ℕ → ℕ → List ℕ → Pass
 matchRows starts neighbours n zero v cursors = pass true cursors
 matchRows starts neighbours n (suc k) v cursors =
-    let p = matchRow neighbours (getD starts n 0) n v v (left starts neighbours cursors v) cursors in
+    let p = matchRow neighbours (getD starts n 0) n v true v (left starts neighbours cursors v) cursors in
     let rest = matchRows starts neighbours n k (v + 1) (p .cursors) in
     if ltb (getD starts (v + 1) 0) (getD cursors v 0) then pass false cursors
     else if p .good then rest

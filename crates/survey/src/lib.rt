@@ -1,9 +1,10 @@
 // Acceptance of a survey's two lists, and one node's neighbours as a part of the list.
 use model::Accepting;
 use model::Refusal;
+ghost use mathlib.Core.Bool.{true, _&&_};
 ghost use mathlib.Core.Path.{_≡_};
 ghost use Prim.Native.Nat.{ℕ, _+_, _/_, _%_, _<_, _≤_};
-ghost use lib.Dec.{leb};
+ghost use lib.Dec.{eqb, leb};
 ghost use lib.ListN.{length, getD};
 ghost use Rattle.model.specs.Basics.{all, upTo};
 ghost use Rattle.model.specs.Answers.{acceptAnswer};
@@ -34,7 +35,7 @@ fn put_cursors(n: usize, starts: &[u32], cursors: &mut [u32])
 }
 
 // Meets the larger nodes of row v, which must ascend from v on and lie below n: at each one's cursor must stand v, and the cursor
-// moves on.
+// moves on. Bits in which an entry is not v are collected and not branched on, for speed.
 fn match_row(
     n: usize,
     last: usize,
@@ -44,9 +45,10 @@ fn match_row(
     cursors: &mut [u32],
 ) -> bool
     requires { ⌜ (n ≤ length (now cursors)) × (last ≤ 32768) × (last ≤ length (now neighbours)) ⌝ }
-    ensures { λ r. ⌜ pass r (now (cursors .exit)) ≡ matchRow (now (neighbours .entry)) last n v v (now (row .entry)) (now (cursors .entry)) ⌝ }
+    ensures { λ r. ⌜ pass r (now (cursors .exit)) ≡ matchRow (now (neighbours .entry)) last n v true v (now (row .entry)) (now (cursors .entry)) ⌝ }
 {
     let mut before = v;
+    let mut wrong = 0;
     let mut i = 0;
     while i < row.len() {
         let x = row[i] as usize;
@@ -60,14 +62,12 @@ fn match_row(
         if last <= at {
             return false;
         }
-        if neighbours[at] as usize != v {
-            return false;
-        }
+        wrong = wrong | (neighbours[at] as usize ^ v);
         cursors[x] = (at + 1) as u32;
         before = x;
         i += 1;
     }
-    true
+    wrong == 0
 }
 
 // Matches all rows, until one cannot be matched. Once the rows below v are, v's cursor is behind its smaller nodes.
@@ -102,19 +102,18 @@ fn matched(n: usize, starts: &[u32], neighbours: &[u16]) -> bool
     match_rows(n, starts, neighbours, &mut cursors)
 }
 
-// Whether the starts never fall up to the n-th.
+// Whether the starts begin at 0 and never fall up to the n-th.
 fn starts_rise(n: usize, starts: &[u32]) -> bool
-    requires { ⌜ n + 1 ≤ length (now starts) ⌝ }
-    ensures { λ r. ⌜ r ≡ all (λ v. leb (getD (now (starts .entry)) v 0) (getD (now (starts .entry)) (v + 1) 0)) (upTo n) ⌝ }
+    requires { ⌜ (n + 1 ≤ length (now starts)) × (n ≤ 1024) ⌝ }
+    ensures { λ r. ⌜ r ≡ (eqb (getD (now (starts .entry)) 0 0) 0 && all (λ v. leb (getD (now (starts .entry)) v 0) (getD (now (starts .entry)) (v + 1) 0)) (upTo n)) ⌝ }
 {
+    let mut good = starts[0] == 0;
     let mut v = 0;
     while v < n {
-        if starts[v + 1] < starts[v] {
-            return false;
-        }
+        good = good & (starts[v] <= starts[v + 1]);
         v += 1;
     }
-    true
+    good
 }
 
 // Whether the lists are a survey's, for n from 1 to 1,024 and `starts` long enough. Linear in nodes and links.
@@ -122,9 +121,6 @@ pub fn is_survey(n: usize, starts: &[u32], neighbours: &[u16]) -> bool
     requires { ⌜ (1 ≤ n) × (n ≤ 1024) × (n + 1 ≤ length (now starts)) ⌝ }
     ensures { λ r. ⌜ r ≡ isSurvey n (now (starts .entry)) (now (neighbours .entry)) ⌝ }
 {
-    if starts[0] != 0 {
-        return false;
-    }
     if !starts_rise(n, starts) {
         return false;
     }
