@@ -78,16 +78,16 @@ mark-layer-requires : tie.Need-mark-layer-requires Inv-loop μ-loop
 mark-layer-requires c κs = (((c .before .before .before .before .before .before .before .loop .inv .2), (c .before .before .before .before .before .before .before .before .before .before .before .before .before .before .before .before .before .before .before .before .before .before .before .pre .1), (c .before .before .before .before .before .before .before .loop .inv .4)), front-inside (edgesIn (c .before .before .before .before .before .before .before .before .before .before .before .before .before .before .before .before .before .before .before .before .before .before .before .args .rows .now)) (c .before .before .before .before .before .before .before .before .before .before .before .before .before .before .before .before .before .before .before .before .before .before .before .args .n) (c .before .before .before .before .before .before .before .before .before .before .before .before .before .before .before .before .before .before .before .before .before .before .before .args .source) (c .before .before .before .before .before .before .before .before .before .before .before .before .before .before .before .before .before .before .before .before .before .before .before .pre .2) (c .before .before .before .before .before .before .before .before .before .before .before .before .before .before .before .before .before .before .before .before .before .before .before .pre .0) (c .before .before .before .before .before .before .before .loop .k) _ _ _ _ (c .before .before .before .before .before .before .before .loop .inv .0))
 
 slice-aggregate-write-common : tie.Need-slice-aggregate-write-common Inv-loop μ-loop
-slice-aggregate-write-common c = sym (c .before .before .before .before .before .before .before .before .before .before .before .before .loop .inv .3)
+slice-aggregate-write-common c = omega (arith, (c .before .before .before .before .before .before .before .before .before .before .before .before .loop .inv .2), (c .before .before .before .before .before .before .before .before .before .before .before .before .loop .inv .3), (c .before .before .before .before .before .before .before .before .before .before .before .before .loop .inv .4), (c .before .before .before .before .mark-layer .kept .1 .1 .1 .1 .0))
 
 slice-aggregate-write-common-2 : tie.Need-slice-aggregate-write-common-2 Inv-loop μ-loop
-slice-aggregate-write-common-2 c = sym ((c .before .before .before .before .before .mark-layer .kept .1 .1 .1 .1 .0) ∙ (c .before .before .before .before .before .before .before .before .before .before .before .before .before .loop .inv .4))
+slice-aggregate-write-common-2 c = omega (arith, (c .before .before .before .before .before .before .before .before .before .before .before .before .before .loop .inv .2), (c .before .before .before .before .before .before .before .before .before .before .before .before .before .loop .inv .3), (c .before .before .before .before .before .before .before .before .before .before .before .before .before .loop .inv .4), (c .before .before .before .before .before .mark-layer .kept .1 .1 .1 .1 .0))
 
 slice-aggregate-write-common-3 : tie.Need-slice-aggregate-write-common-3 Inv-loop μ-loop
 slice-aggregate-write-common-3 c = sym (c .before .before .before .before .before .before .before .before .before .before .before .before .before .before .loop .inv .2)
 
 write-common-requires : tie.Need-write-common-requires Inv-loop μ-loop
-write-common-requires c κs = ((c .before .before .before .before .before .before .before .before .before .before .before .before .before .before .loop .inv .3) ∙ sym ((c .before .before .before .before .before .before .mark-layer .kept .1 .1 .1 .1 .0) ∙ (c .before .before .before .before .before .before .before .before .before .before .before .before .before .before .loop .inv .4)), (c .before .before .before .before .before .before .before .before .before .before .before .before .before .before .loop .inv .2) ∙ sym (c .before .before .before .before .before .before .before .before .before .before .before .before .before .before .loop .inv .3))
+write-common-requires c κs = (omega (arith, (c .before .before .before .before .before .before .before .before .before .before .before .before .before .before .loop .inv .2), (c .before .before .before .before .before .before .before .before .before .before .before .before .before .before .loop .inv .3), (c .before .before .before .before .before .before .before .before .before .before .before .before .before .before .loop .inv .4), (c .before .before .before .before .before .before .mark-layer .kept .1 .1 .1 .1 .0)), omega (arith, (c .before .before .before .before .before .before .before .before .before .before .before .before .before .before .loop .inv .2), (c .before .before .before .before .before .before .before .before .before .before .before .before .before .before .loop .inv .3), (c .before .before .before .before .before .before .before .before .before .before .before .before .before .before .loop .inv .4), (c .before .before .before .before .before .before .mark-layer .kept .1 .1 .1 .1 .0)))
 
 slice-aggregate-remove : tie.Need-slice-aggregate-remove Inv-loop μ-loop
 slice-aggregate-remove c = sym (c .before .before .before .before .before .before .before .before .before .before .before .before .before .before .before .before .before .loop .inv .3)

@@ -43,7 +43,7 @@ part-search-end : tie.Need-part-search-end
 part-search-end c = row-ends (c .before .before .before .before .before .args .n) (c .before .before .before .before .before .args .a) (c .before .before .before .before .before .args .low .now) (c .before .before .before .before .before .pre .3) (c .before .before .before .before .before .pre .4)
 
 search-requires : tie.Need-search-requires
-search-requires c κs = ((c .before .before .before .before .before .before .pre .0), (c .before .before .before .before .before .before .pre .1), (c .before .before .before .before .before .before .pre .3), part-length (c .before .before .before .before .before .before .args .n) (c .before .before .before .before .before .before .args .a) (c .before .before .before .before .before .before .args .low .now) (c .before .before .before .before .before .before .pre .3) (c .before .before .before .before .before .before .pre .4))
+search-requires c κs = ((c .before .before .before .before .before .before .pre .0), (c .before .before .before .before .before .before .pre .1), omega (arith, (c .before .before .before .before .before .before .pre .3)), part-length (c .before .before .before .before .before .before .args .n) (c .before .before .before .before .before .before .args .a) (c .before .before .before .before .before .before .args .low .now) (c .before .before .before .before .before .before .pre .3) (c .before .before .before .before .before .before .pre .4))
 
 same-length : tie.Need-same-length
 same-length c = search needs
