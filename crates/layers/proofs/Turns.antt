@@ -12,6 +12,7 @@ use lib.ListN.{length, getD, replicate, length-replicate, getD-replicate}
 use lib.Seq.{ext-getD}
 use Rattle.model.specs.Basics.{none, from, upTo, has, any, keep, firstOf}
 use Rattle.model.specs.Graph.{Edges, reach, fewest}
+use Rattle.model.proofs.Chains.{stay, step}
 use Rattle.model.proofs.Entries.{getD-row, length-row}
 use Rattle.model.proofs.Lists.{none-in, of-single, any-of, of-any, has-keep, of-keep, has-upTo, of-upTo, First, found, nothing, first-below, first-is, keep-none}
 use Rattle.model.proofs.Tests.{and-l, and-r, and-i, or-l, or-r, or-e, passes, no-false, false-no, T-false, same-test, eq-or}
@@ -49,18 +50,10 @@ module _ (E : Edges) (n s : ℕ) where
       (λ t. let i = of-keep p (upTo n) x t in and-i (ltb x n) (p x) (lt→ltb x n (of-upTo n x (i .0))) (i .1))
       (λ t. has-keep p (upTo n) x (has-upTo n x (ltb→lt x n (and-l (ltb x n) (p x) t))) (and-r (ltb x n) (p x) t))
 
-  stay : (k x : ℕ) → x < n → T (has x (reach E n s k)) → T (has x (reach E n s (suc k)))
-  stay k x h t = rw (reach-next k x) (and-i (ltb x n) (has x (reach E n s k) || any (λ u. E u x) (reach E n s k)) (lt→ltb x n h)
-      (or-l (has x (reach E n s k)) (any (λ u. E u x) (reach E n s k)) t))
-
-  step : (k u x : ℕ) → x < n → T (has u (reach E n s k)) → T (E u x) → T (has x (reach E n s (suc k)))
-  step k u x h t e = rw (reach-next k x) (and-i (ltb x n) (has x (reach E n s k) || any (λ u. E u x) (reach E n s k)) (lt→ltb x n h)
-      (or-r (has x (reach E n s k)) (any (λ u. E u x) (reach E n s k)) (any-of (λ u. E u x) (reach E n s k) u t e)))
-
   up : (k x : ℕ) → x < n → T (has x (before k)) → T (has x (reach E n s k))
   unfolding before
   up zero x h t = absurd (none-in x t)
-  up (suc k) x h t = stay k x h t
+  up (suc k) x h t = stay E n s k x h t
 
   earlier : (k j x : ℕ) → x < n → j < k → T (has x (reach E n s j)) → T (has x (before k))
   unfolding before
@@ -198,7 +191,7 @@ module _ (E : Edges) (n s : ℕ) where
             let j = of-before k (v .0) (v .1) in
             let h = ltb→lt x n (and-l (ltb x n) (not (has x (reach E n s k))) a) in
             false-no (has x (reach E n s k)) (T-false (has x (reach E n s k)) (and-r (ltb x n) (not (has x (reach E n s k))) a))
-            (subst (λ (i : ℕ). T (has x (reach E n s i))) (sym (j .1)) (step (j .0) (v .0) x h (j .2) (v .2)))))
+            (subst (λ (i : ℕ). T (has x (reach E n s i))) (sym (j .1)) (step E n s (j .0) (v .0) x h (j .2) (v .2)))))
 
         turn-idle : Turn (suc k) row f u d
         unfolding marked any both without

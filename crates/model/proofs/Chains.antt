@@ -61,13 +61,13 @@ module _ (E : Edges) (n a : ℕ) where
       at (inl s) = inl s
       at (inr s) = inr (of-any (λ u. E u v) (reach E n a k) s)
 
-  stay : (k v : ℕ) → v < n → T (has v (reach E n a k)) → T (has v (reach E n a (suc k)))
+  pub stay : (k v : ℕ) → v < n → T (has v (reach E n a k)) → T (has v (reach E n a (suc k)))
   unfolding reach
   stay k v b h =
       let r = reach E n a k in
       has-keep (λ v. has v r || any (λ u. E u v) r) (upTo n) v (has-upTo n v b) (or-l (has v r) (any (λ u. E u v) r) h)
 
-  step : (k u v : ℕ) → v < n → T (has u (reach E n a k)) → T (E u v) → T (has v (reach E n a (suc k)))
+  pub step : (k u v : ℕ) → v < n → T (has u (reach E n a k)) → T (E u v) → T (has v (reach E n a (suc k)))
   unfolding reach
   step k u v b h t =
       let r = reach E n a k in
