@@ -179,37 +179,32 @@ fn is_survey(n: usize, starts: &[u32], neighbours: &[u16]) -> bool {
         return false;
     }
     let neighbours = &neighbours[..last];
-    if neighbours.iter().fold(0, |most, &x| most.max(x)) as usize >= n && last > 0 {
-        return false;
-    }
     let mut cursors = [0u32; MOST_NODES];
+    cursors[..n].copy_from_slice(&starts[..n]);
     for v in 0..n {
-        let row = neighbours_of(starts, neighbours, v);
-        if !row
-            .windows(2)
-            .fold(true, |good, pair| good & (pair[0] < pair[1]))
-        {
+        let (at, end) = (cursors[v] as usize, starts[v + 1] as usize);
+        if end < at {
             return false;
         }
-        let mut smaller = 0;
-        for &x in row {
+        let (mut before, mut wrong) = (v, 0);
+        for &x in &neighbours[at..end] {
             let x = x as usize;
-            if x >= v {
-                break;
-            }
-            let at = cursors[x];
-            if at >= starts[x + 1] || neighbours[at as usize] as usize != v {
+            if x <= before || x >= n {
                 return false;
             }
-            cursors[x] = at + 1;
-            smaller += 1;
+            let at = cursors[x] as usize;
+            if at >= last {
+                return false;
+            }
+            wrong |= neighbours[at] as usize ^ v;
+            cursors[x] = at as u32 + 1;
+            before = x;
         }
-        if row.get(smaller) == Some(&(v as u16)) {
+        if wrong != 0 {
             return false;
         }
-        cursors[v] = starts[v] + smaller as u32;
     }
-    cursors[..n] == starts[1..]
+    true
 }
 
 // Building
