@@ -330,20 +330,47 @@ pub fn build(
     Ok(chosen.len())
 }
 
-/// Searches among low nodes; a high node's entry is kept from being reached, and is none in the end.
+/// Searches from each low node among low nodes, by words: a node's low neighbours are one set.
 fn fill_low(n: usize, s: usize, starts: &[u32], neighbours: &[u16], low: &mut [u16]) {
-    let high: Vec<usize> = (0..n)
-        .filter(|&v| (starts[v + 1] - starts[v]) as usize >= s)
-        .collect();
-    low.fill(NONE);
-    for a in 0..n {
-        let row = &mut low[a * n..(a + 1) * n];
-        if (starts[a + 1] - starts[a]) as usize >= s {
-            continue;
+    let is_low = |v: usize| ((starts[v + 1] - starts[v]) as usize) < s;
+    let mut links: Vec<Set> = vec![[0; 16]; n];
+    for v in (0..n).filter(|&v| is_low(v)) {
+        for &w in neighbours_of(starts, neighbours, v) {
+            if is_low(w as usize) {
+                insert(&mut links[v], w as usize);
+            }
         }
-        high.iter().for_each(|&v| row[v] = 0);
-        search(starts, neighbours, n - high.len(), a, row);
-        high.iter().for_each(|&v| row[v] = NONE);
+    }
+    let mut all: Set = [0; 16];
+    (0..n).for_each(|v| insert(&mut all, v));
+    low.fill(NONE);
+    for a in (0..n).filter(|&a| is_low(a)) {
+        search_by_words(&links, &all, a, &mut low[a * n..(a + 1) * n]);
+    }
+}
+
+/// Breadth-first search, layer by layer, into a row that is all none.
+fn search_by_words(links: &[Set], all: &Set, source: usize, row: &mut [u16]) {
+    let mut layer: Set = [0; 16];
+    insert(&mut layer, source);
+    let mut unvisited = *all;
+    let mut found: Set = [0; 16];
+    let mut distance = 0;
+    while layer != [0; 16] {
+        for (index, &word) in layer.iter().enumerate() {
+            let mut left = word;
+            while left != 0 {
+                let v = 64 * index + left.trailing_zeros() as usize;
+                row[v] = distance;
+                found.iter_mut().zip(&links[v]).for_each(|(x, y)| *x |= y);
+                left &= left - 1;
+            }
+        }
+        for i in 0..16 {
+            unvisited[i] &= !layer[i];
+            layer[i] = unvisited[i] & found[i];
+        }
+        distance += 1;
     }
 }
 

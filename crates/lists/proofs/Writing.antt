@@ -8,7 +8,7 @@ use native.Mathlib.Numerals.{add-one}
 use native.Mathlib.Omega.{arith}
 use borrow.Rule.Slice.PartMut.{putMid}
 use lib.ListN.{length, take, drop, set, length-append, length-drop}
-use lib.Seq.{set-split, append-snoc, length-take-le, take-at, drop-at, drop-append-add, drop-drop, paste-zero}
+use lib.Seq.{set-split, append-snoc, length-take-le, take-at, drop-append-add, drop-drop, paste-zero}
 use Rattle.model.specs.Basics.{over}
 use Rattle.lists.specs.Writing.{written, Wrote}
 
@@ -39,20 +39,6 @@ written-behind buf at t u h =
     ap (λ (k : ℕ). drop (k + length u) (p ++ q)) (sym l) ∙ drop-append-add p q (length u) ∙ drop-drop (length u) (at + length t) buf
     ∙ ap (λ (k : ℕ). drop k buf) (add-assoc at (length t) (length u) ∙ ap (λ (k : ℕ). at + k) (sym (length-append t u))) in
     rw (take-at p q (at + length t) l, e, append-assoc (take at buf) t u)
-
--- what stands from the place on: the text and what was behind it
-pub drop-written : (buf : List ℕ) (at : ℕ) (t : List ℕ) → at + length t ≤ length buf → drop at (written buf at t) ≡ t ++ drop (at + length t) (written buf at t)
-unfolding written
-drop-written buf at t h =
-    let p : List ℕ = take at buf ++ t in
-    let q : List ℕ = drop (at + length t) buf in
-    let l : length p ≡ at + length t = length-head buf at t (omega arith) in
-    rw (drop-at p q (at + length t) l, append-assoc (take at buf) t q) (drop-at (take at buf) (t ++ q) at (length-take-le at buf (omega arith)))
-
--- and behind the text what was there
-pub behind-written : (buf : List ℕ) (at : ℕ) (t : List ℕ) → at + length t ≤ length buf → drop (at + length t) (written buf at t) ≡ drop (at + length t) buf
-unfolding written
-behind-written buf at t h = drop-at (take at buf ++ t) (drop (at + length t) buf) (at + length t) (length-head buf at t (omega arith))
 
 -- nothing
 pub wrote-none : (buf : List ℕ) (at : ℕ) → Wrote buf buf at at []

@@ -13,7 +13,7 @@ use Rattle.model.specs.Basics.{none, if_then_else_, has}
 use Rattle.model.specs.Graph.{Edges, Chain, here, link, Fewest, fewest}
 use Rattle.model.specs.Survey.{Graph, linked, IsGraph}
 use Rattle.model.specs.Hubs.{isHigh, isLow, closed, hubs}
-use Rattle.model.specs.Tables.{table, entry, fullTable, lowLinks, lowTable, sum, via, reportTable}
+use Rattle.model.specs.Tables.{entry, fullTable, lowLinks, lowTable, sum, via, reportTable}
 use Rattle.model.specs.Demand.{Allowed}
 use Rattle.model.proofs.Tests.{and-i, passes}
 use Rattle.model.proofs.Lists.{of-cons, has-head, has-tail}

@@ -114,14 +114,6 @@ getD-has [] i h = absurd (omega arith)
 getD-has (x ∷ l) zero h = has-head x l
 getD-has (x ∷ l) (suc i) h = has-tail (getD l i 0) x l (getD-has l i (le-of-suc-le-suc h))
 
-pub has-getD : (l : List ℕ) (x : ℕ) → T (has x l) → (i : ℕ) × (i < length l) × (getD l i 0 ≡ x)
-has-getD [] x h = absurd (none-in x h)
-has-getD (y ∷ l) x h = go (of-cons x y l h) (λ r. has-getD l x r)
-  where
-    go : (x ≡ y) ⊎ T (has x l) → (T (has x l) → (i : ℕ) × (i < length l) × (getD l i 0 ≡ x)) → (i : ℕ) × (i < length (y ∷ l)) × (getD (y ∷ l) i 0 ≡ x)
-    go (inl e) rec = (0, suc-le-suc zero-le, sym e)
-    go (inr r) rec = let k = rec r in (suc (k .0), suc-le-suc (k .1), k .2)
-
 -- a member of an ascending list stands behind as many entries as are smaller
 pub standing : (l : List ℕ) (v : ℕ) → T (ascending l) → T (has v l)
     → (length (keep (λ u. ltb u v) l) < length l) × (getD l (length (keep (λ u. ltb u v) l)) 0 ≡ v)
@@ -161,14 +153,6 @@ below-more (x ∷ l) v t h = go (of-cons v x l h) (λ r. below-more l v (ascendi
         let p = ascending-above x l t v r in
         rw (T-true (ltb x (v + 1)) (lt→ltb x (v + 1) (omega arith)), T-true (ltb x v) (lt→ltb x v p)) (omega (arith, rec r))
 
-pub below-same : (l : List ℕ) (v : ℕ) → (T (has v l) → ⊥) → keep (λ u. ltb u (v + 1)) l ≡ keep (λ u. ltb u v) l
-below-same l v f =
-    keep-same (λ u. ltb u (v + 1)) (λ u. ltb u v) l
-    (λ x m t. lt→ltb x v (less x m (ltb→lt x (v + 1) t))) (λ x m t. lt→ltb x (v + 1) (let q = ltb→lt x v t in omega arith))
-  where
-    less : (x : ℕ) → T (has x l) → x < v + 1 → x < v
-    less x m h = let d : x ≡ v → ⊥ = λ e. f (subst (λ (z : ℕ). T (has z l)) e m) in omega arith
-
 -- the entries before one of an ascending list are less
 pub ascending-front : (k : List ℕ) (x : ℕ) (l : List ℕ) → T (ascending (k ++ x ∷ l)) → (y : ℕ) → T (has y k) → y < x
 ascending-front [] x l t y h = absurd (none-in y h)
@@ -177,8 +161,3 @@ ascending-front (z ∷ k) x l t y h = go (of-cons y z k h) (λ r. ascending-fron
     go : (y ≡ z) ⊎ T (has y k) → (T (has y k) → y < x) → y < x
     go (inl e) rec = subst (λ (w : ℕ). w < x) (sym e) (ascending-above z (k ++ x ∷ l) t x (has-later x k (x ∷ l) (has-head x l)))
     go (inr r) rec = rec r
-
--- and those after it are greater
-pub ascending-back : (k : List ℕ) (x : ℕ) (l : List ℕ) → T (ascending (k ++ x ∷ l)) → (y : ℕ) → T (has y l) → x < y
-ascending-back [] x l t y h = ascending-above x l t y h
-ascending-back (z ∷ k) x l t y h = ascending-back k x l (ascending-tail z (k ++ x ∷ l) t) y h

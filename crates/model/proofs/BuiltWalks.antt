@@ -22,7 +22,7 @@ use Rattle.model.specs.Tables.{entry, sum, via, fullTable, lowTable, low
 use Rattle.model.specs.Pair.{answer, taken, listed, attaining, choose, pairBy, pair}
 use Rattle.model.specs.Walk.{byLow, toHub, join, nodes}
 use Rattle.model.specs.Walking.{Walking, refuseWalk, fit, walkOf}
-use Rattle.model.proofs.Tests.{and-l, and-r, and-i, is, eq-T, T-true, same-test, eq-or}
+use Rattle.model.proofs.Tests.{and-r, and-i, is, eq-T, T-true, same-test, eq-or}
 use Rattle.model.proofs.Lists.{has-append, of-upTo, first-below, First, found, nothing, first-same}
 use Rattle.model.proofs.Acceptance.{linked-has, linked-sym, linked-ends}
 use Rattle.model.proofs.Chains.{snoc, split-last, chain-zero, inside}

@@ -9,7 +9,7 @@ use native.Mathlib.Nat.{zero-add, suc-add, le-step, le-refl, le-antisymm}
 use native.Mathlib.Omega.{arith}
 use lib.Dec.{T}
 use lib.ListN.{length}
-use Rattle.model.specs.Basics.{none, from, upTo, has, any, keep, firstOf}
+use Rattle.model.specs.Basics.{none, upTo, has, any, keep, firstOf}
 use Rattle.model.specs.Graph.{Edges, Chain, here, link, Fewest, reach, fewest}
 use Rattle.model.proofs.Tests.{or-l, or-r, or-e}
 use Rattle.model.proofs.Lists.{has-head, of-single, any-of, of-any, has-keep, of-keep, has-upTo, of-upTo, First, found, nothing, first-below, keep-grows, keep-length, length-upTo, length-pos}

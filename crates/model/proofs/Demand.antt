@@ -14,7 +14,7 @@ use lib.Seq.{take-at}
 use Rattle.model.specs.declared.Route.the-variants.{NoRoute}
 use Rattle.model.specs.declared.Answer.{Answer}
 use Rattle.model.specs.Answers.{refused, answered}
-use Rattle.model.specs.Basics.{none, if_then_else_, over}
+use Rattle.model.specs.Basics.{none, over}
 use Rattle.model.specs.Graph.{Edges, Walked}
 use Rattle.model.specs.Survey.{Graph, neighboursOf, linked, badSize, isSurvey, Accepted}
 use Rattle.model.specs.Threshold.{threshold}

@@ -8,11 +8,10 @@ use native.Mathlib.Numerals.{add-one}
 use native.Mathlib.Omega.{arith}
 use lib.ListN.{length, getD, take, drop, length-append, length-take, List·getD-append}
 use lib.Seq.{take-at, drop-at, take-add, getD-take, ext-getD}
-use lib.Dec.{T}
-use Rattle.model.specs.Basics.{from, upTo, has, gather}
+use Rattle.model.specs.Basics.{from, upTo, gather}
 use Rattle.model.specs.Survey.{Graph, neighboursOf, IsSurvey}
 use Rattle.model.specs.Reading.{startsOf, neighboursFrom}
-use Rattle.model.proofs.Lists.{gather-append, gather-same, of-gather, upTo-suc, from-split, of-upTo}
+use Rattle.model.proofs.Lists.{gather-append, gather-same, upTo-suc, from-split, of-upTo}
 use Rattle.model.proofs.Entries.{getD-row, length-row}
 
 -- how many neighbours the nodes below v have
@@ -132,9 +131,3 @@ module _ (n : ℕ) (starts neighbours : List ℕ) (s : IsSurvey n starts neighbo
       ext-getD 0 (map f (upTo (n + 1))) (take (n + 1) starts) (length-row f (n + 1) ∙ omega (arith, length-take (n + 1) starts)) (λ i h.
       let b : i < n + 1 = omega (arith, length-row f (n + 1)) in
       getD-row f (n + 1) i 0 b ∙ own-total i (omega arith) ∙ sym (getD-take (n + 1) starts i 0 b))
-
-  -- an entry that is used is one of some node's own
-  pub own-neighbours-in : (x : ℕ) → T (has x (take (getD starts n 0) neighbours)) → (v : ℕ) × (v < n) × T (has x (neighboursOf starts neighbours v))
-  own-neighbours-in x m =
-      let i = of-gather (neighboursOf starts neighbours) (upTo n) x (subst (λ (l : List ℕ). T (has x l)) (sym (front n (omega arith))) m) in
-      (i .0, of-upTo n (i .0) (i .1), i .2)

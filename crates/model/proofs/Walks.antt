@@ -3,7 +3,7 @@
 -- Assumes nothing.
 use mathlib.Core.Path.{_≡_, refl, sym, ap, ap₂, _∙_, subst}
 use mathlib.Core.Logic.{_⊎_, inl, inr}
-use mathlib.Core.Bool.{Bool, true, false, not, _&&_}
+use mathlib.Core.Bool.{Bool, true, false, _&&_}
 use mathlib.Core.List.{List, [], _∷_, _++_, reverse, tail, reverse-cons}
 use mathlib.Core.Option.{Option, none as missing, some}
 use Prim.Native.Nat.{ℕ, zero, suc, _+_, _-_, _≤_, _<_, zero-le}
@@ -16,9 +16,9 @@ use Rattle.model.specs.declared.Route.the-variants.{Itself, Low, Through
 use Rattle.model.specs.declared.Answer.{Answer}
 use Rattle.model.specs.Answers.{Outcome, refused, answered}
 use Rattle.model.specs.Basics.{none, if_then_else_, has, keep, upTo, firstOf}
-use Rattle.model.specs.Graph.{Edges, link, Walked, stop, go}
+use Rattle.model.specs.Graph.{Edges, Walked, stop, go}
 use Rattle.model.specs.Survey.{Graph, linked, IsGraph}
-use Rattle.model.specs.Hubs.{isLow, hubs}
+use Rattle.model.specs.Hubs.{isLow}
 use Rattle.model.specs.Tables.{entry, via}
 use Rattle.model.specs.Pair.{answer, attaining, choose, pairBy}
 use Rattle.model.specs.Walk.{before, next, steps, byLow, toHub, join, nodes}

@@ -1,8 +1,8 @@
 -- Rows of Full and Low: what a search through allowed nodes gives for them.
 -- Assumes nothing.
-use mathlib.Core.Path.{_≡_, refl, sym, ap, ap₂, _∙_, subst, fun-ext}
+use mathlib.Core.Path.{_≡_, refl, sym, ap, ap₂, _∙_, subst}
 use mathlib.Core.Logic.{_⊎_, inl, inr}
-use mathlib.Core.Bool.{Bool, true, false, not, _&&_}
+use mathlib.Core.Bool.{Bool, true, false, _&&_}
 use mathlib.Core.List.{List, [], _∷_, _++_, map}
 use Prim.Native.Nat.{ℕ, zero, suc, _+_, _*_, _≤_, _<_}
 use native.Mathlib.Numerals.{add-one}
@@ -17,7 +17,6 @@ use Rattle.model.specs.Graph.{Edges, between, Chain, fewest}
 use Rattle.model.specs.Survey.{Graph, linked, IsGraph}
 use Rattle.model.specs.Hubs.{isLow}
 use Rattle.model.specs.Tables.{table, fullOf, lowLinks, lowTable}
-use Rattle.model.proofs.Acceptance.{linked-is}
 use Rattle.model.proofs.Chains.{split-last, chain-zero, fewest-missing}
 use Rattle.model.proofs.Lists.{has-append, has-later, has-head, of-append, of-single}
 use Rattle.model.proofs.TableLaws.{between-same, all-allowed, both-low, low-ends}
