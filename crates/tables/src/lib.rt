@@ -20,7 +20,7 @@ ghost use Rattle.layers.specs.Matrix.{edgesIn};
 ghost use Rattle.tables.specs.Rows.{relaxed};
 
 // The lesser of two numbers.
-fn lesser(a: u32, b: u32) -> u32
+fn lesser(a: u16, b: u16) -> u16
     ensures { λ r. ⌜ r ≡ min a b ⌝ }
 {
     if a < b {
@@ -29,15 +29,17 @@ fn lesser(a: u32, b: u32) -> u32
     b
 }
 
-// Each entry of a row becomes the lesser of itself and x + the entry of another row. A sum with a none in it is never the lesser.
+// Each entry of a row becomes the lesser of itself and x + the entry of another row. No more is added to x than has room in 16 bits:
+// a sum of 65,535 is never the lesser, and so none with a none in it.
 fn relax(row: &mut [u16], x: u16, other: &[u16])
     requires { ⌜ length (now row) ≡ length (now other) ⌝ }
     ensures { λ _. ⌜ now (row .exit) ≡ relaxed x (now (other .entry)) (now (row .entry)) ⌝ }
 {
+    let room = NONE - x;
     let mut b = 0;
     while b < row.len() {
-        let sum = x as u32 + other[b] as u32;
-        row[b] = lesser(sum, row[b] as u32) as u16;
+        let sum = x + lesser(other[b], room);
+        row[b] = lesser(sum, row[b]);
         b += 1;
     }
 }
