@@ -18,7 +18,7 @@ use Rattle.nodeset.specs.NodeSet.{Nodes, member, membersFrom}
 use Rattle.nodeset.proofs.Bits.{word-bit}
 use Rattle.nodeset.proofs.Members.{bits-none, Lowest, lowest}
 use Rattle.nodeset.proofs.Words.{next-word}
-use Rattle.layers.specs.Matrix.{marked}
+use Rattle.layers.specs.Marks.{marked}
 
 -- ---- a row in which the nodes of a list are marked
 

@@ -1,12 +1,12 @@
 -- Links put into a matrix one by one, and one node's links put into a set.
 -- Assumes nothing.
 use mathlib.Core.Path.{_≡_, refl, sym, ap, _∙_, subst, fun-ext}
-use mathlib.Core.Logic.{_⊎_, ⊎-elim}
+use mathlib.Core.Logic.{⊎-elim}
 use mathlib.Core.Bool.{Bool, true, false, _&&_, _||_, and-false, or-comm}
 use mathlib.Core.List.{List}
 use Prim.Native.Nat.{ℕ, _+_, _*_, _/_, _%_, _≤_, _<_}
 use native.Mathlib.Omega.{arith}
-use borrow.Author.Tests.{lt-ltb, le-ltb, eq-eqb, ne-eqb, eqb-true}
+use borrow.Author.Tests.{lt-ltb, le-ltb, eq-eqb, ne-eqb}
 use lib.Bits.{bitOr}
 use lib.Dec.{T, eqb, ltb}
 use lib.ListN.{length, getD, set, drop, replicate, length-set, drop-of-length-le}
@@ -16,40 +16,11 @@ use Rattle.model.specs.Graph.{Edges, between}
 use Rattle.model.specs.Survey.{Graph, linked, IsGraph}
 use Rattle.model.proofs.Acceptance.{linked-is, linked-has, linked-of}
 use Rattle.model.proofs.Loops.{drop-next, below-next}
-use Rattle.model.proofs.Tests.{and-l, and-r, and-i, T-true, true-T, same-test, eq-T, eq-or, lt-or}
-use Rattle.nodeset.specs.NodeSet.{Nodes, bit, member, nobody, with}
-use Rattle.nodeset.proofs.Bits.{bit-or, empty-words}
-use Rattle.layers.specs.Matrix.{edgesIn}
-
--- two matrices have the same links
-same-edges : (E F : Edges) → ((u x : ℕ) → E u x ≡ F u x) → E ≡ F
-same-edges E F h = fun-ext (λ u. fun-ext (h u))
-
--- ---- one link
-
--- the number of a pair tells the pair
-pair-test : (u x v w : ℕ) → x < 1024 → w < 1024 → eqb (1024 * u + x) (1024 * v + w) ≡ (eqb u v && eqb x w)
-pair-test u x v w hx hw =
-    same-test (eqb (1024 * u + x) (1024 * v + w)) (eqb u v && eqb x w)
-    (λ t. let e = eqb-true (1024 * u + x) (1024 * v + w) (T-true (eqb (1024 * u + x) (1024 * v + w)) t) in
-    and-i (eqb u v) (eqb x w) (eq-T u v (omega arith)) (eq-T x w (omega arith)))
-    (λ t. let a = eqb-true u v (T-true (eqb u v) (and-l (eqb u v) (eqb x w) t)) in
-    let b = eqb-true x w (T-true (eqb x w) (and-r (eqb u v) (eqb x w) t)) in
-    eq-T (1024 * u + x) (1024 * v + w) (omega arith))
-
--- the matrix with the link v-w
-edge-with : (ws ws′ : List ℕ) (v w : ℕ) → w < 1024 → member ws′ ≡ with (member ws) (1024 * v + w)
-    → edgesIn ws′ ≡ (λ u x. (eqb u v && eqb x w) || edgesIn ws u x)
-unfolding edgesIn with
-edge-with ws ws′ v w hw e = same-edges (edgesIn ws′) (λ u x. (eqb u v && eqb x w) || edgesIn ws u x) (λ u x.
-    ap (λ (p : Nodes). ltb x 1024 && p (1024 * u + x)) e
-    ∙ ⊎-elim (λ l. near u x l) (λ l. far u x l) (lt-or x 1024))
-  where
-    near : (u x : ℕ) → x < 1024 → (ltb x 1024 && (eqb (1024 * u + x) (1024 * v + w) || member ws (1024 * u + x))) ≡ ((eqb u v && eqb x w) || (ltb x 1024 && member ws (1024 * u + x)))
-    near u x l = rw (lt-ltb x 1024 l, pair-test u x v w l hw) refl
-
-    far : (u x : ℕ) → 1024 ≤ x → (ltb x 1024 && (eqb (1024 * u + x) (1024 * v + w) || member ws (1024 * u + x))) ≡ ((eqb u v && eqb x w) || (ltb x 1024 && member ws (1024 * u + x)))
-    far u x l = rw (le-ltb x 1024 l, ne-eqb x w (λ (q : x ≡ w). omega arith), and-false (eqb u v)) refl
+use Rattle.model.proofs.Tests.{and-l, and-r, and-i, true-T, same-test, eq-or, lt-or}
+use Rattle.nodeset.specs.NodeSet.{Nodes, bit, member, with}
+use Rattle.nodeset.proofs.Bits.{bit-or}
+use Rattle.nodeset.specs.Matrix.{edgesIn}
+use Rattle.nodeset.proofs.Matrix.{same-edges, edge-with, edges-none}
 
 -- a test at x is the test at w where x is w
 at-one : (p : Nodes) (x w : ℕ) (b : Bool) → p w ≡ b → (eqb x w && p x) ≡ (eqb x w && b)
@@ -154,10 +125,9 @@ module _ (n : ℕ) (G : Graph) (g : IsGraph n G) (p : Nodes) (v : ℕ) where
           (lt-or u v)
 
 pub rows-none : (F : Edges) (ws : List ℕ) → ws ≡ replicate 16384 0 → edgesIn ws ≡ (λ u x. ltb u 0 && F u x)
-unfolding edgesIn nobody
-rows-none F ws e = same-edges (edgesIn ws) (λ u x. ltb u 0 && F u x) (λ u x.
-    ap (λ (m : Nodes). ltb x 1024 && m (1024 * u + x)) (ap member e ∙ empty-words 16384)
-    ∙ and-false (ltb x 1024) ∙ sym (rw (le-ltb u 0 (omega arith)) refl))
+rows-none F ws e =
+    ap edgesIn e ∙ edges-none
+    ∙ same-edges (λ u x. false) (λ u x. ltb u 0 && F u x) (λ u x. sym (rw (le-ltb u 0 (omega arith)) refl))
 
 pub rows-all : (n v : ℕ) (G : Graph) (p : Nodes) (E : Edges) → v ≡ n → E ≡ (λ u x. ltb u v && between p (linked n G) u x) → E ≡ between p (linked n G)
 rows-all n v G p E q e =

@@ -18,7 +18,7 @@ use Rattle.model.proofs.Lists.{none-in, of-single, any-of, of-any, has-keep, of
 use Rattle.model.proofs.Tests.{and-l, and-r, and-i, or-l, or-r, or-e, passes, no-false, false-no, T-false, same-test, eq-or}
 use Rattle.nodeset.specs.NodeSet.{Nodes, member, nobody, with, both, without}
 use Rattle.nodeset.proofs.Bits.{empty-words}
-use Rattle.layers.specs.Matrix.{marked}
+use Rattle.layers.specs.Marks.{marked}
 use Rattle.layers.proofs.Marks.{marked-length, marked-in, marked-out}
 
 -- one more number to search, where it passes only if an earlier one does

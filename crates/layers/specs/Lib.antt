@@ -1,1 +1,1 @@
-pub mod Matrix
+pub mod Marks

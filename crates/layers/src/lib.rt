@@ -10,7 +10,8 @@ ghost use Rattle.model.specs.Basics.{upTo, has, any, keep};
 ghost use Rattle.model.specs.Graph.{between, fewest};
 ghost use Rattle.model.specs.Survey.{neighboursOf, linked, Accepted};
 ghost use Rattle.nodeset.specs.NodeSet.{member, membersFrom};
-ghost use Rattle.layers.specs.Matrix.{edgesIn, marked};
+ghost use Rattle.nodeset.specs.Matrix.{edgesIn};
+ghost use Rattle.layers.specs.Marks.{marked};
 
 // Puts the link v-w into the matrix, if w is allowed.
 fn link(v: usize, w: usize, allowed: &[u64], rows: &mut [u64])

@@ -1,3 +1,4 @@
 pub mod Bits
 pub mod Members
 pub mod Words
+pub mod Matrix

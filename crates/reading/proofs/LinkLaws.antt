@@ -13,15 +13,18 @@ use lib.ListN.{length, drop, replicate, length-replicate, drop-of-length-le}
 use Rattle.model.specs.Answers.{Outcome, refused, answered, number}
 use Rattle.model.specs.declared.Refusal.{Refusal}
 use Rattle.model.specs.Basics.{if_then_else_}
+use Rattle.model.specs.Graph.{Edges}
 use Rattle.model.specs.SurveyText.{line}
 use Rattle.model.specs.Reading.{named, onLinks, linkOf, readOn, readLinks}
-use Rattle.model.proofs.Tests.{true-T, and-l, and-r, eq-or, lt-or, of-or-false}
+use Rattle.model.proofs.Tests.{true-T, and-l, and-r, lt-or, of-or-false}
 use Rattle.model.proofs.Loops.{drop-next}
 use Rattle.model.proofs.Links.{of-link-taken}
 use Rattle.model.proofs.Outcomes.{never}
-use Rattle.nodeset.specs.NodeSet.{member, with, nobody}
-use Rattle.nodeset.proofs.Bits.{eqb-same, empty-words}
-use Rattle.reading.specs.Links.{linksIn, Holds, linkIn, Told}
+use Rattle.nodeset.specs.NodeSet.{member, with}
+use Rattle.nodeset.proofs.Bits.{eqb-same}
+use Rattle.nodeset.specs.Matrix.{edgesIn}
+use Rattle.nodeset.proofs.Matrix.{edge-with, edges-none}
+use Rattle.reading.specs.Links.{Holds, linkIn, Told}
 use Rattle.reading.specs.declared.Links.the-variants as links
 
 -- ---- one line
@@ -80,38 +83,24 @@ module _ (s : List ℕ) (at n : ℕ) (E : ℕ → ℕ → Bool) where
 
 -- ---- the links in the matrix
 
--- the place of a link in the matrix
-pub place-same : (a b u v : ℕ) → b < 1024 → v < 1024 → eqb (1024 * u + v) (1024 * a + b) ≡ (eqb u a && eqb v b)
-place-same a b u v hb hv = at (eq-or u a)
-  where
-    at : (u ≡ a) ⊎ (u ≡ a → ⊥) → eqb (1024 * u + v) (1024 * a + b) ≡ (eqb u a && eqb v b)
-    at (inl e) =
-        eqb-same (1024 * u + v) (1024 * a + b) v b (λ q. omega arith) (λ q. omega arith)
-        ∙ ap (λ (t : Bool). t && eqb v b) (sym (eq-eqb u a e))
-    at (inr d) =
-        ne-eqb (1024 * u + v) (1024 * a + b) (λ q. d (omega arith))
-        ∙ ap (λ (t : Bool). t && eqb v b) (sym (ne-eqb u a d))
-
 pub none-held : Holds (replicate 16384 0) []
-unfolding linksIn named nobody
+unfolding named
 none-held = record {
   long = length-replicate {A = ℕ} 16384 0;
-  says = λ a b ha hb. ap (λ (p : ℕ → Bool). p (1024 * a + b)) (empty-words 16384);
+  says = λ a b ha hb. ap (λ (E : Edges). E a b) edges-none;
 }
 
 -- a link put in both ways round
 pub held-more : (ws ws′ ws″ : List ℕ) (ls : List (ℕ × ℕ)) (a b : ℕ) → a < 1024 → b < 1024 → Holds ws ls
     → length ws″ ≡ 16384
     → member ws′ ≡ with (member ws) (1024 * a + b) → member ws″ ≡ with (member ws′) (1024 * b + a) → Holds ws″ ((a, b) ∷ ls)
-unfolding linksIn named with
+unfolding named
 held-more ws ws′ ws″ ls a b ha hb h long p q = record {
   long = long;
   says = λ u v hu hv.
-      ap (λ (m : ℕ → Bool). m (1024 * u + v)) q
-      ∙ ap₂ (λ (x y : Bool). x || y) (place-same b a u v ha hv) (
-      ap (λ (m : ℕ → Bool). m (1024 * u + v)) p
-      ∙ ap₂ (λ (x y : Bool). x || y) (place-same a b u v hb hv) (h .says u v hu hv)
-      )
+      ap (λ (E : Edges). E u v) (edge-with ws′ ws″ b a ha q)
+      ∙ ap (λ (E : Edges). (eqb u b && eqb v a) || E u v) (edge-with ws ws′ a b hb p)
+      ∙ ap (λ (x : Bool). (eqb u b && eqb v a) || ((eqb u a && eqb v b) || x)) (h .says u v hu hv)
       ∙ turned (eqb u b) (eqb v a) (eqb u a) (eqb v b) (named ls u v)
       ∙ ap₂ (λ (x y : Bool). (x || y) || named ls u v)
       (ap₂ _&&_ (flip u a) (flip v b)) (ap₂ _&&_ (flip v a) (flip u b));
@@ -247,22 +236,22 @@ progress-none n m s at ws e = record {
 }
 
 module _ (n m : ℕ) (s : List ℕ) (at : ℕ) (ws : List ℕ) (next k : ℕ) (few : n ≤ 1024) (p : Progress n m s at ws next k) where
-  agrees : (a b : ℕ) → a < n → b < n → linksIn ws a b ≡ named (p .done) a b
+  agrees : (a b : ℕ) → a < n → b < n → edgesIn ws a b ≡ named (p .done) a b
   agrees a b ha hb = p .held .says a b (omega arith) (omega arith)
 
-  pub progress-refused : k < m → (c : ℕ) → linkIn n (linksIn ws) (drop next s) ≡ refused c → readLinks n m [] (drop at s) ≡ refused c
-  progress-refused h c e = sym (p .rest) ∙ next-refused n (p .done) (linksIn ws) agrees m k h (drop next s) c e
+  pub progress-refused : k < m → (c : ℕ) → linkIn n (edgesIn ws) (drop next s) ≡ refused c → readLinks n m [] (drop at s) ≡ refused c
+  progress-refused h c e = sym (p .rest) ∙ next-refused n (p .done) (edgesIn ws) agrees m k h (drop next s) c e
 
-  pub progress-taken : k < m → (a b e : ℕ) (ws′ ws″ : List ℕ) → linkIn n (linksIn ws) (drop next s) ≡ answered (a, b, drop e s)
+  pub progress-taken : k < m → (a b e : ℕ) (ws′ ws″ : List ℕ) → linkIn n (edgesIn ws) (drop next s) ≡ answered (a, b, drop e s)
       → length ws″ ≡ length ws → member ws′ ≡ with (member ws) (1024 * a + b) → member ws″ ≡ with (member ws′) (1024 * b + a)
       → Progress n m s at ws″ e (k + 1)
   progress-taken h a b e ws′ ws″ l long one two =
-      let g = link-below n (linksIn ws) (drop next s) a b (drop e s) l in
+      let g = link-below n (edgesIn ws) (drop next s) a b (drop e s) l in
       record {
         done = (a, b) ∷ p .done;
         within = omega arith;
         held = held-more ws ws′ ws″ (p .done) a b (omega (arith, g .0)) (omega (arith, g .1)) (p .held) (long ∙ p .held .long) one two;
-        rest = sym (next-taken n (p .done) (linksIn ws) agrees m k h (drop next s) a b (drop e s) l) ∙ p .rest;
+        rest = sym (next-taken n (p .done) (edgesIn ws) agrees m k h (drop next s) a b (drop e s) l) ∙ p .rest;
       }
 
   pub progress-more : m ≤ k → next < length s → readLinks n m [] (drop at s) ≡ refused 7

@@ -22,7 +22,8 @@ use Rattle.model.proofs.ReadBack.{named-below, reading-right}
 use Rattle.model.proofs.SurveyLists.{neighbours-length, starts-same, neighbours-same}
 use Rattle.model.proofs.Tests.{or-false as neither}
 use Rattle.model.proofs.Totals.{links-total}
-use Rattle.reading.specs.Links.{linksIn, Holds, Told, rowsIn}
+use Rattle.nodeset.specs.Matrix.{edgesIn}
+use Rattle.reading.specs.Links.{Holds, Told, rowsIn}
 use Rattle.reading.specs.declared.Links.the-variants as links
 
 -- ---- the first line
@@ -81,10 +82,10 @@ module _ (n : ℕ) (size : n ≤ 1024) (ws : List ℕ) (ls : List (ℕ × ℕ)) 
   rows-same : (v : ℕ) → v < n → rowsIn ws v ≡ graphOf n ls v
   unfolding rowsIn graphOf
   rows-same v h =
-      keep-same (linksIn ws v) (named ls v) (upTo 1024) (λ u k t. subst T (says u k) t) (λ u k t. subst T (sym (says u k)) t)
+      keep-same (edgesIn ws v) (named ls v) (upTo 1024) (λ u k t. subst T (says u k) t) (λ u k t. subst T (sym (says u k)) t)
       ∙ keep-below (named ls v) n 1024 size (λ u t. named-below n ls [] fresh v u t .1)
     where
-      says : (u : ℕ) → T (has u (upTo 1024)) → linksIn ws v u ≡ named ls v u
+      says : (u : ℕ) → T (has u (upTo 1024)) → edgesIn ws v u ≡ named ls v u
       says u k = held .says v u (omega arith) (of-upTo 1024 u k)
 
   few-entries : length (neighboursFrom n (rowsIn ws)) ≡ 2 * length ls

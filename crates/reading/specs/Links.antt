@@ -3,14 +3,14 @@
 use mathlib.Core.Bool.{Bool}
 use mathlib.Core.List.{List, [], _∷_}
 use mathlib.Core.Path.{_≡_}
-use Prim.Native.Nat.{ℕ, _+_, _*_, _<_}
+use Prim.Native.Nat.{ℕ, _<_}
 use lib.ListN.{length, drop}
 use Rattle.model.specs.Answers.{Outcome, refused, answered, number}
 use Rattle.model.specs.Basics.{upTo, keep}
 use Rattle.model.specs.Survey.{Graph}
 use Rattle.model.specs.SurveyText.{line}
 use Rattle.model.specs.Reading.{named, linkOf}
-use Rattle.nodeset.specs.NodeSet.{member}
+use Rattle.nodeset.specs.Matrix.{edgesIn}
 use Rattle.reading.specs.declared.Step.{Step}
 use Rattle.reading.specs.declared.Step.the-variants as step
 use Rattle.reading.specs.declared.Links.{Links}
@@ -18,14 +18,10 @@ use Rattle.reading.specs.declared.Links.the-variants as links
 use Rattle.reading.specs.declared.First.{First}
 use Rattle.reading.specs.declared.First.the-variants as first
 
--- the matrix of 1,024 x 1,024 bits, row by row: link a-b is number 1024 * a + b
-unfoldable pub linksIn : List ℕ → ℕ → ℕ → Bool
-linksIn ws a b = member ws (1024 * a + b)
-
 -- a matrix with exactly these links
 pub record Holds (ws : List ℕ) (ls : List (ℕ × ℕ)) : Type 0 where
   pub long : length ws ≡ 16384
-  pub says : (a b : ℕ) → a < 1024 → b < 1024 → linksIn ws a b ≡ named ls a b
+  pub says : (a b : ℕ) → a < 1024 → b < 1024 → edgesIn ws a b ≡ named ls a b
 
 -- what the next line says after the links of E, in a text that may be at its end
 unfoldable pub linkIn : ℕ → (ℕ → ℕ → Bool) → List ℕ → Outcome (ℕ × ℕ × List ℕ)
@@ -49,4 +45,4 @@ firstAnswer s (first.Refused r) = refused (number r)
 
 -- the graph of the matrix: each node's neighbours, ascending
 unfoldable pub rowsIn : List ℕ → Graph
-rowsIn ws v = keep (linksIn ws v) (upTo 1024)
+rowsIn ws v = keep (edgesIn ws v) (upTo 1024)

@@ -13,7 +13,8 @@ ghost use Rattle.model.specs.SurveyText.{line};
 ghost use Rattle.model.specs.Reading.{readLinks, countsOf, startsOf, neighboursFrom, parsed, parse, returned, readingOf, reading};
 ghost use Rattle.model.specs.Demand.{ReadRight};
 ghost use Rattle.nodeset.specs.NodeSet.{member, membersFrom};
-ghost use Rattle.reading.specs.Links.{linksIn, linkIn, stepAnswer, Told, rowsIn, firstAnswer};
+ghost use Rattle.nodeset.specs.Matrix.{edgesIn};
+ghost use Rattle.reading.specs.Links.{linkIn, stepAnswer, Told, rowsIn, firstAnswer};
 
 // What a link line says: the link and the place after its line.
 pub enum Step {
@@ -36,7 +37,7 @@ pub enum First {
 // The link line at a place, where the matrix has the links given before.
 fn link_at(text: &[u8], at: usize, n: usize, bits: &[u64]) -> Step
     requires { ⌜ (n ≤ 1024) × (length (now bits) ≡ 16384) ⌝ }
-    ensures { λ r. ⌜ stepAnswer (now (text .entry)) r ≡ linkIn n (linksIn (now (bits .entry))) (drop at (now (text .entry))) ⌝ }
+    ensures { λ r. ⌜ stepAnswer (now (text .entry)) r ≡ linkIn n (edgesIn (now (bits .entry))) (drop at (now (text .entry))) ⌝ }
 {
     if text.len() <= at {
         return Step::Refused(Refusal::LineCount);

@@ -16,7 +16,7 @@ ghost use Rattle.model.specs.Tables.{entry, via, fullOf, lowTable, reportOf};
 ghost use Rattle.model.specs.Answers.{answered};
 ghost use Rattle.model.specs.Building.{Building, built, returned, building};
 ghost use Rattle.nodeset.specs.NodeSet.{member};
-ghost use Rattle.layers.specs.Matrix.{edgesIn};
+ghost use Rattle.nodeset.specs.Matrix.{edgesIn};
 ghost use Rattle.tables.specs.Rows.{relaxed};
 
 // The lesser of two numbers.

@@ -2,7 +2,7 @@
 -- Assumes nothing.
 use mathlib.Core.Path.{sym, _∙_}
 use borrow.Author.Tests.{not-true, not-false}
-use Rattle.layers.specs.Matrix.{edgesIn}
+use Rattle.nodeset.specs.Matrix.{edgesIn}
 use Rattle.nodeset.specs.NodeSet.{member}
 use Rattle.layers.proofs.Matrix.{link-not, link-put}
 use borrow.Author.Needs.{needs}

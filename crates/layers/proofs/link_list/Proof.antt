@@ -6,7 +6,7 @@ use native.Mathlib.Omega.{arith}
 use lib.ListN.{length}
 use Rattle.model.proofs.Ascending.{getD-has}
 use Rattle.nodeset.specs.NodeSet.{member}
-use Rattle.layers.specs.Matrix.{edgesIn}
+use Rattle.nodeset.specs.Matrix.{edgesIn}
 use Rattle.layers.proofs.Matrix.{Linking, linking-none, linking-more, linking-all}
 use borrow.Author.Needs.{needs}
 use Rattle.layers.proofs.link_list.Statement.{statement}

@@ -9,7 +9,7 @@ use lib.Dec.{T}
 use Rattle.model.specs.Basics.{has}
 use Rattle.model.specs.Survey.{neighboursOf}
 use Rattle.nodeset.specs.NodeSet.{member}
-use Rattle.layers.specs.Matrix.{edgesIn}
+use Rattle.nodeset.specs.Matrix.{edgesIn}
 use Rattle.layers.proofs.Matrix.{node-not, node-put}
 use borrow.Author.Needs.{needs}
 use Rattle.layers.proofs.link_node.Statement.{statement}

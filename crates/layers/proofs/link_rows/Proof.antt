@@ -9,7 +9,7 @@ use lib.ListN.{length, length-replicate}
 use Rattle.model.specs.Graph.{between}
 use Rattle.model.specs.Survey.{neighboursOf, linked}
 use Rattle.nodeset.specs.NodeSet.{member}
-use Rattle.layers.specs.Matrix.{edgesIn}
+use Rattle.nodeset.specs.Matrix.{edgesIn}
 use Rattle.layers.proofs.Matrix.{rows-none, rows-next, rows-all}
 use Rattle.layers.proofs.link_rows.Statement.{statement}
 use Rattle.layers.proofs.link_rows.Tie as tie

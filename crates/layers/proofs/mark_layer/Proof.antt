@@ -3,7 +3,7 @@
 use mathlib.Core.Path.{sym, _∙_}
 use Prim.Native.Nat.{_-_}
 use native.Mathlib.Omega.{arith}
-use Rattle.layers.specs.Matrix.{edgesIn}
+use Rattle.nodeset.specs.Matrix.{edgesIn}
 use Rattle.layers.proofs.Marks.{Marked, marked-none, marked-same, word-inside, marked-more, marked-row, marked-found}
 use Rattle.layers.proofs.mark_layer.Statement.{statement}
 use Rattle.layers.proofs.mark_layer.Tie as tie

@@ -5,7 +5,7 @@ use native.Mathlib.Omega.{arith}
 use lib.Count.{trailingZeros}
 use lib.Pow.{pow-pos}
 use Rattle.nodeset.proofs.Bits.{shifted}
-use Rattle.layers.specs.Matrix.{edgesIn}
+use Rattle.nodeset.specs.Matrix.{edgesIn}
 use Rattle.layers.proofs.Marks.{Marking, marking-none, marking-row, marking-found, low, first-inside, marking-more}
 use Rattle.layers.proofs.mark_word.Statement.{statement}
 use Rattle.layers.proofs.mark_word.Tie as tie

@@ -7,7 +7,7 @@ use lib.ListN.{length, replicate, length-replicate}
 use Rattle.model.specs.Basics.{none}
 use Rattle.nodeset.specs.NodeSet.{member}
 use Rattle.nodeset.proofs.Words.{past-smallest}
-use Rattle.layers.specs.Matrix.{edgesIn}
+use Rattle.nodeset.specs.Matrix.{edgesIn}
 use Rattle.layers.proofs.Turns.{Turn, turn-start, turn-more, front-inside, turn-empty, turn-end}
 use borrow.Author.Needs.{needs}
 use Rattle.layers.proofs.search.Statement.{statement}

@@ -4,65 +4,48 @@ use mathlib.Core.Path.{sym, ap, _∙_}
 use native.Mathlib.Omega.{arith}
 use borrow.Author.Tests.{not-true, not-false}
 use Rattle.text.specs.Scan.{found}
-use Rattle.reading.specs.Links.{linksIn}
+use Rattle.nodeset.specs.Matrix.{edgesIn}
+use Rattle.nodeset.proofs.Matrix.{edge-bit}
 use Rattle.reading.proofs.LinkLaws.{both-below, link-end, link-malformed, link-far, link-loop, link-again, link-new}
 use borrow.Author.Needs.{needs}
 use Rattle.reading.proofs.link_at.Statement.{statement}
 use Rattle.reading.proofs.link_at.Tie as tie
-use Rattle.reading.proofs.link_at.Reads as reads
-use Rattle.reading.proofs.link_at.Lts as lts
-use Rattle.nodeset.proofs.contains.Reads as contains-reads
-use Rattle.text.proofs.line_at.Reads as line-at-reads
 
--- src/lib.rt:42:9
 returns : tie.Need-returns
-returns c = sym (link-end ((c .before .before .before .args .text .now)) ((c .before .before .before .args .at)) ((c .before .before .before .args .n)) (linksIn ((c .before .before .before .args .bits .now))) ((c .if1 .taken)))
+returns c = sym (link-end (c .before .before .before .args .text .now) (c .before .before .before .args .at) (c .before .before .before .args .n) (edgesIn (c .before .before .before .args .bits .now)) (c .if1 .taken))
 
--- src/lib.rt:44:34
 line-at-requires : tie.Need-line-at-requires
 line-at-requires c κs = search needs
 
--- src/lib.rt:44:20
 enum-known-a : tie.Need-enum-known-a
 enum-known-a c = search needs
 
--- src/lib.rt:45:30
 enum-told : tie.Need-enum-told
 enum-told c = search needs
 
--- src/lib.rt:45:9
 returns-2 : tie.Need-returns-2
-returns-2 c = sym (link-malformed ((c .before .before .before .before .before .before .args .text .now)) ((c .before .before .before .before .before .before .args .at)) ((c .before .before .before .before .before .before .args .n)) (linksIn ((c .before .before .before .before .before .before .args .bits .now))) ((c .before .before .before .if1 .left)) (sym ((c .before .before .line-at .ensures)) ∙ ap (found ((c .before .before .before .before .before .before .args .text .now))) ((c .enum-told .given .1))))
+returns-2 c = sym (link-malformed (c .before .before .before .before .before .before .args .text .now) (c .before .before .before .before .before .before .args .at) (c .before .before .before .before .before .before .args .n) (edgesIn (c .before .before .before .before .before .before .args .bits .now)) (c .before .before .before .if1 .left) (sym (c .before .before .line-at .ensures) ∙ ap (found (c .before .before .before .before .before .before .args .text .now)) (c .enum-told .given .1)))
 
--- src/lib.rt:49:9
 returns-3 : tie.Need-returns-3
-returns-3 c = sym (link-far ((c .before .before .before .before .before .before .before .before .args .text .now)) ((c .before .before .before .before .before .before .before .before .args .at)) ((c .before .before .before .before .before .before .before .before .args .n)) (linksIn ((c .before .before .before .before .before .before .before .before .args .bits .now))) ((c .before .before .before .before .before .if1 .left)) ((c .before .before .a .given .0 .0)) ((c .before .before .a .given .0 .1 .0)) _ (sym ((c .before .before .before .before .line-at .ensures)) ∙ ap (found ((c .before .before .before .before .before .before .before .before .args .text .now))) ((c .before .before .a .given .1))) (not-true _ ((c .if2 .taken))))
+returns-3 c = sym (link-far (c .before .before .before .before .before .before .before .before .args .text .now) (c .before .before .before .before .before .before .before .before .args .at) (c .before .before .before .before .before .before .before .before .args .n) (edgesIn (c .before .before .before .before .before .before .before .before .args .bits .now)) (c .before .before .before .before .before .if1 .left) (c .before .before .a .given .0 .0) (c .before .before .a .given .0 .1 .0) _ (sym (c .before .before .before .before .line-at .ensures) ∙ ap (found (c .before .before .before .before .before .before .before .before .args .text .now)) (c .before .before .a .given .1)) (not-true _ (c .if2 .taken)))
 
--- src/lib.rt:52:9
 returns-4 : tie.Need-returns-4
-returns-4 c = sym (link-loop ((c .before .before .before .before .before .before .before .before .before .args .text .now)) ((c .before .before .before .before .before .before .before .before .before .args .at)) ((c .before .before .before .before .before .before .before .before .before .args .n)) (linksIn ((c .before .before .before .before .before .before .before .before .before .args .bits .now))) ((c .before .before .before .before .before .before .if1 .left)) ((c .before .before .before .a .given .0 .0)) ((c .before .before .before .a .given .0 .1 .0)) _ (sym ((c .before .before .before .before .before .line-at .ensures)) ∙ ap (found ((c .before .before .before .before .before .before .before .before .before .args .text .now))) ((c .before .before .before .a .given .1))) (not-false _ ((c .before .if2 .left))) ((c .if3 .taken)))
+returns-4 c = sym (link-loop (c .before .before .before .before .before .before .before .before .before .args .text .now) (c .before .before .before .before .before .before .before .before .before .args .at) (c .before .before .before .before .before .before .before .before .before .args .n) (edgesIn (c .before .before .before .before .before .before .before .before .before .args .bits .now)) (c .before .before .before .before .before .before .if1 .left) (c .before .before .before .a .given .0 .0) (c .before .before .before .a .given .0 .1 .0) _ (sym (c .before .before .before .before .before .line-at .ensures) ∙ ap (found (c .before .before .before .before .before .before .before .before .before .args .text .now)) (c .before .before .before .a .given .1)) (not-false _ (c .before .if2 .left)) (c .if3 .taken))
 
--- src/lib.rt:56:32
 mul-contains : tie.Need-mul-contains
-mul-contains c = omega (arith, both-below ((c .before .before .before .a .given .0 .0)) ((c .before .before .before .a .given .0 .1 .0)) ((c .before .before .before .before .before .before .before .before .before .args .n)) (not-false _ ((c .before .if2 .left))), (c .before .before .before .before .before .before .before .before .before .pre .0))
+mul-contains c = omega (arith, both-below (c .before .before .before .a .given .0 .0) (c .before .before .before .a .given .0 .1 .0) (c .before .before .before .before .before .before .before .before .before .args .n) (not-false _ (c .before .if2 .left)), (c .before .before .before .before .before .before .before .before .before .pre .0))
 
--- src/lib.rt:56:32
 add-contains : tie.Need-add-contains
-add-contains c = omega (arith, both-below ((c .before .before .before .a .given .0 .0)) ((c .before .before .before .a .given .0 .1 .0)) ((c .before .before .before .before .before .before .before .before .before .args .n)) (not-false _ ((c .before .if2 .left))), (c .before .before .before .before .before .before .before .before .before .pre .0))
+add-contains c = omega (arith, both-below (c .before .before .before .a .given .0 .0) (c .before .before .before .a .given .0 .1 .0) (c .before .before .before .before .before .before .before .before .before .args .n) (not-false _ (c .before .if2 .left)), (c .before .before .before .before .before .before .before .before .before .pre .0))
 
--- src/lib.rt:56:8
 contains-requires : tie.Need-contains-requires
-contains-requires c κs = omega (arith, both-below ((c .before .before .before .a .given .0 .0)) ((c .before .before .before .a .given .0 .1 .0)) ((c .before .before .before .before .before .before .before .before .before .args .n)) (not-false _ ((c .before .if2 .left))), (c .before .before .before .before .before .before .before .before .before .pre .0), (c .before .before .before .before .before .before .before .before .before .pre .1))
+contains-requires c κs = omega (arith, both-below (c .before .before .before .a .given .0 .0) (c .before .before .before .a .given .0 .1 .0) (c .before .before .before .before .before .before .before .before .before .args .n) (not-false _ (c .before .if2 .left)), (c .before .before .before .before .before .before .before .before .before .pre .0), (c .before .before .before .before .before .before .before .before .before .pre .1))
 
--- src/lib.rt:57:9
 returns-5 : tie.Need-returns-5
-unfolding linksIn
-returns-5 c = sym (link-again ((c .before .before .before .before .before .before .before .before .before .before .before .args .text .now)) ((c .before .before .before .before .before .before .before .before .before .before .before .args .at)) ((c .before .before .before .before .before .before .before .before .before .before .before .args .n)) (linksIn ((c .before .before .before .before .before .before .before .before .before .before .before .args .bits .now))) ((c .before .before .before .before .before .before .before .before .if1 .left)) ((c .before .before .before .before .before .a .given .0 .0)) ((c .before .before .before .before .before .a .given .0 .1 .0)) _ (sym ((c .before .before .before .before .before .before .before .line-at .ensures)) ∙ ap (found ((c .before .before .before .before .before .before .before .before .before .before .before .args .text .now))) ((c .before .before .before .before .before .a .given .1))) (not-false _ ((c .before .before .before .if2 .left))) ((c .before .before .if3 .left)) (sym ((c .before .contains .ensures)) ∙ ((c .if4 .taken))))
+returns-5 c = sym (link-again (c .before .before .before .before .before .before .before .before .before .before .before .args .text .now) (c .before .before .before .before .before .before .before .before .before .before .before .args .at) (c .before .before .before .before .before .before .before .before .before .before .before .args .n) (edgesIn (c .before .before .before .before .before .before .before .before .before .before .before .args .bits .now)) (c .before .before .before .before .before .before .before .before .if1 .left) (c .before .before .before .before .before .a .given .0 .0) (c .before .before .before .before .before .a .given .0 .1 .0) _ (sym (c .before .before .before .before .before .before .before .line-at .ensures) ∙ ap (found (c .before .before .before .before .before .before .before .before .before .before .before .args .text .now)) (c .before .before .before .before .before .a .given .1)) (not-false _ (c .before .before .before .if2 .left)) (c .before .before .if3 .left) (edge-bit (c .before .before .before .before .before .before .before .before .before .before .before .args .bits .now) (c .before .before .before .before .before .a .given .0 .0) (c .before .before .before .before .before .a .given .0 .1 .0) (omega (arith, both-below (c .before .before .before .before .before .a .given .0 .0) (c .before .before .before .before .before .a .given .0 .1 .0) (c .before .before .before .before .before .before .before .before .before .before .before .args .n) (not-false _ (c .before .before .before .if2 .left)), (c .before .before .before .before .before .before .before .before .before .before .before .pre .0))) ∙ sym (c .before .contains .ensures) ∙ (c .if4 .taken)))
 
--- src/lib.rt:37:1
 returns-6 : tie.Need-returns-6
-unfolding linksIn
-returns-6 c = sym (link-new ((c .before .before .before .before .before .before .before .before .before .before .before .args .text .now)) ((c .before .before .before .before .before .before .before .before .before .before .before .args .at)) ((c .before .before .before .before .before .before .before .before .before .before .before .args .n)) (linksIn ((c .before .before .before .before .before .before .before .before .before .before .before .args .bits .now))) ((c .before .before .before .before .before .before .before .before .if1 .left)) ((c .before .before .before .before .before .a .given .0 .0)) ((c .before .before .before .before .before .a .given .0 .1 .0)) _ (sym ((c .before .before .before .before .before .before .before .line-at .ensures)) ∙ ap (found ((c .before .before .before .before .before .before .before .before .before .before .before .args .text .now))) ((c .before .before .before .before .before .a .given .1))) (not-false _ ((c .before .before .before .if2 .left))) ((c .before .before .if3 .left)) (sym ((c .before .contains .ensures)) ∙ ((c .if4 .left))))
+returns-6 c = sym (link-new (c .before .before .before .before .before .before .before .before .before .before .before .args .text .now) (c .before .before .before .before .before .before .before .before .before .before .before .args .at) (c .before .before .before .before .before .before .before .before .before .before .before .args .n) (edgesIn (c .before .before .before .before .before .before .before .before .before .before .before .args .bits .now)) (c .before .before .before .before .before .before .before .before .if1 .left) (c .before .before .before .before .before .a .given .0 .0) (c .before .before .before .before .before .a .given .0 .1 .0) _ (sym (c .before .before .before .before .before .before .before .line-at .ensures) ∙ ap (found (c .before .before .before .before .before .before .before .before .before .before .before .args .text .now)) (c .before .before .before .before .before .a .given .1)) (not-false _ (c .before .before .before .if2 .left)) (c .before .before .if3 .left) (edge-bit (c .before .before .before .before .before .before .before .before .before .before .before .args .bits .now) (c .before .before .before .before .before .a .given .0 .0) (c .before .before .before .before .before .a .given .0 .1 .0) (omega (arith, both-below (c .before .before .before .before .before .a .given .0 .0) (c .before .before .before .before .before .a .given .0 .1 .0) (c .before .before .before .before .before .before .before .before .before .before .before .args .n) (not-false _ (c .before .before .before .if2 .left)), (c .before .before .before .before .before .before .before .before .before .before .before .pre .0))) ∙ sym (c .before .contains .ensures) ∙ (c .if4 .left)))
 
 pub link-at-spec : {M : Type 1} → statement M
 link-at-spec =

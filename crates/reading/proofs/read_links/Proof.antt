@@ -6,7 +6,8 @@ use Prim.Native.Nat.{ℕ, _-_}
 use native.Mathlib.Omega.{arith}
 use lib.ListN.{length, drop, length-replicate}
 use Rattle.model.specs.declared.Refusal.the-variants.{LineCount}
-use Rattle.reading.specs.Links.{linksIn, stepAnswer}
+use Rattle.nodeset.specs.Matrix.{edgesIn}
+use Rattle.reading.specs.Links.{stepAnswer}
 use Rattle.reading.proofs.LinkLaws.{link-below, Progress, progress-none, progress-refused, progress-taken, progress-more, progress-done, told-refused, told-taken}
 use Rattle.reading.proofs.read_links.Statement.{statement}
 use Rattle.reading.proofs.read_links.Tie as tie
@@ -36,22 +37,22 @@ enum-known-a : tie.Need-enum-known-a Inv-loop μ-loop
 enum-known-a c = search needs
 
 mul-insert : tie.Need-mul-insert Inv-loop μ-loop
-mul-insert c = let g = (link-below (c .before .before .before .before .before .before .before .before .before .before .args .n) (linksIn (c .before .before .before .before .before .before .before .loop .bits)) (drop (c .before .before .before .before .before .before .before .loop .next) (c .before .before .before .before .before .before .before .before .before .before .args .text .now)) (c .before .before .a .given .0 .0) (c .before .before .a .given .0 .1 .0) (drop (c .before .before .a .given .0 .1 .1 .0) (c .before .before .before .before .before .before .before .before .before .before .args .text .now)) (sym (c .before .before .before .before .link-at .ensures) ∙ ap (stepAnswer (c .before .before .before .before .before .before .before .before .before .before .args .text .now)) (c .before .before .a .given .1))) in omega (arith, (c .before .before .before .before .before .before .before .before .before .before .pre .0))
+mul-insert c = let g = (link-below (c .before .before .before .before .before .before .before .before .before .before .args .n) (edgesIn (c .before .before .before .before .before .before .before .loop .bits)) (drop (c .before .before .before .before .before .before .before .loop .next) (c .before .before .before .before .before .before .before .before .before .before .args .text .now)) (c .before .before .a .given .0 .0) (c .before .before .a .given .0 .1 .0) (drop (c .before .before .a .given .0 .1 .1 .0) (c .before .before .before .before .before .before .before .before .before .before .args .text .now)) (sym (c .before .before .before .before .link-at .ensures) ∙ ap (stepAnswer (c .before .before .before .before .before .before .before .before .before .before .args .text .now)) (c .before .before .a .given .1))) in omega (arith, (c .before .before .before .before .before .before .before .before .before .before .pre .0))
 
 add-insert : tie.Need-add-insert Inv-loop μ-loop
-add-insert c = let g = (link-below (c .before .before .before .before .before .before .before .before .before .before .args .n) (linksIn (c .before .before .before .before .before .before .before .loop .bits)) (drop (c .before .before .before .before .before .before .before .loop .next) (c .before .before .before .before .before .before .before .before .before .before .args .text .now)) (c .before .before .a .given .0 .0) (c .before .before .a .given .0 .1 .0) (drop (c .before .before .a .given .0 .1 .1 .0) (c .before .before .before .before .before .before .before .before .before .before .args .text .now)) (sym (c .before .before .before .before .link-at .ensures) ∙ ap (stepAnswer (c .before .before .before .before .before .before .before .before .before .before .args .text .now)) (c .before .before .a .given .1))) in omega (arith, (c .before .before .before .before .before .before .before .before .before .before .pre .0))
+add-insert c = let g = (link-below (c .before .before .before .before .before .before .before .before .before .before .args .n) (edgesIn (c .before .before .before .before .before .before .before .loop .bits)) (drop (c .before .before .before .before .before .before .before .loop .next) (c .before .before .before .before .before .before .before .before .before .before .args .text .now)) (c .before .before .a .given .0 .0) (c .before .before .a .given .0 .1 .0) (drop (c .before .before .a .given .0 .1 .1 .0) (c .before .before .before .before .before .before .before .before .before .before .args .text .now)) (sym (c .before .before .before .before .link-at .ensures) ∙ ap (stepAnswer (c .before .before .before .before .before .before .before .before .before .before .args .text .now)) (c .before .before .a .given .1))) in omega (arith, (c .before .before .before .before .before .before .before .before .before .before .pre .0))
 
 insert-requires : tie.Need-insert-requires Inv-loop μ-loop
-insert-requires c κs = let g = (link-below (c .before .before .before .before .before .before .before .before .before .before .args .n) (linksIn (c .before .before .before .before .before .before .before .loop .bits)) (drop (c .before .before .before .before .before .before .before .loop .next) (c .before .before .before .before .before .before .before .before .before .before .args .text .now)) (c .before .before .a .given .0 .0) (c .before .before .a .given .0 .1 .0) (drop (c .before .before .a .given .0 .1 .1 .0) (c .before .before .before .before .before .before .before .before .before .before .args .text .now)) (sym (c .before .before .before .before .link-at .ensures) ∙ ap (stepAnswer (c .before .before .before .before .before .before .before .before .before .before .args .text .now)) (c .before .before .a .given .1))) in omega (arith, (c .before .before .before .before .before .before .before .before .before .before .pre .0), ((c .before .before .before .before .before .before .before .loop .inv) .held .long))
+insert-requires c κs = let g = (link-below (c .before .before .before .before .before .before .before .before .before .before .args .n) (edgesIn (c .before .before .before .before .before .before .before .loop .bits)) (drop (c .before .before .before .before .before .before .before .loop .next) (c .before .before .before .before .before .before .before .before .before .before .args .text .now)) (c .before .before .a .given .0 .0) (c .before .before .a .given .0 .1 .0) (drop (c .before .before .a .given .0 .1 .1 .0) (c .before .before .before .before .before .before .before .before .before .before .args .text .now)) (sym (c .before .before .before .before .link-at .ensures) ∙ ap (stepAnswer (c .before .before .before .before .before .before .before .before .before .before .args .text .now)) (c .before .before .a .given .1))) in omega (arith, (c .before .before .before .before .before .before .before .before .before .before .pre .0), ((c .before .before .before .before .before .before .before .loop .inv) .held .long))
 
 mul-insert-2 : tie.Need-mul-insert-2 Inv-loop μ-loop
-mul-insert-2 c = let g = (link-below (c .before .before .before .before .before .before .before .before .before .before .before .before .before .before .args .n) (linksIn (c .before .before .before .before .before .before .before .before .before .before .before .loop .bits)) (drop (c .before .before .before .before .before .before .before .before .before .before .before .loop .next) (c .before .before .before .before .before .before .before .before .before .before .before .before .before .before .args .text .now)) (c .before .before .before .before .before .before .a .given .0 .0) (c .before .before .before .before .before .before .a .given .0 .1 .0) (drop (c .before .before .before .before .before .before .a .given .0 .1 .1 .0) (c .before .before .before .before .before .before .before .before .before .before .before .before .before .before .args .text .now)) (sym (c .before .before .before .before .before .before .before .before .link-at .ensures) ∙ ap (stepAnswer (c .before .before .before .before .before .before .before .before .before .before .before .before .before .before .args .text .now)) (c .before .before .before .before .before .before .a .given .1))) in omega (arith, (c .before .before .before .before .before .before .before .before .before .before .before .before .before .before .pre .0))
+mul-insert-2 c = let g = (link-below (c .before .before .before .before .before .before .before .before .before .before .before .before .before .before .args .n) (edgesIn (c .before .before .before .before .before .before .before .before .before .before .before .loop .bits)) (drop (c .before .before .before .before .before .before .before .before .before .before .before .loop .next) (c .before .before .before .before .before .before .before .before .before .before .before .before .before .before .args .text .now)) (c .before .before .before .before .before .before .a .given .0 .0) (c .before .before .before .before .before .before .a .given .0 .1 .0) (drop (c .before .before .before .before .before .before .a .given .0 .1 .1 .0) (c .before .before .before .before .before .before .before .before .before .before .before .before .before .before .args .text .now)) (sym (c .before .before .before .before .before .before .before .before .link-at .ensures) ∙ ap (stepAnswer (c .before .before .before .before .before .before .before .before .before .before .before .before .before .before .args .text .now)) (c .before .before .before .before .before .before .a .given .1))) in omega (arith, (c .before .before .before .before .before .before .before .before .before .before .before .before .before .before .pre .0))
 
 add-insert-2 : tie.Need-add-insert-2 Inv-loop μ-loop
-add-insert-2 c = let g = (link-below (c .before .before .before .before .before .before .before .before .before .before .before .before .before .before .args .n) (linksIn (c .before .before .before .before .before .before .before .before .before .before .before .loop .bits)) (drop (c .before .before .before .before .before .before .before .before .before .before .before .loop .next) (c .before .before .before .before .before .before .before .before .before .before .before .before .before .before .args .text .now)) (c .before .before .before .before .before .before .a .given .0 .0) (c .before .before .before .before .before .before .a .given .0 .1 .0) (drop (c .before .before .before .before .before .before .a .given .0 .1 .1 .0) (c .before .before .before .before .before .before .before .before .before .before .before .before .before .before .args .text .now)) (sym (c .before .before .before .before .before .before .before .before .link-at .ensures) ∙ ap (stepAnswer (c .before .before .before .before .before .before .before .before .before .before .before .before .before .before .args .text .now)) (c .before .before .before .before .before .before .a .given .1))) in omega (arith, (c .before .before .before .before .before .before .before .before .before .before .before .before .before .before .pre .0))
+add-insert-2 c = let g = (link-below (c .before .before .before .before .before .before .before .before .before .before .before .before .before .before .args .n) (edgesIn (c .before .before .before .before .before .before .before .before .before .before .before .loop .bits)) (drop (c .before .before .before .before .before .before .before .before .before .before .before .loop .next) (c .before .before .before .before .before .before .before .before .before .before .before .before .before .before .args .text .now)) (c .before .before .before .before .before .before .a .given .0 .0) (c .before .before .before .before .before .before .a .given .0 .1 .0) (drop (c .before .before .before .before .before .before .a .given .0 .1 .1 .0) (c .before .before .before .before .before .before .before .before .before .before .before .before .before .before .args .text .now)) (sym (c .before .before .before .before .before .before .before .before .link-at .ensures) ∙ ap (stepAnswer (c .before .before .before .before .before .before .before .before .before .before .before .before .before .before .args .text .now)) (c .before .before .before .before .before .before .a .given .1))) in omega (arith, (c .before .before .before .before .before .before .before .before .before .before .before .before .before .before .pre .0))
 
 insert-requires-2 : tie.Need-insert-requires-2 Inv-loop μ-loop
-insert-requires-2 c κs = let g = (link-below (c .before .before .before .before .before .before .before .before .before .before .before .before .before .before .args .n) (linksIn (c .before .before .before .before .before .before .before .before .before .before .before .loop .bits)) (drop (c .before .before .before .before .before .before .before .before .before .before .before .loop .next) (c .before .before .before .before .before .before .before .before .before .before .before .before .before .before .args .text .now)) (c .before .before .before .before .before .before .a .given .0 .0) (c .before .before .before .before .before .before .a .given .0 .1 .0) (drop (c .before .before .before .before .before .before .a .given .0 .1 .1 .0) (c .before .before .before .before .before .before .before .before .before .before .before .before .before .before .args .text .now)) (sym (c .before .before .before .before .before .before .before .before .link-at .ensures) ∙ ap (stepAnswer (c .before .before .before .before .before .before .before .before .before .before .before .before .before .before .args .text .now)) (c .before .before .before .before .before .before .a .given .1))) in omega (arith, (c .before .before .before .before .before .before .before .before .before .before .before .before .before .before .pre .0), ((c .before .before .before .before .before .before .before .before .before .before .before .loop .inv) .held .long), (c .before .before .before .insert .kept .0))
+insert-requires-2 c κs = let g = (link-below (c .before .before .before .before .before .before .before .before .before .before .before .before .before .before .args .n) (edgesIn (c .before .before .before .before .before .before .before .before .before .before .before .loop .bits)) (drop (c .before .before .before .before .before .before .before .before .before .before .before .loop .next) (c .before .before .before .before .before .before .before .before .before .before .before .before .before .before .args .text .now)) (c .before .before .before .before .before .before .a .given .0 .0) (c .before .before .before .before .before .before .a .given .0 .1 .0) (drop (c .before .before .before .before .before .before .a .given .0 .1 .1 .0) (c .before .before .before .before .before .before .before .before .before .before .before .before .before .before .args .text .now)) (sym (c .before .before .before .before .before .before .before .before .link-at .ensures) ∙ ap (stepAnswer (c .before .before .before .before .before .before .before .before .before .before .before .before .before .before .args .text .now)) (c .before .before .before .before .before .before .a .given .1))) in omega (arith, (c .before .before .before .before .before .before .before .before .before .before .before .before .before .before .pre .0), ((c .before .before .before .before .before .before .before .before .before .before .before .loop .inv) .held .long), (c .before .before .before .insert .kept .0))
 
 add-k : tie.Need-add-k Inv-loop μ-loop
 add-k c = search needs

@@ -9,7 +9,7 @@ use lib.ListN.{replicate}
 use Rattle.lists.specs.Writing.{written}
 use Rattle.model.specs.Basics.{none, if_then_else_, upTo}
 use Rattle.model.specs.Graph.{fewest}
-use Rattle.layers.specs.Matrix.{edgesIn}
+use Rattle.nodeset.specs.Matrix.{edgesIn}
 use Rattle.search.proofs.TableRow.{row-ends, part-length, row-put}
 use Rattle.tables.proofs.TableRows.{none-row}
 use borrow.Author.Needs.{needs}
