@@ -12,7 +12,7 @@ use lib.Dec.{T, eqb, ltb, eqb→eq, ltb→lt}
 use Rattle.model.specs.declared.Verdict.{Verdict}
 use Rattle.model.specs.declared.Verdict.the-variants.{Parted, Long, Short}
 use Rattle.model.specs.Basics.{none, if_then_else_, has, any, upTo}
-use Rattle.model.specs.Graph.{Edges, Chain, Apart, link, Fewest, fewest}
+use Rattle.model.specs.Graph.{Edges, Chain, Unjoined, link, Fewest, fewest}
 use Rattle.model.specs.Survey.{Graph, linked, IsGraph}
 use Rattle.model.specs.Hubs.{isHigh, isLow, closed, hubs}
 use Rattle.model.specs.TwoOrFour.{sources, verdictOf, tested}
@@ -24,7 +24,7 @@ use Rattle.model.proofs.Covering.{hubs-cover, hubs-below}
 
 -- what the searches show of a graph of n nodes
 data Means (n : ℕ) (E : Edges) : Verdict → Type 0 where
-  is-parted : (u v : ℕ) → u < n → v < n → Apart E u v → Means n E Parted
+  is-parted : (u v : ℕ) → u < n → v < n → Unjoined E u v → Means n E Parted
   is-long : (u v d : ℕ) → u < n → v < n → Fewest E u v d → 2 < d → ((a b : ℕ) → a < n → b < n → (j : ℕ) × Chain E j a b) → Means n E Long
   is-short : ((u v : ℕ) → u < n → v < n → (j : ℕ) × (j ≤ 3) × Chain E j u v) → Means n E Short
 

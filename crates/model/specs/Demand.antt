@@ -12,7 +12,7 @@ use Rattle.model.specs.declared.Verdict.{Verdict}
 use Rattle.model.specs.declared.Verdict.the-variants.{Parted, Long, Short}
 use Rattle.model.specs.Answers.{Outcome, answered}
 use Rattle.model.specs.Basics.{none}
-use Rattle.model.specs.Graph.{Edges, Apart, Fewest, Walked}
+use Rattle.model.specs.Graph.{Edges, Unjoined, Fewest, Walked}
 use Rattle.model.specs.declared.Size.{Size}
 use Rattle.model.specs.SurveyText.{surveyText}
 use Rattle.model.specs.Survey.{neighboursOf, linked, Accepted}
@@ -32,7 +32,7 @@ ReadRight text r = (x : Size) → r .answer ≡ answered x → IsRead text x (r 
 
 -- a report: none exactly where no chain joins the pair; else at least the fewest links, and at most two more
 pub record Allowed (E : Edges) (a b r : ℕ) : Type 0 where
-  pub no-route : (r ≡ none) ↔ Apart E a b
+  pub no-route : (r ≡ none) ↔ Unjoined E a b
   pub near : (d : ℕ) → Fewest E a b d → (d ≤ r) × (r ≤ d + 2)
 
 -- an answer that is not refused, with an allowed report
@@ -57,7 +57,7 @@ WalkAnswers w o r = (x : Answer) → o ≡ answered x → (x .report ≡ none) �
 -- a verdict: parted exactly when some two nodes are not joined, never short where some two are four or more apart, never long
 -- where all are within two
 pub record VerdictRight (n : ℕ) (E : Edges) (v : Verdict) : Type 0 where
-  pub parted : (v ≡ Parted) ↔ ((a : ℕ) × (b : ℕ) × (a < n) × (b < n) × Apart E a b)
+  pub parted : (v ≡ Parted) ↔ ((a : ℕ) × (b : ℕ) × (a < n) × (b < n) × Unjoined E a b)
   pub not-short : (a b d : ℕ) → a < n → b < n → Fewest E a b d → 4 ≤ d → v ≡ Short → ⊥
   pub not-long : ((a b : ℕ) → a < n → b < n → (d : ℕ) × (d ≤ 2) × Fewest E a b d) → v ≡ Long → ⊥
 

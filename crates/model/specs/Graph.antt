@@ -21,8 +21,8 @@ pub data Chain (E : Edges) : ℕ → ℕ → ℕ → Type 0 where
   link : {k a b c : ℕ} → T (E a b) → Chain E k b c → Chain E (suc k) a c
 
 -- no chain joins a and b
-abbrev pub Apart : Edges → ℕ → ℕ → Type 0
-Apart E a b = (k : ℕ) → Chain E k a b → ⊥
+abbrev pub Unjoined : Edges → ℕ → ℕ → Type 0
+Unjoined E a b = (k : ℕ) → Chain E k a b → ⊥
 
 -- "The fewest links of two nodes is the least number of links in a chain that joins them"
 abbrev pub Fewest : Edges → ℕ → ℕ → ℕ → Type 0

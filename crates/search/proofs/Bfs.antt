@@ -12,7 +12,7 @@ use lib.Dec.{T, eqb}
 use lib.ListN.{length, getD, length-set}
 use lib.Seq.{getD-set-same, getD-set-other, ext-getD}
 use Rattle.model.specs.Basics.{none, if_then_else_, has, upTo}
-use Rattle.model.specs.Graph.{Edges, Chain, here, link, Apart, Fewest, fewest}
+use Rattle.model.specs.Graph.{Edges, Chain, here, link, Unjoined, Fewest, fewest}
 use Rattle.model.proofs.Tests.{eq-or, lt-or, is, isnt}
 use Rattle.model.proofs.Lists.{none-in, of-single, of-cons, has-head, has-tail}
 use Rattle.model.proofs.Loops.{below-next}
@@ -263,7 +263,7 @@ module _ {E : Edges} {s n : ℕ} {p : Progress} {head : ℕ} (S : Invariant E s 
   from-source : {k v : ℕ} → Chain E k s v → Within p k v
   from-source r = let z = along r 0 (S .some) (S .source) in (z .0, z .1, z .2, omega (arith, z .3, S .small 0 (S .some)))
 
-  unreached-apart : (v : ℕ) → getD (p .row) v 0 ≡ none → Apart E s v
+  unreached-apart : (v : ℕ) → getD (p .row) v 0 ≡ none → Unjoined E s v
   unreached-apart v e k r =
       let z = from-source r in
       omega (arith, S .few, S .count, S .small (z .0) (z .1), z .1, ap (λ (x : ℕ). getD (p .row) x 0) (z .2) ∙ e)

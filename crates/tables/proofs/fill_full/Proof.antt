@@ -39,7 +39,7 @@ slice-relend-prefix-fill16 : tie.Need-slice-relend-prefix-fill16 Inv-loop μ-loo
 slice-relend-prefix-fill16 c = omega (arith, (c .before .before .before .before .before .before .before .pre .0 .1))
 
 slice-aggregate-fill16 : tie.Need-slice-aggregate-fill16 Inv-loop μ-loop
-slice-aggregate-fill16 c = sym (length-take-le (((c .before .before .before .before .before .before .before .before .args .n)) * ((c .before .before .before .before .before .before .before .before .args .n))) ((c .before .before .before .before .before .before .before .before .args .full .now)) ((c .before .before .before .before .before .before .before .before .pre .0 .1)))
+slice-aggregate-fill16 c = sym (length-take-le _ (c .before .before .before .before .before .before .before .before .args .full .now) (omega (arith, (c .before .before .before .before .before .before .before .before .pre .0 .1))))
 
 fill16-requires : tie.Need-fill16-requires Inv-loop μ-loop
 fill16-requires c κs = search needs

@@ -38,10 +38,10 @@ part-copy16-start : tie.Need-part-copy16-start Inv-loop μ-loop
 part-copy16-start c = search needs
 
 part-copy16-end : tie.Need-part-copy16-end Inv-loop μ-loop
-part-copy16-end c = row-ends ((c .before .before .before .before .args .n)) ((c .before .before .before .before .args .a)) ((c .before .before .before .before .args .low .now)) ((c .before .before .before .before .pre .0 .3)) ((c .before .before .before .before .pre .0 .2))
+part-copy16-end c = omega (arith, row-ends (c .before .before .before .before .args .n) (c .before .before .before .before .args .a) (c .before .before .before .before .args .low .now) (c .before .before .before .before .pre .0 .3) (c .before .before .before .before .pre .0 .2), row-ends (c .before .before .before .before .args .n) (c .before .before .before .before .args .a) (c .before .before .before .before .args .full .now) (c .before .before .before .before .pre .0 .3) (c .before .before .before .before .pre .0 .1))
 
 copy16-requires : tie.Need-copy16-requires Inv-loop μ-loop
-copy16-requires c κs = omega (arith, part-length ((c .before .before .before .before .before .before .args .n)) ((c .before .before .before .before .before .before .args .a)) ((c .before .before .before .before .before .before .args .low .now)) ((c .before .before .before .before .before .before .pre .0 .3)) ((c .before .before .before .before .before .before .pre .0 .2)), (c .before .before .before .before .before .before .pre .0 .4))
+copy16-requires c κs = omega (arith, part-length (c .before .before .before .before .before .before .args .n) (c .before .before .before .before .before .before .args .a) (c .before .before .before .before .before .before .args .low .now) (c .before .before .before .before .before .before .pre .0 .3) (c .before .before .before .before .before .before .pre .0 .2), part-length (c .before .before .before .before .before .before .args .n) (c .before .before .before .before .before .before .args .a) (c .before .before .before .before .before .before .args .full .now) (c .before .before .before .before .before .before .pre .0 .3) (c .before .before .before .before .before .before .pre .0 .1), (c .before .before .before .before .before .before .pre .0 .4))
 
 loop-holds : tie.Need-loop-holds Inv-loop μ-loop
 loop-holds c = (omega arith, copied _ _ _ _ ((c .before .before .copy16 .ensures)) ((c .before .before .before .before .before .before .before .before .before .pre .0 .4) ∙ sym (part-length ((c .before .before .before .before .before .before .before .before .before .args .n)) ((c .before .before .before .before .before .before .before .before .before .args .a)) ((c .before .before .before .before .before .before .before .before .before .args .low .now)) ((c .before .before .before .before .before .before .before .before .before .pre .0 .3)) ((c .before .before .before .before .before .before .before .before .before .pre .0 .2)))) ∙ own-row ((c .before .before .before .before .before .before .before .before .before .args .n)) ((c .before .before .before .before .before .before .before .before .before .args .a)) ((c .before .before .before .before .before .before .before .before .before .args .low .now)) ((c .before .before .before .before .before .before .before .before .before .pre .0 .3)) ((c .before .before .before .before .before .before .before .before .before .pre .0 .2)) ∙ least-none ((c .before .before .before .before .before .before .before .before .before .args .n)) ((c .before .before .before .before .before .before .before .before .before .args .full .now)) ((c .before .before .before .before .before .before .before .before .before .args .low .now)) ((c .before .before .before .before .before .before .before .before .before .args .hubs .now)) ((c .before .before .before .before .before .before .before .before .before .args .a)))
