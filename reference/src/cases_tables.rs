@@ -53,6 +53,7 @@ impl commands::Lists for Lists {
         match command.letter {
             b'R' => return run_read(command, script, &mut self.starts, &mut self.neighbours),
             b'B' => return Some(self.build()),
+            b'V' => return Some(self.entries(x)),
             b'Q' => return Some(self.ask(x, y)),
             b'W' => return Some(self.walk(x, y)),
             b'T' => return Some(self.test()),
@@ -83,6 +84,18 @@ impl Lists {
         );
         let sums = [&self.full, &self.low, &self.report, &self.hubs].map(|list| sum(list));
         outcome(answer.map(|count| vec![count as u64]), 1, &sums)
+    }
+
+    /// The entries that are lent of a list.
+    fn entries(&self, which: usize) -> Vec<u64> {
+        let list = match which {
+            FULL => &self.full,
+            LOW => &self.low,
+            REPORT => &self.report,
+            _ => &self.hubs,
+        };
+        let lent = &list[..self.numbers[which]];
+        lent.iter().map(|&entry| u64::from(entry)).collect()
     }
 
     fn ask(&self, a: usize, b: usize) -> Vec<u64> {

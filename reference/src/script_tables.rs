@@ -15,6 +15,9 @@ use reference::NONE;
 /// The course survey with a seventh node that has no link.
 const SEPARATE_NODE: &str = "S,7,6\nL,0,5\nL,1,5\nL,2,5\nL,3,5\nL,4,5\nL,1,2\n";
 
+/// Tables of at most so many nodes are printed whole.
+const MOST_PRINTED: usize = 40;
+
 /// The whole script.
 pub fn make() -> Vec<u8> {
     let mut maker = Maker {
@@ -67,6 +70,17 @@ impl Maker {
 
     fn build(&mut self) {
         self.put(b'B', 0, 0);
+    }
+
+    /// Builds, and prints the whole tables and the hub list of few nodes;
+    /// those of many are told by their sums alone.
+    fn build_and_print(&mut self) {
+        self.build();
+        if self.numbers[NODES] <= MOST_PRINTED {
+            for list in [FULL, LOW, REPORT, HUBS] {
+                self.put(b'V', list, 0);
+            }
+        }
     }
 
     fn ask(&mut self, a: usize, b: usize) {
@@ -122,7 +136,7 @@ fn examples(maker: &mut Maker) {
     ] {
         maker.read(text);
         maker.numbers(&exact(n, m));
-        maker.build();
+        maker.build_and_print();
         maker.test();
         for a in 0..n {
             for b in 0..n {
@@ -250,7 +264,7 @@ fn whole_survey(maker: &mut Maker, sample: &Sample, random: &mut Random) {
     let (n, built) = (sample.n, Built::of_sample(sample));
     maker.read(&sample.text());
     maker.numbers(&exact(n, sample.links().len()));
-    maker.build();
+    maker.build_and_print();
     maker.test();
     for (a, b) in some_pairs(n, random) {
         maker.ask(a, b);

@@ -3,6 +3,7 @@ use script::Command;
 use script::at_most;
 use script::print_answer;
 use script::print_built;
+use script::print_entries;
 use script::print_tested;
 use script::sum16;
 
@@ -31,6 +32,30 @@ pub fn run_build(
         &mut hubs[..h],
     );
     print_built(answer, full, low, report, hubs);
+}
+
+// Prints the entries that are lent of list c.x: Full, Low, Report or the hub list, by their places in `numbers`.
+pub fn run_print(
+    c: Command,
+    numbers: &[u64; 8],
+    full: &[u16],
+    low: &[u16],
+    report: &[u16],
+    hubs: &[u16],
+) {
+    if c.x == 3 {
+        print_entries(c.letter, full, numbers[3]);
+        return;
+    }
+    if c.x == 4 {
+        print_entries(c.letter, low, numbers[4]);
+        return;
+    }
+    if c.x == 5 {
+        print_entries(c.letter, report, numbers[5]);
+        return;
+    }
+    print_entries(c.letter, hubs, numbers[6]);
 }
 
 // Asking writes to no list: its sum is 0.

@@ -6,6 +6,7 @@
 //   N,i,x                   number i becomes x. Number 0 is the count of nodes; numbers 1 to 7 say how many entries are lent of
 //                           starts, neighbours, Full, Low, Report, the hub list and the walk list
 //   B,0,0                   builds
+//   V,i,0                   prints the entries that are lent of list i (as in N): 3 is Full, 4 Low, 5 Report, 6 the hub list
 //   Q,a,b                   asks nodes a and b
 //   W,a,b                   writes their walk
 //   T,0,0                   tests
@@ -44,6 +45,10 @@ fn run_call(
 ) {
     if c.letter == b'B' {
         calls::run_build(numbers, starts, neighbours, full, low, report, hubs);
+        return;
+    }
+    if c.letter == b'V' {
+        calls::run_print(c, numbers, full, low, report, hubs);
         return;
     }
     if c.letter == b'Q' {

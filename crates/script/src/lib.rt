@@ -99,6 +99,19 @@ pub fn print_line(letter: u8, numbers: &[u64]) {
     io::write_all(1, b"\n");
 }
 
+// Prints a letter and the first k entries of a list, or all where there are fewer, parted by commas.
+pub fn print_entries(letter: u8, list: &[u16], k: u64) {
+    let end = at_most(k, list.len());
+    io::write_all(1, &[letter]);
+    let mut i = 0;
+    while i < end {
+        io::write_all(1, b",");
+        io::print_decimal(1, list[i] as u64);
+        i += 1;
+    }
+    io::write_all(1, b"\n");
+}
+
 // What reading answers and leaves.
 pub fn print_read(answer: Reading, starts: &[u32], neighbours: &[u16]) {
     let s = sum32(starts);
