@@ -10,13 +10,17 @@ use borrow.Rule.Slice.PartMut.{midOf, putMid, mid-len}
 use Rattle.lists.specs.Writing.{written}
 use Rattle.lists.proofs.Writing.{put-written}
 
+-- a part of n entries, wherever it starts
+pub mid-length : (at n : ℕ) (table : List ℕ) → at + n ≤ length table → length (midOf at (at + n - at) table) ≡ n
+mid-length at n table h = mid-len at (at + n) table h ∙ add-sub-cancel-left at n
+
+pub row-put : (at n : ℕ) (table part row : List ℕ) → length part ≡ n → part ≡ row → putMid at (at + n - at) table part ≡ written table at row
+row-put at n table part row l e =
+    put-written table at (at + n - at) part (l ∙ sym (add-sub-cancel-left at n)) ∙ ap (written table at) e
+
 module _ (n s : ℕ) (table : List ℕ) (h : s < n) (room : n * n ≤ length table) where
   pub row-ends : s * n + n ≤ length table
   row-ends = omega (arith, suc-mul s n, mul-le-mul-right n h)
 
   pub part-length : length (midOf (s * n) (s * n + n - s * n) table) ≡ n
-  part-length = mid-len (s * n) (s * n + n) table row-ends ∙ add-sub-cancel-left (s * n) n
-
-pub row-put : (n s : ℕ) (table part row : List ℕ) → length part ≡ n → part ≡ row → putMid (s * n) (s * n + n - s * n) table part ≡ written table (s * n) row
-row-put n s table part row l e =
-    put-written table (s * n) (s * n + n - s * n) part (l ∙ sym (add-sub-cancel-left (s * n) n)) ∙ ap (written table (s * n)) e
+  part-length = mid-length (s * n) n table row-ends

@@ -1,21 +1,17 @@
 -- `search::search_row` meets its contract: the part that is lent is the row.
 -- Assumes nothing.
-use mathlib.Core.Path.{_≡_, _∙_}
-use Prim.Native.Nat.{_+_, _-_, _*_, _≤_}
+use mathlib.Core.Path.{_∙_}
+use Prim.Native.Nat.{_+_, _*_, _≤_}
 use native.Mathlib.Omega.{arith}
 use lib.ListN.{length}
-use borrow.Rule.Slice.PartMut.{midOf}
-use Rattle.search.proofs.TableRow.{row-ends, part-length, row-put}
+use Rattle.search.proofs.TableRow.{row-ends, mid-length, row-put}
 use borrow.Author.Needs.{needs}
 use Rattle.search.proofs.search_row.Statement.{statement}
 use Rattle.search.proofs.search_row.Tie as tie
 
--- the row ends within the table, and the part that is lent has n entries
+-- the row ends within the table
 fits : (s : tie.Start) → s .args .source * s .args .n + s .args .n ≤ length (s .args .table .now)
 fits s = row-ends (s .args .n) (s .args .source) (s .args .table .now) (s .pre .1 .0) (s .pre .1 .2)
-
-size : (s : tie.Start) → length (midOf (s .args .source * s .args .n) (s .args .source * s .args .n + s .args .n - s .args .source * s .args .n) (s .args .table .now)) ≡ s .args .n
-size s = part-length (s .args .n) (s .args .source) (s .args .table .now) (s .pre .1 .0) (s .pre .1 .2)
 
 mul-a : tie.Need-mul-a
 mul-a c = omega (arith, fits (c .before .before .before .before))
@@ -33,10 +29,10 @@ part-search-start : tie.Need-part-search-start
 part-search-start c = search needs
 
 part-search-end : tie.Need-part-search-end
-part-search-end c = fits (c .before .before .before .before)
+part-search-end c = omega (arith, fits (c .before .before .before .before))
 
 search-requires : tie.Need-search-requires
-search-requires c κs = let s = c .before .before .before .before .before in (s .pre .0, (omega arith, s .pre .1 .1, size s))
+search-requires c κs = let s = c .before .before .before .before .before in (s .pre .0, (omega arith, s .pre .1 .1, mid-length _ (s .args .n) (s .args .table .now) (omega (arith, fits s))))
 
 same-length : tie.Need-same-length
 same-length c = search needs
@@ -45,7 +41,7 @@ returns : tie.Need-returns
 returns c =
     let s = c .before .before .before .before .before .before .before .before in
     let r = c .before .before .search in
-    row-put (s .args .n) (s .args .source) (s .args .table .now) _ _ (r .kept .1 .1 .1 .1 .1 .0 ∙ size s) (r .ensures)
+    row-put _ (s .args .n) (s .args .table .now) _ _ (r .kept .1 .1 .1 .1 .1 .0 ∙ mid-length _ (s .args .n) (s .args .table .now) (omega (arith, fits s))) (r .ensures)
 
 pub search-row-spec : {M : Type 1} → statement M
 search-row-spec =

@@ -52,7 +52,7 @@ loop-less : tie.Need-loop-less Inv-loop μ-loop
 loop-less c = search needs
 
 loop-again : tie.Need-loop-again Inv-loop μ-loop
-loop-again c = (omega arith, row-put ((c .before .before .before .before .before .before .before .before .before .before .args .n)) ((c .before .before .before .before .before .loop .a)) ((c .before .before .before .before .before .loop .report)) _ _ (((c .before .before .report-row .kept .1 .1 .1 .1 .1 .0)) ∙ part-length ((c .before .before .before .before .before .before .before .before .before .before .args .n)) ((c .before .before .before .before .before .loop .a)) ((c .before .before .before .before .before .loop .report)) ((c .before .before .before .before .loop-test .taken)) (omega (arith, (ap length ((c .before .before .before .before .before .loop .inv .1)) ∙ rows-length ((c .before .before .before .before .before .before .before .before .before .before .args .n)) (reportEntry ((c .before .before .before .before .before .before .before .before .before .before .args .n)) ((c .before .before .before .before .before .before .before .before .before .before .args .full .now)) ((c .before .before .before .before .before .before .before .before .before .before .args .low .now)) ((c .before .before .before .before .before .before .before .before .before .before .args .hubs .now))) ((c .before .before .before .before .before .before .before .before .before .before .args .report .now)) ((c .before .before .before .before .before .loop .a)) ((c .before .before .before .before .before .before .before .before .before .before .pre .0 .3))), (c .before .before .before .before .before .before .before .before .before .before .pre .0 .3)))) ((c .before .before .report-row .ensures)) ∙ ap (λ (t : List ℕ). written t (((c .before .before .before .before .before .loop .a)) * ((c .before .before .before .before .before .before .before .before .before .before .args .n))) (map ((reportEntry ((c .before .before .before .before .before .before .before .before .before .before .args .n)) ((c .before .before .before .before .before .before .before .before .before .before .args .full .now)) ((c .before .before .before .before .before .before .before .before .before .before .args .low .now)) ((c .before .before .before .before .before .before .before .before .before .before .args .hubs .now))) ((c .before .before .before .before .before .loop .a))) (upTo ((c .before .before .before .before .before .before .before .before .before .before .args .n))))) ((c .before .before .before .before .before .loop .inv .1)) ∙ rows-next ((c .before .before .before .before .before .before .before .before .before .before .args .n)) (reportEntry ((c .before .before .before .before .before .before .before .before .before .before .args .n)) ((c .before .before .before .before .before .before .before .before .before .before .args .full .now)) ((c .before .before .before .before .before .before .before .before .before .before .args .low .now)) ((c .before .before .before .before .before .before .before .before .before .before .args .hubs .now))) ((c .before .before .before .before .before .before .before .before .before .before .args .report .now)) ((c .before .before .before .before .before .loop .a)) ((c .before .before .before .before .loop-test .taken)))
+loop-again c = (omega arith, row-put (((c .before .before .before .before .before .loop .a)) * ((c .before .before .before .before .before .before .before .before .before .before .args .n))) ((c .before .before .before .before .before .before .before .before .before .before .args .n)) ((c .before .before .before .before .before .loop .report)) _ _ (((c .before .before .report-row .kept .1 .1 .1 .1 .1 .0)) ∙ part-length ((c .before .before .before .before .before .before .before .before .before .before .args .n)) ((c .before .before .before .before .before .loop .a)) ((c .before .before .before .before .before .loop .report)) ((c .before .before .before .before .loop-test .taken)) (omega (arith, (ap length ((c .before .before .before .before .before .loop .inv .1)) ∙ rows-length ((c .before .before .before .before .before .before .before .before .before .before .args .n)) (reportEntry ((c .before .before .before .before .before .before .before .before .before .before .args .n)) ((c .before .before .before .before .before .before .before .before .before .before .args .full .now)) ((c .before .before .before .before .before .before .before .before .before .before .args .low .now)) ((c .before .before .before .before .before .before .before .before .before .before .args .hubs .now))) ((c .before .before .before .before .before .before .before .before .before .before .args .report .now)) ((c .before .before .before .before .before .loop .a)) ((c .before .before .before .before .before .before .before .before .before .before .pre .0 .3))), (c .before .before .before .before .before .before .before .before .before .before .pre .0 .3)))) ((c .before .before .report-row .ensures)) ∙ ap (λ (t : List ℕ). written t (((c .before .before .before .before .before .loop .a)) * ((c .before .before .before .before .before .before .before .before .before .before .args .n))) (map ((reportEntry ((c .before .before .before .before .before .before .before .before .before .before .args .n)) ((c .before .before .before .before .before .before .before .before .before .before .args .full .now)) ((c .before .before .before .before .before .before .before .before .before .before .args .low .now)) ((c .before .before .before .before .before .before .before .before .before .before .args .hubs .now))) ((c .before .before .before .before .before .loop .a))) (upTo ((c .before .before .before .before .before .before .before .before .before .before .args .n))))) ((c .before .before .before .before .before .loop .inv .1)) ∙ rows-next ((c .before .before .before .before .before .before .before .before .before .before .args .n)) (reportEntry ((c .before .before .before .before .before .before .before .before .before .before .args .n)) ((c .before .before .before .before .before .before .before .before .before .before .args .full .now)) ((c .before .before .before .before .before .before .before .before .before .before .args .low .now)) ((c .before .before .before .before .before .before .before .before .before .before .args .hubs .now))) ((c .before .before .before .before .before .before .before .before .before .before .args .report .now)) ((c .before .before .before .before .before .loop .a)) ((c .before .before .before .before .loop-test .taken)))
 
 same-length : tie.Need-same-length Inv-loop μ-loop
 same-length c = (ap length ((c .before .loop .inv .1)) ∙ rows-length ((c .before .before .before .before .before .before .args .n)) (reportEntry ((c .before .before .before .before .before .before .args .n)) ((c .before .before .before .before .before .before .args .full .now)) ((c .before .before .before .before .before .before .args .low .now)) ((c .before .before .before .before .before .before .args .hubs .now))) ((c .before .before .before .before .before .before .args .report .now)) ((c .before .loop .a)) ((c .before .before .before .before .before .before .pre .0 .3)))

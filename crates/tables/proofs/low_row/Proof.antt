@@ -49,7 +49,7 @@ same-length : tie.Need-same-length
 same-length c = search needs
 
 returns : tie.Need-returns
-returns c = row-put (c .before .before .before .before .before .before .before .before .before .args .n) (c .before .before .before .before .before .before .before .before .before .args .a) (c .before .before .before .before .before .before .before .before .before .args .low .now) _ _ ((c .before .before .search .kept .1 .1 .1 .0) ∙ part-length (c .before .before .before .before .before .before .before .before .before .args .n) (c .before .before .before .before .before .before .before .before .before .args .a) (c .before .before .before .before .before .before .before .before .before .args .low .now) (c .before .before .before .before .before .before .before .before .before .pre .3) (c .before .before .before .before .before .before .before .before .before .pre .4)) (c .before .before .search .ensures) ∙ ap (λ (x : Bool). written (c .before .before .before .before .before .before .before .before .before .args .low .now) ((c .before .before .before .before .before .before .before .before .before .args .a) * (c .before .before .before .before .before .before .before .before .before .args .n)) (map (λ b. if x then fewest (edgesIn (c .before .before .before .before .before .before .before .before .before .args .rows .now)) (c .before .before .before .before .before .before .before .before .before .args .n) (c .before .before .before .before .before .before .before .before .before .args .a) b else none) (upTo (c .before .before .before .before .before .before .before .before .before .args .n)))) (sym (sym (c .before .before .before .before .before .contains .ensures) ∙ (c .before .before .before .before .if1 .taken)))
+returns c = row-put ((c .before .before .before .before .before .before .before .before .before .args .a) * (c .before .before .before .before .before .before .before .before .before .args .n)) (c .before .before .before .before .before .before .before .before .before .args .n) (c .before .before .before .before .before .before .before .before .before .args .low .now) _ _ ((c .before .before .search .kept .1 .1 .1 .0) ∙ part-length (c .before .before .before .before .before .before .before .before .before .args .n) (c .before .before .before .before .before .before .before .before .before .args .a) (c .before .before .before .before .before .before .before .before .before .args .low .now) (c .before .before .before .before .before .before .before .before .before .pre .3) (c .before .before .before .before .before .before .before .before .before .pre .4)) (c .before .before .search .ensures) ∙ ap (λ (x : Bool). written (c .before .before .before .before .before .before .before .before .before .args .low .now) ((c .before .before .before .before .before .before .before .before .before .args .a) * (c .before .before .before .before .before .before .before .before .before .args .n)) (map (λ b. if x then fewest (edgesIn (c .before .before .before .before .before .before .before .before .before .args .rows .now)) (c .before .before .before .before .before .before .before .before .before .args .n) (c .before .before .before .before .before .before .before .before .before .args .a) b else none) (upTo (c .before .before .before .before .before .before .before .before .before .args .n)))) (sym (sym (c .before .before .before .before .before .contains .ensures) ∙ (c .before .before .before .before .if1 .taken)))
 
 mul-fill16 : tie.Need-mul-fill16
 mul-fill16 c = omega (arith, row-ends (c .before .before .before .before .before .args .n) (c .before .before .before .before .before .args .a) (c .before .before .before .before .before .args .low .now) (c .before .before .before .before .before .pre .3) (c .before .before .before .before .before .pre .4))
@@ -70,7 +70,7 @@ same-length-2 : tie.Need-same-length-2
 same-length-2 c = search needs
 
 returns-2 : tie.Need-returns-2
-returns-2 c = row-put (c .before .before .before .before .before .before .before .before .before .args .n) (c .before .before .before .before .before .before .before .before .before .args .a) (c .before .before .before .before .before .before .before .before .before .args .low .now) _ _ ((c .before .before .fill16 .kept .0) ∙ part-length (c .before .before .before .before .before .before .before .before .before .args .n) (c .before .before .before .before .before .before .before .before .before .args .a) (c .before .before .before .before .before .before .before .before .before .args .low .now) (c .before .before .before .before .before .before .before .before .before .pre .3) (c .before .before .before .before .before .before .before .before .before .pre .4)) ((c .before .before .fill16 .ensures) ∙ ap (λ (k : ℕ). replicate k none) (part-length (c .before .before .before .before .before .before .before .before .before .args .n) (c .before .before .before .before .before .before .before .before .before .args .a) (c .before .before .before .before .before .before .before .before .before .args .low .now) (c .before .before .before .before .before .before .before .before .before .pre .3) (c .before .before .before .before .before .before .before .before .before .pre .4)) ∙ none-row (c .before .before .before .before .before .before .before .before .before .args .n) none) ∙ ap (λ (x : Bool). written (c .before .before .before .before .before .before .before .before .before .args .low .now) ((c .before .before .before .before .before .before .before .before .before .args .a) * (c .before .before .before .before .before .before .before .before .before .args .n)) (map (λ b. if x then fewest (edgesIn (c .before .before .before .before .before .before .before .before .before .args .rows .now)) (c .before .before .before .before .before .before .before .before .before .args .n) (c .before .before .before .before .before .before .before .before .before .args .a) b else none) (upTo (c .before .before .before .before .before .before .before .before .before .args .n)))) (sym (sym (c .before .before .before .before .before .contains .ensures) ∙ (c .before .before .before .before .if1 .left)))
+returns-2 c = row-put ((c .before .before .before .before .before .before .before .before .before .args .a) * (c .before .before .before .before .before .before .before .before .before .args .n)) (c .before .before .before .before .before .before .before .before .before .args .n) (c .before .before .before .before .before .before .before .before .before .args .low .now) _ _ ((c .before .before .fill16 .kept .0) ∙ part-length (c .before .before .before .before .before .before .before .before .before .args .n) (c .before .before .before .before .before .before .before .before .before .args .a) (c .before .before .before .before .before .before .before .before .before .args .low .now) (c .before .before .before .before .before .before .before .before .before .pre .3) (c .before .before .before .before .before .before .before .before .before .pre .4)) ((c .before .before .fill16 .ensures) ∙ ap (λ (k : ℕ). replicate k none) (part-length (c .before .before .before .before .before .before .before .before .before .args .n) (c .before .before .before .before .before .before .before .before .before .args .a) (c .before .before .before .before .before .before .before .before .before .args .low .now) (c .before .before .before .before .before .before .before .before .before .pre .3) (c .before .before .before .before .before .before .before .before .before .pre .4)) ∙ none-row (c .before .before .before .before .before .before .before .before .before .args .n) none) ∙ ap (λ (x : Bool). written (c .before .before .before .before .before .before .before .before .before .args .low .now) ((c .before .before .before .before .before .before .before .before .before .args .a) * (c .before .before .before .before .before .before .before .before .before .args .n)) (map (λ b. if x then fewest (edgesIn (c .before .before .before .before .before .before .before .before .before .args .rows .now)) (c .before .before .before .before .before .before .before .before .before .args .n) (c .before .before .before .before .before .before .before .before .before .args .a) b else none) (upTo (c .before .before .before .before .before .before .before .before .before .args .n)))) (sym (sym (c .before .before .before .before .before .contains .ensures) ∙ (c .before .before .before .before .if1 .left)))
 
 pub low-row-spec : {M : Type 1} → statement M
 low-row-spec =
