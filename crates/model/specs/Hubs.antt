@@ -15,7 +15,7 @@ isHigh s G v = leb s (length (G v))
 unfoldable pub isLow : ℕ → Graph → ℕ → Bool
 isLow s G v = not (isHigh s G v)
 
--- "closed neighbourhood (itself and its neighbours)"
+-- "closed neighbourhood (itself and its neighbours)", of which a hub covers (dominates) every node
 unfoldable pub closed : Graph → ℕ → List ℕ
 closed G v = v ∷ G v
 
@@ -36,7 +36,7 @@ greedy n G (suc turns) (u ∷ U) =
     let h = best n G (u ∷ U) in
     h ∷ greedy n G turns (keep (λ x. not (has x (closed G h))) (u ∷ U))
 
--- the hubs in the order chosen
+-- the hubs in the order chosen: a dominating set of the high nodes
 unfoldable pub hubs : ℕ → ℕ → Graph → List ℕ
 hubs n s G = let U = keep (isHigh s G) (upTo n) in greedy n G (length U) U
 

@@ -1,4 +1,5 @@
--- What a reader has to believe: document 01, sentence by sentence.
+-- What a reader has to believe: document 01, sentence by sentence. What it says of the code alone (how wide an entry is, what carries
+-- the text, which part of a list is handed on, sets as words) has no line here: the signatures and docs/ARCHITECTURE.md show it.
 pub mod Basics
 pub mod Answers
 pub mod Numbers

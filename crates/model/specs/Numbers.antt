@@ -15,7 +15,7 @@ unfoldable pub isNumber : List ℕ → Bool
 isNumber [] = false
 isNumber (d ∷ ds) = all isDigit (d ∷ ds) && leb (length ds) 9 && (eqb (length ds) 0 || not (eqb d 48))
 
--- the value of digits that follow the value v
+-- the value of digits that follow the value v (Horner's rule)
 unfoldable pub valueFrom : ℕ → List ℕ → ℕ
 valueFrom v [] = v
 valueFrom v (d ∷ ds) = valueFrom (v * 10 + (d - 48)) ds

@@ -15,18 +15,6 @@ use Rattle.model.specs.Tables.{entry, via}
 abbrev pub answer : ℕ → Route → Answer
 answer r t = record { report = r; route = t }
 
--- "Where no hub list is lent, every node h whose Full entries for both a and b are not none is taken as a hub."
-unfoldable pub taken : ℕ → List ℕ → (a b : ℕ) → ℕ → Bool
-taken n full a b h = not (eqb (entry n full h a) none) && not (eqb (entry n full h b) none)
-
--- the hubs of a lent hub list
-unfoldable pub listed : ℕ → List ℕ → ℕ → Bool
-listed n list h = has h (take n list)
-
--- the smallest hub that attains the report r, or none
-unfoldable pub attaining : (ℕ → Bool) → ℕ → List ℕ → (a b r : ℕ) → ℕ
-attaining isHub n full a b r = firstOf (λ h. isHub h && eqb (via n full a b h) r) none (upTo n)
-
 -- "the route is one of four: itself (a = b), low, through hub h, or no route. Low is preferred when it attains the report; else
 -- the smallest hub that does." r is the report, l the entry of Low, h the hub; "11 the report is not none and no route attains it,
 -- or a = b and it is not 0"
@@ -37,6 +25,18 @@ choose a b r l h =
     else if eqb l r then answered (answer r Low)
     else if eqb h none then refused 11
     else answered (answer r (Through h))
+
+-- the smallest hub that attains the report r, or none
+unfoldable pub attaining : (ℕ → Bool) → ℕ → List ℕ → (a b r : ℕ) → ℕ
+attaining isHub n full a b r = firstOf (λ h. isHub h && eqb (via n full a b h) r) none (upTo n)
+
+-- "Where no hub list is lent, every node h whose Full entries for both a and b are not none is taken as a hub."
+unfoldable pub taken : ℕ → List ℕ → (a b : ℕ) → ℕ → Bool
+taken n full a b h = not (eqb (entry n full h a) none) && not (eqb (entry n full h b) none)
+
+-- the hubs of a lent hub list
+unfoldable pub listed : ℕ → List ℕ → ℕ → Bool
+listed n list h = has h (take n list)
 
 -- the answer that the tables give for nodes below n, with hubs as the test says
 unfoldable pub pairBy : (ℕ → Bool) → (n : ℕ) (full low report : List ℕ) (a b : ℕ) → Outcome Answer

@@ -10,10 +10,11 @@ use Rattle.model.specs.Survey.{badSize}
 unfoldable pub bitLength : ℕ → ℕ
 bitLength n = firstOf (λ k. ltb n (2 ^ k)) none (upTo (n + 1))
 
--- "The threshold s(n) is the smallest whole s with s × s at least n × L(n)."
+-- "The threshold s(n) is the smallest whole s with s × s at least n × L(n).": the least degree of a high node
 unfoldable pub threshold : ℕ → ℕ
 threshold n = let w = n * bitLength n in firstOf (λ s. leb w (s * s)) none (upTo (w + 1))
 
--- "It is read from a stored table with one entry for each n from 1 to 1,024."; 2 for any other n
+-- "It is read from a stored table with one entry for each n from 1 to 1,024.": what the open call that reads it answers. Document 01 has
+-- no such call; another n is refused 2, as everywhere
 unfoldable pub thresholdAnswer : ℕ → Outcome ℕ
 thresholdAnswer n = if badSize n then refused 2 else answered (threshold n)

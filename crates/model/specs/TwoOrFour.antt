@@ -13,12 +13,12 @@ use Rattle.model.specs.Survey.{Graph, linked}
 use Rattle.model.specs.Hubs.{isLow, closed, hubs}
 
 -- "If there is a low node, take the smallest-numbered, and search the whole mesh from it and each of its neighbours. If there is
--- none, search from every hub."
+-- none, search from every hub.": the sources of the searches (breadth-first searches of the whole graph)
 unfoldable pub sources : ℕ → ℕ → Graph → List ℕ
 sources n s G = let v = firstOf (isLow s G) none (upTo n) in if eqb v none then hubs n s G else closed G v
 
--- "`Parted` if a search misses a node, else `long` if a search goes deeper than 2, else `short`." (disconnected; of diameter more
--- than two; of diameter less than four)
+-- "`Parted` if a search misses a node, else `long` if a search goes deeper than 2, else `short`." (the graph is disconnected; of
+-- diameter more than two; of diameter less than four.) A search goes as deep as the greatest distance from its source
 unfoldable pub verdictOf : ℕ → Graph → List ℕ → Verdict
 verdictOf n G hs =
     let distance : ℕ → ℕ → ℕ = fewest (linked n G) n in

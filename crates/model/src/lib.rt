@@ -37,7 +37,7 @@ pub struct Size {
     pub links: usize,
 }
 
-// How a report is attained: the pair is one node, by low nodes alone, through a hub, or not at all.
+// The route, how a report is attained: the pair is one node; a path of low nodes; through a hub; or none, the nodes being unconnected.
 pub enum Route {
     Itself,
     Low,
@@ -64,7 +64,7 @@ pub struct Tested {
     pub searches: usize,
 }
 
-// What acceptance of lent lists answers.
+// What acceptance of lent lists answers (whether they are a valid survey).
 pub enum Accepting {
     Refused(Refusal),
     Accepted,
