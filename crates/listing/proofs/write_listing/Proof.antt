@@ -2,6 +2,8 @@
 -- Assumes nothing.
 use mathlib.Core.Path.{sym, ap}
 use native.Mathlib.Omega.{arith}
+use Prim.Native.Nat.{ℕ}
+use lib.ListN.{length-replicate}
 use lib.Seq.{length-take-le}
 use Rattle.lists.proofs.Writing.{wrote-over}
 use Rattle.model.specs.Answers.{answered}
@@ -10,40 +12,28 @@ use Rattle.listing.proofs.Whole.{front-fits, listing-short, listing-who
 use borrow.Author.Needs.{needs}
 use Rattle.listing.proofs.write_listing.Statement.{statement}
 use Rattle.listing.proofs.write_listing.Tie as tie
-use Rattle.listing.proofs.write_listing.Reads as reads
-use Rattle.listing.proofs.write_listing.Lts as lts
-use Rattle.listing.proofs.write_text.Reads as write-text-reads
-use Rattle.lists.proofs.copy8.Reads as copy8-reads
 
--- src/lib.rt:209:35
 slice-aggregate-write-text : tie.Need-slice-aggregate-write-text
-slice-aggregate-write-text c = search needs
+slice-aggregate-write-text c = sym (length-replicate {A = ℕ} 393240 0)
 
--- src/lib.rt:209:9
 write-text-requires : tie.Need-write-text-requires
 write-text-requires c κs = search needs
 
--- src/lib.rt:211:9
 returns : tie.Need-returns
 returns c = (listing-short (listing (c .before .before .before .before .before .before .args .text .now)) _ (c .before .before .write-text .last .1 .0) (c .before .before .write-text .result) (c .before .before .write-text .ensures) (c .before .before .before .before .before .before .args .buffer .now) (c .if1 .taken), λ h. absurd (omega (arith, h, (c .if1 .taken), front-fits (listing (c .before .before .before .before .before .before .args .text .now)) _ (c .before .before .write-text .last .1 .0) (c .before .before .write-text .result) (c .before .before .write-text .ensures), (c .before .before .write-text .kept .1 .0))))
 
--- src/lib.rt:213:18
 array-share-prefix-lines : tie.Need-array-share-prefix-lines
 array-share-prefix-lines c = front-fits (listing (c .before .before .before .before .before .before .args .text .now)) _ (c .before .before .write-text .last .1 .0) (c .before .before .write-text .result) (c .before .before .write-text .ensures)
 
--- src/lib.rt:213:18
 slice-aggregate-copy8 : tie.Need-slice-aggregate-copy8
 slice-aggregate-copy8 c = sym (length-take-le (c .before .before .before .write-text .result) (c .before .before .before .write-text .last .1 .0) (front-fits (listing (c .before .before .before .before .before .before .before .args .text .now)) _ (c .before .before .before .write-text .last .1 .0) (c .before .before .before .write-text .result) (c .before .before .before .write-text .ensures)))
 
--- src/lib.rt:213:5
 copy8-requires : tie.Need-copy8-requires
 copy8-requires c κs = omega (arith, length-take-le (c .before .before .before .before .write-text .result) (c .before .before .before .before .write-text .last .1 .0) (front-fits (listing (c .before .before .before .before .before .before .before .before .args .text .now)) _ (c .before .before .before .before .write-text .last .1 .0) (c .before .before .before .before .write-text .result) (c .before .before .before .before .write-text .ensures)), (c .before .before .if1 .left))
 
--- src/lib.rt:204:1
 same-length : tie.Need-same-length
 same-length c = search needs
 
--- src/lib.rt:204:1
 returns-2 : tie.Need-returns-2
 returns-2 c = (listing-whole (listing (c .before .before .before .before .before .before .before .before .before .before .before .args .text .now)) _ (c .before .before .before .before .before .before .before .write-text .last .1 .0) (c .before .before .before .before .before .before .before .write-text .result) (c .before .before .before .before .before .before .before .write-text .ensures) (c .before .before .before .before .before .before .before .before .before .before .before .args .buffer .now) (c .before .before .before .before .before .if1 .left) _ _ (c .before .before .copy8 .ensures), λ h. ap answered (wrote-over (listing (c .before .before .before .before .before .before .before .before .before .before .before .args .text .now)) (c .before .before .before .before .before .before .before .write-text .ensures) .1))
 
