@@ -15,7 +15,7 @@ use Rattle.model.specs.declared.Route.the-variants.{NoRoute}
 use Rattle.model.specs.declared.Answer.{Answer}
 use Rattle.model.specs.Answers.{refused, answered}
 use Rattle.model.specs.Basics.{none, over}
-use Rattle.model.specs.Graph.{Edges, Walked}
+use Rattle.model.specs.Graph.{Edges, Chain, Walked}
 use Rattle.model.specs.Survey.{Graph, neighboursOf, linked, badSize, isSurvey, Accepted}
 use Rattle.model.specs.Threshold.{threshold}
 use Rattle.model.specs.Hubs.{hubs, hubList}
@@ -29,6 +29,7 @@ use Rattle.model.specs.Testing.{testingOf, testing}
 use Rattle.model.specs.Demand.{Allowed, AllowedAnswer, WalkSound, WalkAnswers, RightVerdict}
 use Rattle.model.proofs.Outcomes.{never}
 use Rattle.model.proofs.Tests.{or-false, of-or-false, picked, not-not}
+use Rattle.model.proofs.Chains.{walked-chain}
 use Rattle.model.proofs.Acceptance.{survey-test, survey-facts, good-size, accepting-answers}
 use Rattle.model.proofs.Entries.{front-length, length-table}
 use Rattle.model.proofs.Covering.{hubs-length}
@@ -86,7 +87,12 @@ given-out-sound E a b w (walked y l g m room) x e f =
     let q : y ≡ x = cc in
     let c : length l ≡ x .report + 1 = m ∙ ap (λ (z : Answer). suc (z .report)) q ∙ sym (add-one (x .report)) in
     let t : take (x .report + 1) (l ++ replicate (w - length l) none) ≡ l = take-at l (replicate (w - length l) none) (x .report + 1) c in
-    record { links = subst (λ (k : List ℕ). Walked E k a b) (sym t) g; count = ap length t ∙ c }
+    let i = walked-chain g in
+    record {
+      links = subst (λ (k : List ℕ). Walked E k a b) (sym t) g;
+      count = ap length t ∙ c;
+      chain = subst (λ (k : ℕ). Chain E k a b) (omega (arith, i .1, c)) (i .2);
+    }
 
 -- whatever is lent, a walk given out is a chain of the survey's links, of exactly the reported length
 pub walking-sound : (n : ℕ) (starts neighbours full low report : List ℕ) (a b w : ℕ)
