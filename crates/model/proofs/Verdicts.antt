@@ -19,8 +19,8 @@ use Rattle.model.specs.TwoOrFour.{sources, verdictOf, tested}
 use Rattle.model.specs.Demand.{VerdictRight}
 use Rattle.model.proofs.Lists.{has-head, has-tail, of-cons, any-of, of-any, has-upTo, of-upTo, First, found, nothing, first-below}
 use Rattle.model.proofs.Chains.{append, turn, split-first, fewest-is, fewest-none}
-use Rattle.model.proofs.Acceptance.{linked-of, linked-has, linked-sym, linked-ends}
-use Rattle.model.proofs.Covering.{hubs-cover, hubs-below}
+use Rattle.model.proofs.Acceptance.{linked-has, linked-sym, linked-ends}
+use Rattle.model.proofs.Covering.{hubs-cover, high-linked, hubs-below}
 
 -- what the searches show of a graph of n nodes
 data Means (n : ℕ) (E : Edges) : Verdict → Type 0 where
@@ -79,20 +79,11 @@ module _ (n s : ℕ) (G : Graph) (g : IsGraph n G) (size : n ≤ 1024) where
           split (inr p) =
               let r = near (p .1) v (has-tail (p .1) c (G c) (linked-has n G c (p .1) (p .3))) hv in
               (p .0 + r .0, three (p .0) (r .0) (subst (λ (k : ℕ). k ≤ 2) (p .2) (q .1)) (r .1), append (turn (linked-sym n G) (p .4)) (r .2))
-  within (covers f) near u v hu hv = at (of-cons u h (G h) (c .3))
+  within (covers f) near u v hu hv = at (high-linked n s G g u hu (f u hu))
     where
-      c : (h : ℕ) × (h < n) × T (has h (hubs n s G)) × T (has u (closed G h))
-      c = hubs-cover n G s u hu (f u hu)
-
-      h : ℕ
-      h = c .0
-
-      r : (j : ℕ) × (j ≤ 2) × Chain (linked n G) j h v
-      r = near h v (c .2) hv
-
-      at : (u ≡ h) ⊎ T (has u (G h)) → (j : ℕ) × (j ≤ 3) × Chain (linked n G) j u v
-      at (inl e) = (r .0, le-trans (r .1) (omega arith), subst (λ (z : ℕ). Chain (linked n G) (r .0) z v) (sym e) (r .2))
-      at (inr t) = (suc (r .0), suc-le-suc (r .1), link (linked-sym n G h u (linked-of n G g h u (c .1) t)) (r .2))
+      at : T (has u (hubs n s G)) ⊎ ((h : ℕ) × T (has h (hubs n s G)) × T (linked n G u h)) → (j : ℕ) × (j ≤ 3) × Chain (linked n G) j u v
+      at (inl m) = let r = near u v m hv in (r .0, le-trans (r .1) (omega arith), r .2)
+      at (inr c) = let r = near (c .0) v (c .1) hv in (suc (r .0), suc-le-suc (r .1), link (c .2) (r .2))
 
   -- some node is searched from, where there is a node at all
   some-source : {hs : List ℕ} → Sources hs → (u : ℕ) → u < n → (h : ℕ) × T (has h hs)
