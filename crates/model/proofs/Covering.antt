@@ -11,10 +11,11 @@ use native.Mathlib.Omega.{arith}
 use lib.Dec.{T, leb, leb→le, le→leb, not-T, T-not}
 use lib.ListN.{length}
 use Rattle.model.specs.Basics.{none, upTo, has, all, keep}
-use Rattle.model.specs.Survey.{Graph, linked, IsGraph}
+use Rattle.model.specs.Survey.{Graph, linked, ascending, IsGraph}
 use Rattle.model.specs.Hubs.{isHigh, closed, gain, best, greedy, hubs}
 use Rattle.model.proofs.Tests.{passes}
 use Rattle.model.proofs.Lists.{has-head, has-tail, of-cons, all-of, of-all, has-keep, of-keep, has-upTo, of-upTo, First, found, nothing, first-below, first-is, keep-split, keep-length, length-upTo, length-pos}
+use Rattle.model.proofs.Ascending.{ascending-tail, ascending-above}
 use Rattle.model.proofs.Acceptance.{linked-of, linked-sym}
 
 -- some node below n has the greatest value
@@ -195,6 +196,10 @@ high-linked n s G g v b t = at (hubs-cover n G s v b t)
 abbrev pub distinct : List ℕ → Type 0
 distinct [] = Unit {0}
 distinct (x ∷ xs) = (T (has x xs) → ⊥) × distinct xs
+
+pub ascending-distinct : (l : List ℕ) → T (ascending l) → distinct l
+ascending-distinct [] t = tt
+ascending-distinct (x ∷ xs) t = (λ m. omega (arith, ascending-above x xs t x m), ascending-distinct xs (ascending-tail x xs t))
 
 module _ (n : ℕ) (G : Graph) where
   -- the best node of a list that is not empty covers a node of it
