@@ -353,11 +353,11 @@ module _ (isHub : ℕ → Bool) (n : ℕ) (full : List ℕ) (a b : ℕ) where
       at (part s p) e = absurd (f (sym e ∙ s))
 
 module _ (n s : ℕ) (G : Graph) (g : IsGraph n G) (full low : List ℕ) (a b : ℕ) (ha : a < n) (hb : b < n) where
-  pub low-sound : Sound (linked n G) (entry n low a b) a b (byLow n s G low a b)
+  low-sound : Sound (linked n G) (entry n low a b) a b (byLow n s G low a b)
   unfolding byLow
   low-sound = steps-sound n G g (isLow s G) (λ x. entry n low x b) b (entry n low a b) a ha
 
-  pub hub-sound : (h : ℕ) → Sound (linked n G) (entry n full h a + entry n full h b) a b (join (toHub n G full h a) (toHub n G full h b))
+  hub-sound : (h : ℕ) → Sound (linked n G) (entry n full h a + entry n full h b) a b (join (toHub n G full h a) (toHub n G full h b))
   unfolding toHub
   hub-sound h =
       join-sound (linked n G) (linked-sym n G) (entry n full h a) (entry n full h b) a b h (toHub n G full h a) (toHub n G full h b)
