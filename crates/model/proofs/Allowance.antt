@@ -12,15 +12,15 @@ use lib.Dec.{T, eqb, eqb→eq, eqb-refl, not-T}
 use Rattle.model.specs.Basics.{none, if_then_else_, has}
 use Rattle.model.specs.Graph.{Edges, Chain, here, link, Fewest, fewest}
 use Rattle.model.specs.Survey.{Graph, linked, IsGraph}
-use Rattle.model.specs.Hubs.{isHigh, isLow, closed, hubs}
+use Rattle.model.specs.Hubs.{isHigh, isLow, hubs}
 use Rattle.model.specs.Tables.{entry, fullTable, lowLinks, lowTable, sum, via, reportTable}
 use Rattle.model.specs.Demand.{Allowed}
 use Rattle.model.proofs.Tests.{and-i, passes}
 use Rattle.model.proofs.Lists.{of-cons, has-head, has-tail}
 use Rattle.model.proofs.Chains.{append, turn, widen, inside, fewest-cases}
-use Rattle.model.proofs.Acceptance.{linked-of, linked-ends, linked-sym}
+use Rattle.model.proofs.Acceptance.{linked-ends, linked-sym}
 use Rattle.model.proofs.Entries.{entry-table}
-use Rattle.model.proofs.Covering.{hubs-cover, hubs-below}
+use Rattle.model.proofs.Covering.{high-linked, hubs-below}
 use Rattle.model.proofs.TableLaws.{full-is, full-joined, low-is, low-joined, low-widen}
 
 -- ---- the least of a list of candidates
@@ -145,7 +145,7 @@ module _ (n s : ℕ) (G : Graph) (g : IsGraph n G) where
 
   -- where a chain of k links joins the pair, the report is at most k + 2
   pub report-near : (a b k : ℕ) → n ≤ 1024 → a < n → b < n → Chain (linked n G) k a b → entry n (reportTable n s G) a b ≤ k + 2
-  unfolding isLow lowLinks routes closed via
+  unfolding isLow lowLinks routes via
   report-near a b k size ha hb c = go (eqb a b) (report-entry a b ha hb)
     where
       full : List ℕ
@@ -157,27 +157,27 @@ module _ (n s : ℕ) (G : Graph) (g : IsGraph n G) where
       hs : List ℕ
       hs = hubs n s G
 
-      -- from a hub that covers w to w: no link or one
-      spoke : (h w : ℕ) → h < n → T (has w (closed G h)) → (e : ℕ) × (e ≤ 1) × Chain (linked n G) e h w
-      spoke h w hh m = at (of-cons w h (G h) m)
+      -- a hub with no link or one to the high node w
+      spoke : (w : ℕ) → w < n → T (isHigh s G w) → (h : ℕ) × (h < n) × T (has h (hubs n s G)) × (e : ℕ) × (e ≤ 1) × Chain (linked n G) e h w
+      spoke w hw t = at (high-linked n s G g w hw t)
         where
-          at : (w ≡ h) ⊎ T (has w (G h)) → (e : ℕ) × (e ≤ 1) × Chain (linked n G) e h w
-          at (inl q) = (0, zero-le, subst (λ (z : ℕ). Chain (linked n G) 0 h z) (sym q) here)
-          at (inr t) = (1, le-refl 1, link (linked-of n G g h w hh t) here)
+          at : T (has w (hubs n s G)) ⊎ ((h : ℕ) × T (has h (hubs n s G)) × T (linked n G w h))
+              → (h : ℕ) × (h < n) × T (has h (hubs n s G)) × (e : ℕ) × (e ≤ 1) × Chain (linked n G) e h w
+          at (inl m) = (w, hw, m, 0, zero-le, here)
+          at (inr c) = (c .0, linked-ends n G w (c .0) hw (c .2), c .1, 1, le-refl 1, link (linked-sym n G w (c .0) (c .2)) here)
 
       near : Split (linked n G) (isHigh s G) k a b → routes a b ≤ k + 2
       near (lows p q l) =
           le-trans (least-base (via n full a b) low hs) (le-trans (low-joined n s G g a b k ha hb p q l .1 .1 k l) (omega arith))
       near (through w i j t p q e) =
           let hw : w < n = inside (linked n G) n a (linked-ends n G) ha ha p in
-          let r = hubs-cover n G s w hw t in
+          let r = spoke w hw t in
           let h = r .0 in
-          let sp = spoke h w (r .1) (r .3) in
-          let ca = append (sp .2) (turn (linked-sym n G) p) in
-          let cb = append (sp .2) q in
-          let fa = full-joined n s G g h a (sp .0 + i) (r .1) ha (r .2) ca in
-          let fb = full-joined n s G g h b (sp .0 + j) (r .1) hb (r .2) cb in
-          le-trans (least-at (via n full a b) low hs h (r .2)) (bound (sum-is (entry n full h a) (entry n full h b)) (sp .0) (sp .1) e (fa .1 .1 (sp .0 + i) ca, fa .0) (fb .1 .1 (sp .0 + j) cb, fb .0))
+          let ca = append (r .5) (turn (linked-sym n G) p) in
+          let cb = append (r .5) q in
+          let fa = full-joined n s G g h a (r .3 + i) (r .1) ha (r .2) ca in
+          let fb = full-joined n s G g h b (r .3 + j) (r .1) hb (r .2) cb in
+          le-trans (least-at (via n full a b) low hs h (r .2)) (bound (sum-is (entry n full h a) (entry n full h b)) (r .3) (r .4) e (fa .1 .1 (r .3 + i) ca, fa .0) (fb .1 .1 (r .3 + j) cb, fb .0))
         where
           bound : {x y z : ℕ} → Sum x y z → (d : ℕ) → d ≤ 1 → i + j ≡ k → (x ≤ d + i) × (x < n) → (y ≤ d + j) × (y < n) → z ≤ k + 2
           bound (whole p q e) d l f xs ys = omega arith

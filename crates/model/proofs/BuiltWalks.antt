@@ -30,7 +30,7 @@ use Rattle.model.proofs.Covering.{hubs-below}
 use Rattle.model.proofs.Entries.{entry-front}
 use Rattle.model.proofs.TableLaws.{full-is, full-joined, low-is, low-joined, low-ends, both-low, low-widen, fewest-unique}
 use Rattle.model.proofs.Allowance.{routes, report-entry, least-cases}
-use Rattle.model.proofs.Walks.{Chosen, to-itself, to-none, to-low, to-hub, bad-itself, bad-hub, chosen, Sound, Given, steps-given, join-given, attains, via-sum, low-sound, hub-sound}
+use Rattle.model.proofs.Walks.{Chosen, to-itself, to-none, to-low, to-hub, bad-itself, bad-hub, chosen, Sound, Given, steps-given, join-given, attains, via-sum, route-sound}
 
 abbrev counted : Option (List ℕ) → ℕ
 counted missing = 0
@@ -248,14 +248,13 @@ module _ (n s : ℕ) (G : Graph) (g : IsGraph n G) (size : n ≤ 1024) (full low
             clash q = omega arith
         at (to-none x e) = fits w (answer none NoRoute) (some []) tt zero-le
         at (to-low x f e) =
-            fits-sound (linked n G) a b w (answer r Low) (byLow n s G low a b)
-            (subst (λ (k : ℕ). Sound (linked n G) k a b (byLow n s G low a b)) e (low-sound n s G g full low a b ha hb))
+            fits-sound (linked n G) a b w (answer r Low) (byLow n s G low a b) (route-sound n s G g full low a b ha hb isHub report (answer r Low) (to-low x f e) f)
             (low-given (λ q. f (sym e ∙ q))) (roomy f)
         at (to-hub x f y z) =
             let i = attains isHub n full a b r z in
             let v = via-sum isHub n full a b hub r (i .2) f in
             fits-sound (linked n G) a b w (answer r (Through hub)) (join (toHub n G full hub a) (toHub n G full hub b))
-            (subst (λ (k : ℕ). Sound (linked n G) k a b (join (toHub n G full hub a) (toHub n G full hub b))) (v .2) (hub-sound n s G g full low a b ha hb hub))
+            (route-sound n s G g full low a b ha hb isHub report (answer r (Through hub)) (to-hub x f y z) f)
             (join-given (toHub n G full hub a) (toHub n G full hub b) (hub-given hub a (i .0) ha (v .0)) (hub-given hub b (i .0) hb (v .1)))
             (roomy f)
         at (bad-itself e f) = absurd (f (zero-report a b ha hb e))

@@ -1,16 +1,17 @@
--- `fewest` is the least number of links in a chain, for any graph whose links lead from nodes below n to nodes below n.
+-- Chains, by their count of links and as lists of nodes. `fewest` is the least number of links in a chain, for any graph whose links
+-- lead from nodes below n to nodes below n.
 -- Assumes nothing.
-use mathlib.Core.Path.{_≡_, refl, sym, subst}
+use mathlib.Core.Path.{_≡_, refl, sym, ap, subst}
 use mathlib.Core.Logic.{_⊎_, inl, inr}
 use mathlib.Core.Bool.{Bool, _||_}
-use mathlib.Core.List.{[], _∷_}
+use mathlib.Core.List.{List, [], _∷_}
 use Prim.Native.Nat.{ℕ, zero, suc, _+_, _≤_, _<_, suc-le-suc, zero-le}
 use native.Mathlib.Nat.{zero-add, suc-add, le-step, le-refl, le-antisymm}
 use native.Mathlib.Omega.{arith}
 use lib.Dec.{T}
 use lib.ListN.{length}
 use Rattle.model.specs.Basics.{none, upTo, has, any, keep, firstOf}
-use Rattle.model.specs.Graph.{Edges, Chain, here, link, Fewest, reach, fewest}
+use Rattle.model.specs.Graph.{Edges, Chain, here, link, Fewest, Walked, stop, go, reach, fewest}
 use Rattle.model.proofs.Tests.{or-l, or-r, or-e}
 use Rattle.model.proofs.Lists.{has-head, of-single, any-of, of-any, has-keep, of-keep, has-upTo, of-upTo, First, found, nothing, first-below, keep-grows, keep-length, length-upTo, length-pos}
 
@@ -47,6 +48,15 @@ module _ {E : Edges} where
   pub widen : {F : Edges} → ((u v : ℕ) → T (E u v) → T (F u v)) → {k a b : ℕ} → Chain E k a b → Chain F k a b
   widen f here = here
   widen f (link t r) = link (f _ _ t) (widen f r)
+
+  -- a chain written out as its list of nodes has one link fewer than nodes, and each chain can be written out
+  pub walked-chain : {l : List ℕ} {a b : ℕ} → Walked E l a b → (k : ℕ) × (length l ≡ suc k) × Chain E k a b
+  walked-chain stop = (0, refl, here)
+  walked-chain (go t w) = let c = walked-chain w in (suc (c .0), ap suc (c .1), link t (c .2))
+
+  pub chain-walked : {k a b : ℕ} → Chain E k a b → (l : List ℕ) × (length l ≡ suc k) × Walked E l a b
+  chain-walked (here {a = a}) = (a ∷ [], refl, stop)
+  chain-walked (link {a = a} t c) = let w = chain-walked c in (a ∷ w .0, ap suc (w .1), go t (w .2))
 
 module _ (E : Edges) (n a : ℕ) where
   -- a node is reached with k + 1 links if it is with k, or is linked to one that is

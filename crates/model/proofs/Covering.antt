@@ -11,10 +11,12 @@ use native.Mathlib.Omega.{arith}
 use lib.Dec.{T, leb, leb→le, le→leb, not-T, T-not}
 use lib.ListN.{length}
 use Rattle.model.specs.Basics.{none, upTo, has, all, keep}
-use Rattle.model.specs.Survey.{Graph}
+use Rattle.model.specs.Survey.{Graph, linked, ascending, IsGraph}
 use Rattle.model.specs.Hubs.{isHigh, closed, gain, best, greedy, hubs}
 use Rattle.model.proofs.Tests.{passes}
 use Rattle.model.proofs.Lists.{has-head, has-tail, of-cons, all-of, of-all, has-keep, of-keep, has-upTo, of-upTo, First, found, nothing, first-below, first-is, keep-split, keep-length, length-upTo, length-pos}
+use Rattle.model.proofs.Ascending.{ascending-tail, ascending-above}
+use Rattle.model.proofs.Acceptance.{linked-of, linked-sym}
 
 -- some node below n has the greatest value
 greatest : (f : ℕ → ℕ) (n : ℕ) → 0 < n → (v : ℕ) × (v < n) × ((w : ℕ) → w < n → f w ≤ f v)
@@ -176,11 +178,28 @@ module _ (n : ℕ) (G : Graph) where
       let U = keep (isHigh s G) (upTo n) in
       omega (arith, greedy-length (length U) U, keep-length (isHigh s G) (upTo n), length-upTo n)
 
+-- in a graph, every high node is a hub or linked to one
+pub high-linked : (n s : ℕ) (G : Graph) → IsGraph n G → (v : ℕ) → v < n → T (isHigh s G v)
+    → T (has v (hubs n s G)) ⊎ ((h : ℕ) × T (has h (hubs n s G)) × T (linked n G v h))
+unfolding closed
+high-linked n s G g v b t = at (hubs-cover n G s v b t)
+  where
+    at : ((h : ℕ) × (h < n) × T (has h (hubs n s G)) × T (has v (closed G h))) → T (has v (hubs n s G)) ⊎ ((h : ℕ) × T (has h (hubs n s G)) × T (linked n G v h))
+    at c = side (of-cons v (c .0) (G (c .0)) (c .3))
+      where
+        side : (v ≡ c .0) ⊎ T (has v (G (c .0))) → T (has v (hubs n s G)) ⊎ ((h : ℕ) × T (has h (hubs n s G)) × T (linked n G v h))
+        side (inl e) = inl (subst (λ (h : ℕ). T (has h (hubs n s G))) (sym e) (c .2))
+        side (inr m) = inr (c .0, c .2, linked-sym n G (c .0) v (linked-of n G g (c .0) v (c .1) m))
+
 -- ---- no hub is chosen twice
 
 abbrev pub distinct : List ℕ → Type 0
 distinct [] = Unit {0}
 distinct (x ∷ xs) = (T (has x xs) → ⊥) × distinct xs
+
+pub ascending-distinct : (l : List ℕ) → T (ascending l) → distinct l
+ascending-distinct [] t = tt
+ascending-distinct (x ∷ xs) t = (λ m. omega (arith, ascending-above x xs t x m), ascending-distinct xs (ascending-tail x xs t))
 
 module _ (n : ℕ) (G : Graph) where
   -- the best node of a list that is not empty covers a node of it

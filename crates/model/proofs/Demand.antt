@@ -1,39 +1,42 @@
 -- Demand 3 for the calls themselves, refusals and all: an accepted survey, and tables built from it.
 -- Assumes nothing.
 use mathlib.Core.Path.{_≡_, refl, sym, ap, _∙_, subst}
-use mathlib.Core.Logic.{_⊎_}
+use mathlib.Core.Logic.{_⊎_, _↔_}
 use mathlib.Core.Bool.{Bool, true, false, not, _||_}
 use mathlib.Core.List.{List, _++_}
+use mathlib.Core.Option.{some}
 use Prim.Native.Nat.{ℕ, suc, _+_, _-_, _*_, _≤_, _<_}
 use native.Mathlib.Numerals.{add-one}
 use native.Mathlib.Omega.{arith}
-use borrow.Author.Tests.{le-ltb, lt-leb, leb-false}
-use lib.Dec.{T, ltb, leb}
+use borrow.Author.Tests.{le-ltb, lt-leb, leb-false, ltb-false}
+use lib.Dec.{T, ltb, leb, ltb→lt}
 use lib.ListN.{length, replicate, take, length-append, length-replicate}
 use lib.Seq.{take-at}
 use Rattle.model.specs.declared.Route.the-variants.{NoRoute}
 use Rattle.model.specs.declared.Answer.{Answer}
-use Rattle.model.specs.Answers.{refused, answered}
-use Rattle.model.specs.Basics.{none, over}
-use Rattle.model.specs.Graph.{Edges, Walked}
+use Rattle.model.specs.Answers.{Outcome, refused, answered}
+use Rattle.model.specs.Basics.{none, if_then_else_, over}
+use Rattle.model.specs.Graph.{Edges, Chain, Walked}
 use Rattle.model.specs.Survey.{Graph, neighboursOf, linked, badSize, isSurvey, Accepted}
 use Rattle.model.specs.Threshold.{threshold}
 use Rattle.model.specs.Hubs.{hubs, hubList}
 use Rattle.model.specs.Tables.{entry, fullTable, lowTable, reportTable, AreBuilt, AreBuiltWith}
-use Rattle.model.specs.Pair.{answer, taken, pair}
+use Rattle.model.specs.Pair.{answer, taken, attaining, pairBy, pair}
+use Rattle.model.specs.Walk.{nodes}
 use Rattle.model.specs.TwoOrFour.{tested}
 use Rattle.model.specs.Building.{built, building}
 use Rattle.model.specs.Asking.{asking}
-use Rattle.model.specs.Walking.{Walking, refuseWalk, walkOf, walking}
+use Rattle.model.specs.Walking.{Walking, refuseWalk, fit, walkOf, walking}
 use Rattle.model.specs.Testing.{testingOf, testing}
 use Rattle.model.specs.Demand.{Allowed, AllowedAnswer, WalkSound, WalkAnswers, RightVerdict}
 use Rattle.model.proofs.Outcomes.{never}
-use Rattle.model.proofs.Tests.{or-false, of-or-false, picked, not-not}
+use Rattle.model.proofs.Tests.{true-T, or-false, of-or-false, picked, not-not}
+use Rattle.model.proofs.Chains.{walked-chain}
 use Rattle.model.proofs.Acceptance.{survey-test, survey-facts, good-size, accepting-answers}
 use Rattle.model.proofs.Entries.{front-length, length-table}
 use Rattle.model.proofs.Covering.{hubs-length}
 use Rattle.model.proofs.Allowance.{allowed}
-use Rattle.model.proofs.Walks.{Given-out, refusal, no-way, walked, walk-given-out}
+use Rattle.model.proofs.Walks.{Chosen, chosen, Given-out, refusal, no-way, walked, found-longer, walk-given-out}
 use Rattle.model.proofs.BuiltWalks.{report-at, pair-built, walk-built, taken-right}
 use Rattle.model.proofs.Verdicts.{verdict-right}
 
@@ -86,7 +89,12 @@ given-out-sound E a b w (walked y l g m room) x e f =
     let q : y ≡ x = cc in
     let c : length l ≡ x .report + 1 = m ∙ ap (λ (z : Answer). suc (z .report)) q ∙ sym (add-one (x .report)) in
     let t : take (x .report + 1) (l ++ replicate (w - length l) none) ≡ l = take-at l (replicate (w - length l) none) (x .report + 1) c in
-    record { links = subst (λ (k : List ℕ). Walked E k a b) (sym t) g; count = ap length t ∙ c }
+    let i = walked-chain g in
+    record {
+      links = subst (λ (k : List ℕ). Walked E k a b) (sym t) g;
+      count = ap length t ∙ c;
+      chain = subst (λ (k : ℕ). Chain E k a b) (omega (arith, i .1, c)) (i .2);
+    }
 
 -- whatever is lent, a walk given out is a chain of the survey's links, of exactly the reported length
 pub walking-sound : (n : ℕ) (starts neighbours full low report : List ℕ) (a b w : ℕ)
@@ -110,6 +118,42 @@ walking-sound n starts neighbours full low report a b w =
 
     refuses : {k : ℕ} → P (record { answer = refused k; walk = replicate w none })
     refuses x e f = never e
+
+-- ---- what an answer says of the tests before it
+
+asking-passed : (n : ℕ) (full low report : List ℕ) (a b : ℕ) (x : Answer) → asking n full low report a b ≡ answered x
+    → (n * n ≤ length full) × (n * n ≤ length low) × (n * n ≤ length report) × (a < n) × (b < n) × (pair n full low report a b ≡ answered x)
+unfolding asking
+asking-passed n full low report a b x =
+    picked P (badSize n) _ _ (λ _ e. never e) (λ _.
+    picked P (B || C || D) _ _ (λ _ e. never e) (λ room.
+    picked P (leb n a || leb n b) _ _ (λ _ e. never e) (λ below e.
+    let r = of-or-false (B || C) D room in
+    let q = of-or-false B C (r .0) in
+    let h = of-or-false (leb n a) (leb n b) below in
+    (ltb-false (length full) (n * n) (q .0), ltb-false (length low) (n * n) (q .1), ltb-false (length report) (n * n) (r .1), leb-false n a (h .0), leb-false n b (h .1), e))))
+  where
+    P : Outcome Answer → Type 0
+    P o = o ≡ answered x
+        → (n * n ≤ length full) × (n * n ≤ length low) × (n * n ≤ length report) × (a < n) × (b < n) × (pair n full low report a b ≡ answered x)
+
+    B : Bool
+    B = ltb (length full) (n * n)
+
+    C : Bool
+    C = ltb (length low) (n * n)
+
+    D : Bool
+    D = ltb (length report) (n * n)
+
+fit-short : (w : ℕ) (x : Answer) (l : List ℕ) → (fit w x (some l) .answer ≡ refused 8) ↔ (w < length l)
+unfolding fit refuseWalk
+fit-short w x l = at (ltb w (length l)) refl
+  where
+    at : (c : Bool) → ltb w (length l) ≡ c
+        → ((if_then_else_ {A = Walking} c (record { answer = refused 8; walk = replicate w none }) (record { answer = answered x; walk = l ++ replicate (w - length l) none })) .answer ≡ refused 8) ↔ (w < length l)
+    at true e = (λ _. ltb→lt w (length l) (true-T (ltb w (length l)) e), λ _. refl)
+    at false e = (λ q. never (sym q), λ h. absurd (omega (arith, ltb-false w (length l) e)))
 
 -- ---- an accepted survey
 
@@ -151,18 +195,10 @@ module _ (n : ℕ) (starts neighbours : List ℕ) (acc : Accepted n starts neigh
         is-survey,
       ) refl
 
-  module _ (full low report : List ℕ) (own : AreBuilt n (threshold n) (neighboursOf starts neighbours) full low report) (a b : ℕ) (ha : a < n) (hb : b < n) where
+  -- tables that are long enough, and two nodes below n: what is left of asking and walking
+  module _ (full low report : List ℕ) (hf : n * n ≤ length full) (hl : n * n ≤ length low) (hr : n * n ≤ length report) (a b : ℕ) (ha : a < n) (hb : b < n) where
     below : (leb n a || leb n b) ≡ false
     below = or-false (leb n a) (leb n b) (lt-leb n a ha) (lt-leb n b hb)
-
-    fits : ltb (length full) (n * n) ≡ false
-    fits = le-ltb (length full) (n * n) (full-room n (threshold n) G full low report own)
-
-    fits-low : ltb (length low) (n * n) ≡ false
-    fits-low = le-ltb (length low) (n * n) (low-room n (threshold n) G full low report own)
-
-    fits-report : ltb (length report) (n * n) ≡ false
-    fits-report = le-ltb (length report) (n * n) (report-room n (threshold n) G full low report own)
 
     asks : asking n full low report a b ≡ pair n full low report a b
     unfolding asking
@@ -170,24 +206,11 @@ module _ (n : ℕ) (starts neighbours : List ℕ) (acc : Accepted n starts neigh
         let B = ltb (length full) (n * n) in
         let C = ltb (length low) (n * n) in
         let D = ltb (length report) (n * n) in
-        rw (good-size n (acc .some-node) (acc .size), or-false (B || C) D (or-false B C fits fits-low) fits-report, below) refl
-
-    -- asking is not refused, and answers the entry of Report
-    pub asking-answers : (x : Answer) × (asking n full low report a b ≡ answered x) × (x .report ≡ entry n (reportTable n (threshold n) G) a b)
-    unfolding pair
-    asking-answers =
-        let g = acc .lists .graph in
-        let i = pair-built n (threshold n) G g (acc .size) full low report own a b ha hb (taken n full a b)
-        (taken-right n (threshold n) G g (acc .size) full low report own a b ha hb) in
-        (answer (entry n report a b) (i .0), asks ∙ i .1, report-at n (threshold n) G g (acc .size) full low report own a b ha hb)
-
-    -- the report is none exactly where no chain joins the pair, else from the fewest links to two more
-    pub asking-right : AllowedAnswer (linked n G) a b (asking n full low report a b)
-    asking-right = let i = asking-answers in record {
-      value = i .0;
-      given = i .1;
-      allowed = subst (λ (r : ℕ). Allowed (linked n G) a b r) (sym (i .2)) (allowed n (threshold n) G (acc .lists .graph) (acc .size) a b ha hb);
-    }
+        rw (
+          good-size n (acc .some-node) (acc .size),
+          or-false (B || C) D (or-false B C (le-ltb (length full) (n * n) hf) (le-ltb (length low) (n * n) hl)) (le-ltb (length report) (n * n) hr),
+          below,
+        ) refl
 
     walks : (w : ℕ) → walking n starts neighbours full low report a b w ≡ walkOf w n (threshold n) G full low a b (pair n full low report a b)
     unfolding walking
@@ -198,10 +221,58 @@ module _ (n : ℕ) (starts neighbours : List ℕ) (acc : Accepted n starts neigh
         let D = ltb (length report) (n * n) in
         rw (
           good-size n (acc .some-node) (acc .size),
-          or-false (A || B || C) D (or-false (A || B) C (or-false A B (le-ltb (length starts) (n + 1) (acc .room)) fits) fits-low) fits-report,
+          or-false (A || B || C) D
+              (or-false (A || B) C (or-false A B (le-ltb (length starts) (n + 1) (acc .room)) (le-ltb (length full) (n * n) hf)) (le-ltb (length low) (n * n) hl))
+              (le-ltb (length report) (n * n) hr),
           is-survey,
           below,
         ) refl
+
+  -- for any tables: where asking answers x and the walk's nodes are found, the walk is refused 8 exactly where there is a route and
+  -- the walk list has fewer than report + 1 entries
+  pub walking-short : (full low report : List ℕ) (a b : ℕ) (x : Answer) → asking n full low report a b ≡ answered x
+      → (l : List ℕ) → nodes n (threshold n) G full low a b (x .route) ≡ some l
+      → (w : ℕ) → (walking n starts neighbours full low report a b w .answer ≡ refused 8) ↔ ((x .report ≡ none → ⊥) × (w < x .report + 1))
+  unfolding pair pairBy walkOf
+  walking-short full low report a b x e l f w =
+      let p = asking-passed n full low report a b x e in
+      let r = entry n report a b in
+      let c = subst (λ (q : Outcome Answer). Chosen a b r (entry n low a b) (attaining (taken n full a b) n full a b r) q) (p .5)
+      (chosen a b r (entry n low a b) (attaining (taken n full a b) n full a b r)) in
+      let i = found-longer n (threshold n) G (acc .lists .graph) full low a b (p .3) (p .4) (taken n full a b) report x c l f w in
+      let o : walking n starts neighbours full low report a b w ≡ fit w x (some l) =
+      walks full low report (p .0) (p .1) (p .2) a b (p .3) (p .4) w
+      ∙ ap (walkOf w n (threshold n) G full low a b) (p .5)
+      ∙ ap (fit w x) f in
+      let j = fit-short w x l in
+      (λ q. i .0 (j .0 (sym (ap (λ (y : Walking). y .answer) o) ∙ q)), λ h. ap (λ (y : Walking). y .answer) o ∙ j .1 (i .1 h))
+
+  module _ (full low report : List ℕ) (own : AreBuilt n (threshold n) (neighboursOf starts neighbours) full low report) (a b : ℕ) (ha : a < n) (hb : b < n) where
+    hf : n * n ≤ length full
+    hf = full-room n (threshold n) G full low report own
+
+    hl : n * n ≤ length low
+    hl = low-room n (threshold n) G full low report own
+
+    hr : n * n ≤ length report
+    hr = report-room n (threshold n) G full low report own
+
+    -- asking is not refused, and answers the entry of Report
+    pub asking-answers : (x : Answer) × (asking n full low report a b ≡ answered x) × (x .report ≡ entry n (reportTable n (threshold n) G) a b)
+    unfolding pair
+    asking-answers =
+        let g = acc .lists .graph in
+        let i = pair-built n (threshold n) G g (acc .size) full low report own a b ha hb (taken n full a b)
+        (taken-right n (threshold n) G g (acc .size) full low report own a b ha hb) in
+        (answer (entry n report a b) (i .0), asks full low report hf hl hr a b ha hb ∙ i .1, report-at n (threshold n) G g (acc .size) full low report own a b ha hb)
+
+    -- the report is none exactly where no chain joins the pair, else from the fewest links to two more
+    pub asking-right : AllowedAnswer (linked n G) a b (asking n full low report a b)
+    asking-right = let i = asking-answers in record {
+      value = i .0;
+      given = i .1;
+      allowed = subst (λ (r : ℕ). Allowed (linked n G) a b r) (sym (i .2)) (allowed n (threshold n) G (acc .lists .graph) (acc .size) a b ha hb);
+    }
 
     -- and writing the walk answers as asking does, if the walk list has report + 1 entries or there is no route
     pub walking-right : (w : ℕ) → WalkAnswers w (asking n full low report a b) (walking n starts neighbours full low report a b w)
@@ -210,8 +281,8 @@ module _ (n : ℕ) (starts neighbours : List ℕ) (acc : Accepted n starts neigh
         let g = acc .lists .graph in
         let p = taken-right n (threshold n) G g (acc .size) full low report own a b ha hb in
         let i = pair-built n (threshold n) G g (acc .size) full low report own a b ha hb (taken n full a b) p in
-        let q : answer (entry n report a b) (i .0) ≡ x = cc (asks, i .1) in
-        ap (λ (r : Walking). r .answer) (walks w)
+        let q : answer (entry n report a b) (i .0) ≡ x = cc (asks full low report hf hl hr a b ha hb, i .1) in
+        ap (λ (r : Walking). r .answer) (walks full low report hf hl hr a b ha hb w)
         ∙ walk-built n (threshold n) G g (acc .size) full low report own a b ha hb (taken n full a b) p w
         (subst (λ (y : Answer). (y .report ≡ none) ⊎ (y .report < w)) (sym q) room)
-        ∙ sym asks ∙ e
+        ∙ sym (asks full low report hf hl hr a b ha hb) ∙ e

@@ -1,18 +1,24 @@
--- The two lists of a graph: they give each node's neighbours back, and a survey's lists are those of its own graph.
+-- The two lists of a graph: they give each node's neighbours back, a survey's lists are those of its own graph, and entries past
+-- those used make no difference.
 -- Assumes nothing.
 use mathlib.Core.Path.{_≡_, refl, sym, ap, ap₂, _∙_, subst}
+use mathlib.Core.Bool.{Bool, not}
 use mathlib.Core.List.{List, [], _∷_, _++_, map, append-assoc, append-nil}
-use Prim.Native.Nat.{ℕ, zero, suc, _+_, _-_, _≤_, _<_}
+use Prim.Native.Nat.{ℕ, zero, suc, _+_, _-_, _/_, _%_, _≤_, _<_, min}
 use native.Mathlib.Nat.{add-zero}
 use native.Mathlib.Numerals.{add-one}
 use native.Mathlib.Omega.{arith}
+use lib.Dec.{T, ltb, ltb→lt, lt→ltb}
 use lib.ListN.{length, getD, take, drop, length-append, length-take, List·getD-append}
-use lib.Seq.{take-at, drop-at, take-add, getD-take, ext-getD}
-use Rattle.model.specs.Basics.{from, upTo, gather}
-use Rattle.model.specs.Survey.{Graph, neighboursOf, IsSurvey}
+use lib.Seq.{take-nil, take-at, drop-at, take-take, take-add, getD-take, ext-getD}
+use Rattle.model.specs.Answers.{refused, answered}
+use Rattle.model.specs.Basics.{if_then_else_, from, upTo, has, gather}
+use Rattle.model.specs.Survey.{Graph, neighboursOf, linked, ascending, isSurvey, badSize, accepting, IsSurvey, Accepted}
 use Rattle.model.specs.Reading.{startsOf, neighboursFrom}
+use Rattle.model.proofs.Tests.{same-test}
 use Rattle.model.proofs.Lists.{gather-append, gather-same, upTo-suc, from-split, of-upTo}
 use Rattle.model.proofs.Entries.{getD-row, length-row}
+use Rattle.model.proofs.Acceptance.{survey-test, survey-facts, linked-is, is-linked}
 
 -- how many neighbours the nodes below v have
 unfoldable pub total : Graph → ℕ → ℕ
@@ -131,3 +137,107 @@ module _ (n : ℕ) (starts neighbours : List ℕ) (s : IsSurvey n starts neighbo
       ext-getD 0 (map f (upTo (n + 1))) (take (n + 1) starts) (length-row f (n + 1) ∙ omega (arith, length-take (n + 1) starts)) (λ i h.
       let b : i < n + 1 = omega (arith, length-row f (n + 1)) in
       getD-row f (n + 1) i 0 b ∙ own-total i (omega arith) ∙ sym (getD-take (n + 1) starts i 0 b))
+
+-- ---- what stands past the entries used makes no difference
+
+-- a part that lies within the first m entries
+part-front : (a k m : ℕ) (l : List ℕ) → a + k ≤ m → take k (drop a (take m l)) ≡ take k (drop a l)
+part-front zero k m l h = take-take k m l (omega arith)
+part-front (suc a) k m [] h = ap (λ (l : List ℕ). take k (drop (suc a) l)) (take-nil m)
+part-front (suc a) k zero (x ∷ l) h = absurd (omega arith)
+part-front (suc a) k (suc m) (x ∷ l) h = part-front a k m l (omega arith)
+
+-- two pairs of lists that agree on the entries used: starts up to n, neighbours up to the last start
+pub record Agree (n : ℕ) (starts neighbours starts′ neighbours′ : List ℕ) : Type 0 where
+  pub starts-used : take (n + 1) starts ≡ take (n + 1) starts′
+  pub neighbours-used : take (getD starts n 0) neighbours ≡ take (getD starts n 0) neighbours′
+
+module _ (n : ℕ) (starts neighbours starts′ neighbours′ : List ℕ) (e : Agree n starts neighbours starts′ neighbours′) where
+  same-start : (v : ℕ) → v ≤ n → getD starts v 0 ≡ getD starts′ v 0
+  same-start v h =
+      sym (getD-take (n + 1) starts v 0 (omega arith)) ∙ ap (λ (l : List ℕ). getD l v 0) (e .starts-used) ∙ getD-take (n + 1) starts′ v 0 (omega arith)
+
+  -- the same turned round
+  agree-sym : Agree n starts′ neighbours′ starts neighbours
+  agree-sym = record {
+    starts-used = sym (e .starts-used);
+    neighbours-used = subst (λ (k : ℕ). take k neighbours′ ≡ take k neighbours) (same-start n (omega arith)) (sym (e .neighbours-used));
+  }
+
+  -- a survey's nodes have the same neighbours in both
+  past-own′ : IsSurvey n starts neighbours → (v : ℕ) → v < n → neighboursOf starts neighbours v ≡ neighboursOf starts′ neighbours′ v
+  unfolding neighboursOf
+  past-own′ s v h =
+      let a = getD starts v 0 in
+      let b = getD starts (v + 1) 0 in
+      let m = getD starts n 0 in
+      let u = s .rising v h in
+      let r = rises n starts neighbours s (n - (v + 1)) (v + 1) (omega arith) in
+      let w : a + (b - a) ≤ m = omega arith in
+      sym (part-front a (b - a) m neighbours w)
+      ∙ ap (λ (l : List ℕ). take (b - a) (drop a l)) (e .neighbours-used)
+      ∙ part-front a (b - a) m neighbours′ w
+      ∙ ap₂ (λ (i j : ℕ). take (j - i) (drop i neighbours′)) (same-start v (omega arith)) (same-start (v + 1) (omega arith))
+
+  survey-past : IsSurvey n starts neighbours → IsSurvey n starts′ neighbours′
+  survey-past s =
+      let last = same-start n (omega arith) in
+      let there : (v x : ℕ) → v < n → T (has x (neighboursOf starts′ neighbours′ v)) → T (has x (neighboursOf starts neighbours v)) =
+      λ v x h m. subst (λ (l : List ℕ). T (has x l)) (sym (past-own′ s v h)) m in
+      record {
+        first = sym (same-start 0 (omega arith)) ∙ s .first;
+        rising = λ v h. let u = s .rising v h in omega (arith, same-start v (omega arith), same-start (v + 1) (omega arith));
+        even = subst (λ (k : ℕ). k % 2 ≡ 0) last (s .even);
+        links = subst (λ (k : ℕ). k / 2 ≤ 16384) last (s .links);
+        within = omega (arith, last, s .within, length-take (getD starts n 0) neighbours, length-take (getD starts n 0) neighbours′, ap length (e .neighbours-used));
+        sorted = λ v h. subst (λ (l : List ℕ). T (ascending l)) (past-own′ s v h) (s .sorted v h);
+        apart = λ v x h m. s .apart v x h (there v x h m);
+        graph = record {
+          below = λ v x h m. s .graph .below v x h (there v x h m);
+          symmetric = λ v x h m. let t = there v x h m in subst (λ (l : List ℕ). T (has v l)) (past-own′ s x (s .graph .below v x h t)) (s .graph .symmetric v x h t);
+        };
+      }
+
+module _ (n : ℕ) (starts neighbours starts′ neighbours′ : List ℕ) (e : Agree n starts neighbours starts′ neighbours′) where
+  -- both are accepted, or both are refused with the same number
+  pub past-ignored : accepting n starts neighbours ≡ accepting n starts′ neighbours′
+  unfolding accepting
+  past-ignored = ap₂ (λ (p q : Bool). if badSize n then refused 2 else if p then refused 8 else if not q then refused 9 else answered tt) short lists
+    where
+      size : min (n + 1) (length starts) ≡ min (n + 1) (length starts′)
+      size = sym (length-take (n + 1) starts) ∙ ap length (e .starts-used) ∙ length-take (n + 1) starts′
+
+      short : ltb (length starts) (n + 1) ≡ ltb (length starts′) (n + 1)
+      short = same-test (ltb (length starts) (n + 1)) (ltb (length starts′) (n + 1))
+          (λ t. lt→ltb (length starts′) (n + 1) (omega (arith, size, ltb→lt (length starts) (n + 1) t)))
+          (λ t. lt→ltb (length starts) (n + 1) (omega (arith, size, ltb→lt (length starts′) (n + 1) t)))
+
+      lists : isSurvey n starts neighbours ≡ isSurvey n starts′ neighbours′
+      lists = same-test (isSurvey n starts neighbours) (isSurvey n starts′ neighbours′)
+          (λ t. survey-test n starts′ neighbours′ (survey-past n starts neighbours starts′ neighbours′ e (survey-facts n starts neighbours t)))
+          (λ t. survey-test n starts neighbours
+          (survey-past n starts′ neighbours′ starts neighbours (agree-sym n starts neighbours starts′ neighbours′ e) (survey-facts n starts′ neighbours′ t)))
+
+  -- and where they are accepted, the nodes have the same neighbours and the same links
+  module _ (acc : Accepted n starts neighbours) where
+    pub past-own : (v : ℕ) → v < n → neighboursOf starts neighbours v ≡ neighboursOf starts′ neighbours′ v
+    past-own = past-own′ n starts neighbours starts′ neighbours′ e (acc .lists)
+
+    pub past-linked : (a b : ℕ) → linked n (neighboursOf starts neighbours) a b ≡ linked n (neighboursOf starts′ neighbours′) a b
+    past-linked a b = same-test (linked n G a b) (linked n H a b) (on G H past-own) (on H G (λ v h. sym (past-own v h)))
+      where
+        G : Graph
+        G = neighboursOf starts neighbours
+
+        H : Graph
+        H = neighboursOf starts′ neighbours′
+
+        on : (I J : Graph) → ((v : ℕ) → v < n → I v ≡ J v) → T (linked n I a b) → T (linked n J a b)
+        on I J f t =
+            let l = linked-is n I a b t in
+            is-linked n J a b (record {
+              first = l .first;
+              second = l .second;
+              there = subst (λ (k : List ℕ). T (has b k)) (f a (l .first)) (l .there);
+              back = subst (λ (k : List ℕ). T (has a k)) (f b (l .second)) (l .back);
+            })

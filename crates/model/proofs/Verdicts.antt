@@ -1,26 +1,29 @@
--- What the verdicts of the two-or-four test mean. Holds for every threshold s.
+-- What the verdicts of the two-or-four test mean, and its count of searches. Holds for every threshold s.
 -- Assumes nothing.
-use mathlib.Core.Path.{_≡_, refl, sym, subst}
+use mathlib.Core.Path.{_≡_, refl, sym, ap, _∙_, subst}
 use mathlib.Core.Logic.{_⊎_, inl, inr}
 use mathlib.Core.Bool.{Bool, true, false, not}
 use mathlib.Core.List.{List}
 use Prim.Native.Nat.{ℕ, suc, _+_, _≤_, _<_, zero-le, suc-le-suc}
-use native.Mathlib.Nat.{le-trans}
+use native.Mathlib.Nat.{le-trans, le-antisymm}
+use native.Mathlib.Numerals.{add-one}
 use native.Mathlib.Omega.{arith}
 use borrow.Author.Tests.{ltb-false, eqb-false}
-use lib.Dec.{T, eqb, ltb, eqb→eq, ltb→lt}
+use lib.Dec.{T, eqb, ltb, eqb→eq, ltb→lt, T-not}
+use lib.ListN.{length}
 use Rattle.model.specs.declared.Verdict.{Verdict}
 use Rattle.model.specs.declared.Verdict.the-variants.{Parted, Long, Short}
 use Rattle.model.specs.Basics.{none, if_then_else_, has, any, upTo}
 use Rattle.model.specs.Graph.{Edges, Chain, Unjoined, link, Fewest, fewest}
-use Rattle.model.specs.Survey.{Graph, linked, IsGraph}
+use Rattle.model.specs.Survey.{Graph, neighboursOf, linked, IsGraph, Accepted}
 use Rattle.model.specs.Hubs.{isHigh, isLow, closed, hubs}
 use Rattle.model.specs.TwoOrFour.{sources, verdictOf, tested}
 use Rattle.model.specs.Demand.{VerdictRight}
+use Rattle.model.proofs.Tests.{lt-or}
 use Rattle.model.proofs.Lists.{has-head, has-tail, of-cons, any-of, of-any, has-upTo, of-upTo, First, found, nothing, first-below}
 use Rattle.model.proofs.Chains.{append, turn, split-first, fewest-is, fewest-none}
-use Rattle.model.proofs.Acceptance.{linked-of, linked-has, linked-sym, linked-ends}
-use Rattle.model.proofs.Covering.{hubs-cover, hubs-below}
+use Rattle.model.proofs.Acceptance.{linked-has, linked-sym, linked-ends}
+use Rattle.model.proofs.Covering.{hubs-cover, high-linked, hubs-below, distinct, ascending-distinct, hubs-distinct}
 
 -- what the searches show of a graph of n nodes
 data Means (n : ℕ) (E : Edges) : Verdict → Type 0 where
@@ -29,9 +32,9 @@ data Means (n : ℕ) (E : Edges) : Verdict → Type 0 where
   is-short : ((u v : ℕ) → u < n → v < n → (j : ℕ) × (j ≤ 3) × Chain E j u v) → Means n E Short
 
 module _ (n s : ℕ) (G : Graph) (g : IsGraph n G) (size : n ≤ 1024) where
-  -- the nodes searched from: a low node and its neighbours, or the hubs of a graph without low nodes
+  -- the nodes searched from: the smallest low node and its neighbours, or the hubs of a graph without low nodes
   data Sources : List ℕ → Type 0 where
-    round : (v : ℕ) → v < n → Sources (closed G v)
+    round : (v : ℕ) → v < n → T (isLow s G v) → ((u : ℕ) → u < v → T (isHigh s G u)) → Sources (closed G v)
     covers : ((v : ℕ) → v < n → T (isHigh s G v)) → Sources (hubs n s G)
 
   source-cases : Sources (sources n s G)
@@ -47,13 +50,13 @@ module _ (n s : ℕ) (G : Graph) (g : IsGraph n G) (size : n ≤ 1024) where
       high false f = f tt
 
       at : {r : ℕ} → First (isLow s G) none 0 n r → Sources (if eqb r none then hubs n s G else closed G r)
-      at {r} (found lo hi t least) = pick (λ e. absurd (omega arith)) (λ f. round r (omega arith)) (eqb r none) refl
+      at {r} (found lo hi t least) = pick (λ e. absurd (omega arith)) (λ f. round r (omega arith) t (λ u h. high (isHigh s G u) (λ q. least u zero-le h q))) (eqb r none) refl
       at {r} (nothing e miss) =
           pick (λ q. covers (λ v h. high (isHigh s G v) (λ t. miss v zero-le (omega arith) t))) (λ f. absurd (f e)) (eqb r none) refl
 
   source-below : {hs : List ℕ} → Sources hs → (h : ℕ) → T (has h hs) → h < n
   unfolding closed
-  source-below (round v b) h m = at (of-cons h v (G v) m)
+  source-below (round v b t l) h m = at (of-cons h v (G v) m)
     where
       at : (h ≡ v) ⊎ T (has h (G v)) → h < n
       at (inl e) = subst (λ (z : ℕ). z < n) (sym e) b
@@ -64,7 +67,7 @@ module _ (n s : ℕ) (G : Graph) (g : IsGraph n G) (size : n ≤ 1024) where
   within : {hs : List ℕ} → Sources hs → ((h v : ℕ) → T (has h hs) → v < n → (j : ℕ) × (j ≤ 2) × Chain (linked n G) j h v)
       → (u v : ℕ) → u < n → v < n → (j : ℕ) × (j ≤ 3) × Chain (linked n G) j u v
   unfolding closed
-  within (round c b) near u v hu hv = at (near c u (has-head c (G c)) hu)
+  within (round c b t l) near u v hu hv = at (near c u (has-head c (G c)) hu)
     where
       three : (i j : ℕ) → suc i ≤ 2 → j ≤ 2 → i + j ≤ 3
       three i j p q = omega arith
@@ -79,25 +82,16 @@ module _ (n s : ℕ) (G : Graph) (g : IsGraph n G) (size : n ≤ 1024) where
           split (inr p) =
               let r = near (p .1) v (has-tail (p .1) c (G c) (linked-has n G c (p .1) (p .3))) hv in
               (p .0 + r .0, three (p .0) (r .0) (subst (λ (k : ℕ). k ≤ 2) (p .2) (q .1)) (r .1), append (turn (linked-sym n G) (p .4)) (r .2))
-  within (covers f) near u v hu hv = at (of-cons u h (G h) (c .3))
+  within (covers f) near u v hu hv = at (high-linked n s G g u hu (f u hu))
     where
-      c : (h : ℕ) × (h < n) × T (has h (hubs n s G)) × T (has u (closed G h))
-      c = hubs-cover n G s u hu (f u hu)
-
-      h : ℕ
-      h = c .0
-
-      r : (j : ℕ) × (j ≤ 2) × Chain (linked n G) j h v
-      r = near h v (c .2) hv
-
-      at : (u ≡ h) ⊎ T (has u (G h)) → (j : ℕ) × (j ≤ 3) × Chain (linked n G) j u v
-      at (inl e) = (r .0, le-trans (r .1) (omega arith), subst (λ (z : ℕ). Chain (linked n G) (r .0) z v) (sym e) (r .2))
-      at (inr t) = (suc (r .0), suc-le-suc (r .1), link (linked-sym n G h u (linked-of n G g h u (c .1) t)) (r .2))
+      at : T (has u (hubs n s G)) ⊎ ((h : ℕ) × T (has h (hubs n s G)) × T (linked n G u h)) → (j : ℕ) × (j ≤ 3) × Chain (linked n G) j u v
+      at (inl m) = let r = near u v m hv in (r .0, le-trans (r .1) (omega arith), r .2)
+      at (inr c) = let r = near (c .0) v (c .1) hv in (suc (r .0), suc-le-suc (r .1), link (c .2) (r .2))
 
   -- some node is searched from, where there is a node at all
   some-source : {hs : List ℕ} → Sources hs → (u : ℕ) → u < n → (h : ℕ) × T (has h hs)
   unfolding closed
-  some-source (round c b) u hu = (c, has-head c (G c))
+  some-source (round c b t l) u hu = (c, has-head c (G c))
   some-source (covers f) u hu = let c = hubs-cover n G s u hu (f u hu) in (c .0, c .2)
 
   verdict-means : Means n (linked n G) (verdictOf n G (sources n s G))
@@ -194,3 +188,33 @@ module _ (n s : ℕ) (G : Graph) (g : IsGraph n G) (size : n ≤ 1024) where
   pub verdict-right : VerdictRight n (linked n G) (tested n s G .verdict)
   unfolding tested
   verdict-right = means-right verdict-means
+
+  -- ---- the count of searches
+
+  -- the smallest low node's neighbours plus one, or the number of hubs where no node is low
+  pub count-is : ((v : ℕ) → v < n → T (isLow s G v) → ((u : ℕ) → u < v → T (isHigh s G u)) → tested n s G .searches ≡ length (G v) + 1)
+      × (((v : ℕ) → v < n → T (isHigh s G v)) → tested n s G .searches ≡ length (hubs n s G))
+  unfolding tested closed isLow
+  count-is = (λ v b t l. low v b t l source-cases, λ f. high f source-cases)
+    where
+      low : (v : ℕ) → v < n → T (isLow s G v) → ((u : ℕ) → u < v → T (isHigh s G u)) → {hs : List ℕ} → Sources hs → length hs ≡ length (G v) + 1
+      low v b t l (round u c q m) = ap (λ (x : ℕ). suc (length (G x))) (smallest (lt-or u v) (lt-or v u)) ∙ sym (add-one (length (G v)))
+        where
+          smallest : (u < v) ⊎ (v ≤ u) → (v < u) ⊎ (u ≤ v) → u ≡ v
+          smallest (inl h) k = absurd (T-not (isHigh s G u) q (l u h))
+          smallest (inr h) (inl k) = absurd (T-not (isHigh s G v) t (m v k))
+          smallest (inr h) (inr k) = le-antisymm k h
+      low v b t l (covers f) = absurd (T-not (isHigh s G v) t (f v b))
+
+      high : ((v : ℕ) → v < n → T (isHigh s G v)) → {hs : List ℕ} → Sources hs → length hs ≡ length (hubs n s G)
+      high f (round u c q m) = absurd (T-not (isHigh s G u) q (f u c))
+      high f (covers g) = refl
+
+-- and no node is searched from twice
+pub sources-distinct : (n s : ℕ) (starts neighbours : List ℕ) → Accepted n starts neighbours → distinct (sources n s (neighboursOf starts neighbours))
+unfolding closed
+sources-distinct n s starts neighbours acc = at (source-cases n s (neighboursOf starts neighbours) (acc .lists .graph) (acc .size))
+  where
+    at : {hs : List ℕ} → Sources n s (neighboursOf starts neighbours) (acc .lists .graph) (acc .size) hs → distinct hs
+    at (round v b t l) = (λ m. acc .lists .apart v v b m refl, ascending-distinct (neighboursOf starts neighbours v) (acc .lists .sorted v b))
+    at (covers f) = hubs-distinct n (neighboursOf starts neighbours) s

@@ -2,7 +2,7 @@
 -- taken than there are nodes.
 -- Assumes nothing.
 use mathlib.Core.Path.{_≡_, refl, sym, ap, ap₂, _∙_, subst}
-use mathlib.Core.Logic.{_⊎_, inl, inr}
+use mathlib.Core.Logic.{_⊎_, inl, inr, _↔_}
 use mathlib.Core.Bool.{Bool, true, false, _&&_}
 use mathlib.Core.List.{List, [], _∷_, _++_, reverse, tail, reverse-cons}
 use mathlib.Core.Option.{Option, none as missing, some}
@@ -23,7 +23,7 @@ use Rattle.model.specs.Tables.{entry, via}
 use Rattle.model.specs.Pair.{answer, attaining, choose, pairBy}
 use Rattle.model.specs.Walk.{before, next, steps, byLow, toHub, join, nodes}
 use Rattle.model.specs.Walking.{Walking, refuseWalk, fit, walkOf}
-use Rattle.model.proofs.Tests.{and-l, and-r, and-i, is, isnt, eq-T}
+use Rattle.model.proofs.Tests.{and-l, and-r, and-i, is, isnt, eq-T, eq-or}
 use Rattle.model.proofs.Lists.{has-upTo, first-in, first-below, first-same, First, found, nothing, keep-grows, keep-length, length-upTo}
 use Rattle.model.proofs.Acceptance.{linked-of, linked-sym}
 use Rattle.model.proofs.Allowance.{Sum, whole, part, sum-is}
@@ -353,37 +353,68 @@ module _ (isHub : ℕ → Bool) (n : ℕ) (full : List ℕ) (a b : ℕ) where
       at (part s p) e = absurd (f (sym e ∙ s))
 
 module _ (n s : ℕ) (G : Graph) (g : IsGraph n G) (full low : List ℕ) (a b : ℕ) (ha : a < n) (hb : b < n) where
-  pub low-sound : Sound (linked n G) (entry n low a b) a b (byLow n s G low a b)
+  low-sound : Sound (linked n G) (entry n low a b) a b (byLow n s G low a b)
   unfolding byLow
   low-sound = steps-sound n G g (isLow s G) (λ x. entry n low x b) b (entry n low a b) a ha
 
-  pub hub-sound : (h : ℕ) → Sound (linked n G) (entry n full h a + entry n full h b) a b (join (toHub n G full h a) (toHub n G full h b))
+  hub-sound : (h : ℕ) → Sound (linked n G) (entry n full h a + entry n full h b) a b (join (toHub n G full h a) (toHub n G full h b))
   unfolding toHub
   hub-sound h =
       join-sound (linked n G) (linked-sym n G) (entry n full h a) (entry n full h b) a b h (toHub n G full h a) (toHub n G full h b)
       (steps-sound n G g (λ x. true) (λ x. entry n full h x) h (entry n full h a) a ha)
       (steps-sound n G g (λ x. true) (λ x. entry n full h x) h (entry n full h b) b hb)
 
-  -- whatever hubs are taken and whatever the tables hold, a walk given out is a chain of as many links as reported
-  pub walk-given-out : (isHub : ℕ → Bool) (report : List ℕ) (w : ℕ)
-      → Given-out (linked n G) a b w (walkOf w n s G full low a b (pairBy isHub n full low report a b))
-  unfolding pairBy walkOf nodes refuseWalk
-  walk-given-out isHub report w = at (chosen a b r (entry n low a b) hub)
-    where
-      r : ℕ
-      r = entry n report a b
+  -- the hubs that count, and the table of reports
+  module _ (isHub : ℕ → Bool) (report : List ℕ) where
+    abbrev Chosen-here : Outcome Answer → Type 0
+    Chosen-here q = Chosen a b (entry n report a b) (entry n low a b) (attaining isHub n full a b (entry n report a b)) q
 
-      hub : ℕ
-      hub = attaining isHub n full a b r
+    -- where the nodes of the route are found, they are a chain of as many links as the report
+    pub route-sound : (x : Answer) → Chosen-here (answered x) → (x .report ≡ none → ⊥) → Sound (linked n G) (x .report) a b (nodes n s G full low a b (x .route))
+    unfolding nodes
+    route-sound x (to-itself e z) m = (subst (λ (y : ℕ). Walked (linked n G) (a ∷ []) a y) e stop, refl)
+    route-sound x (to-none f e) m = absurd (m refl)
+    route-sound x (to-low f g e) m = subst (λ (d : ℕ). Sound (linked n G) d a b (byLow n s G low a b)) e low-sound
+    route-sound x (to-hub f g y z) m =
+        let hub = attaining isHub n full a b (entry n report a b) in
+        let i = attains isHub n full a b (entry n report a b) z in
+        let e = via-sum isHub n full a b hub (entry n report a b) (i .2) g in
+        subst (λ (d : ℕ). Sound (linked n G) d a b (join (toHub n G full hub a) (toHub n G full hub b))) (e .2) (hub-sound hub)
 
-      at : {q : Outcome Answer} → Chosen a b r (entry n low a b) hub q → Given-out (linked n G) a b w (walkOf w n s G full low a b q)
-      at (to-itself e z) = fit-outcome (linked n G) a b w (answer 0 Itself) (some (a ∷ [])) (subst (λ (x : ℕ). Walked (linked n G) (a ∷ []) a x) e stop, refl)
-      at (to-none x e) = fit-none (linked n G) a b w
-      at (to-low x f e) = fit-outcome (linked n G) a b w (answer r Low) (byLow n s G low a b) (subst (λ (d : ℕ). Sound (linked n G) d a b (byLow n s G low a b)) e low-sound)
-      at (to-hub x f y z) =
-          let i = attains isHub n full a b r z in
-          let e = via-sum isHub n full a b hub r (i .2) f in
-          fit-outcome (linked n G) a b w (answer r (Through hub)) (join (toHub n G full hub a) (toHub n G full hub b))
-          (subst (λ (d : ℕ). Sound (linked n G) d a b (join (toHub n G full hub a) (toHub n G full hub b))) (e .2) (hub-sound hub))
-      at (bad-itself e f) = refusal 11
-      at (bad-hub x f y z) = refusal 11
+    -- with no route there are no nodes
+    none-found : (x : Answer) → Chosen-here (answered x) → (l : List ℕ) → nodes n s G full low a b (x .route) ≡ some l → x .report ≡ none → length l ≡ 0
+    unfolding nodes
+    none-found x (to-itself p q) l e z = absurd (omega arith)
+    none-found x (to-none p q) l e z = let k : [] ≡ l = cc in ap length (sym k)
+    none-found x (to-low p f q) l e z = absurd (f z)
+    none-found x (to-hub p f q t) l e z = absurd (f z)
+
+    -- a list of w entries is too short for the nodes found exactly where there is a route and w is less than report + 1
+    pub found-longer : (x : Answer) → Chosen-here (answered x) → (l : List ℕ) → nodes n s G full low a b (x .route) ≡ some l
+        → (w : ℕ) → (w < length l) ↔ ((x .report ≡ none → ⊥) × (w < x .report + 1))
+    found-longer x c l e w = at (eq-or (x .report) none)
+      where
+        at : (x .report ≡ none) ⊎ (x .report ≡ none → ⊥) → (w < length l) ↔ ((x .report ≡ none → ⊥) × (w < x .report + 1))
+        at (inl z) = (λ h. absurd (omega (arith, none-found x c l e z)), λ h. absurd (h .0 z))
+        at (inr m) =
+            let k = subst (λ (o : Option (List ℕ)). Sound (linked n G) (x .report) a b o) e (route-sound x c m) .1 in
+            (λ h. (m, omega (arith, k)), λ h. omega (arith, k, h .1))
+
+    -- whatever hubs are taken and whatever the tables hold, a walk given out is a chain of as many links as reported
+    pub walk-given-out : (w : ℕ) → Given-out (linked n G) a b w (walkOf w n s G full low a b (pairBy isHub n full low report a b))
+    unfolding pairBy walkOf nodes refuseWalk
+    walk-given-out w = at (chosen a b (entry n report a b) (entry n low a b) (attaining isHub n full a b (entry n report a b)))
+      where
+        fitted : (x : Answer) → Chosen-here (answered x) → (x .report ≡ none → ⊥) → Given-out (linked n G) a b w (fit w x (nodes n s G full low a b (x .route)))
+        fitted x c m = fit-outcome (linked n G) a b w x (nodes n s G full low a b (x .route)) (route-sound x c m)
+
+        some-zero : 0 ≡ none → ⊥
+        some-zero e = omega arith
+
+        at : {q : Outcome Answer} → Chosen-here q → Given-out (linked n G) a b w (walkOf w n s G full low a b q)
+        at (to-itself e z) = fitted _ (to-itself e z) some-zero
+        at (to-none x e) = fit-none (linked n G) a b w
+        at (to-low x f e) = fitted _ (to-low x f e) f
+        at (to-hub x f y z) = fitted _ (to-hub x f y z) f
+        at (bad-itself e f) = refusal 11
+        at (bad-hub x f y z) = refusal 11

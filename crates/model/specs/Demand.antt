@@ -12,7 +12,7 @@ use Rattle.model.specs.declared.Verdict.{Verdict}
 use Rattle.model.specs.declared.Verdict.the-variants.{Parted, Long, Short}
 use Rattle.model.specs.Answers.{Outcome, answered}
 use Rattle.model.specs.Basics.{none}
-use Rattle.model.specs.Graph.{Edges, Unjoined, Fewest, Walked}
+use Rattle.model.specs.Graph.{Edges, Chain, Unjoined, Fewest, Walked}
 use Rattle.model.specs.declared.Size.{Size}
 use Rattle.model.specs.SurveyText.{surveyText}
 use Rattle.model.specs.Survey.{neighboursOf, linked, Accepted}
@@ -41,10 +41,11 @@ pub record AllowedAnswer (E : Edges) (a b : ℕ) (o : Outcome Answer) : Type 0 w
   pub given : o ≡ answered value
   pub allowed : Allowed E a b (value .report)
 
--- the first r + 1 entries of a list are a walk: a first, b last, each linked to the next
+-- the first r + 1 entries of a list are a walk, a chain of r links: a first, b last, each linked to the next
 pub record IsWalk (E : Edges) (a b r : ℕ) (list : List ℕ) : Type 0 where
   pub links : Walked E (take (r + 1) list) a b
   pub count : length (take (r + 1) list) ≡ r + 1
+  pub chain : Chain E r a b
 
 -- a walk that is given out is a chain of the links, of exactly the reported length
 abbrev pub WalkSound : Edges → (a b : ℕ) → Walking → Type 0

@@ -28,7 +28,8 @@ Unjoined E a b = (k : ℕ) → Chain E k a b → ⊥
 abbrev pub Fewest : Edges → ℕ → ℕ → ℕ → Type 0
 Fewest E a b d = Chain E d a b × ((k : ℕ) → Chain E k a b → d ≤ k)
 
--- the nodes of the list l are a chain: a first, b last, each linked to the next
+-- a chain as the list of its nodes: a first, b last, each linked to the next. It "has one link fewer than nodes, so a node alone is a
+-- chain of no links" (`walked-chain` and `chain-walked` of proofs/Chains.antt)
 pub data Walked (E : Edges) : List ℕ → ℕ → ℕ → Type 0 where
   stop : {a : ℕ} → Walked E (a ∷ []) a a
   go : {a b c : ℕ} {l : List ℕ} → T (E a b) → Walked E l b c → Walked E (a ∷ l) a c
