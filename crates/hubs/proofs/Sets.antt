@@ -15,7 +15,7 @@ use Rattle.model.specs.Hubs.{isHigh, isLow, closed, gain}
 use Rattle.model.proofs.Tests.{and-r, eq-or}
 use Rattle.model.proofs.Lists.{of-cons, has-keep, has-upTo, of-upTo, keep-same, keep-keep, keep-none, keep-below, First, found, nothing, first-below}
 use Rattle.model.proofs.Loops.{drop-next}
-use Rattle.nodeset.specs.NodeSet.{Nodes, member, nobody, with, both, without}
+use Rattle.nodeset.specs.NodeSet.{Nodes, member, emptySet, with, both, without}
 use Rattle.nodeset.proofs.Bits.{empty-words}
 use Rattle.nodeset.proofs.Words.{ltb-same, past-smallest}
 
@@ -28,7 +28,7 @@ pub record HighBelow (s : ℕ) (G : Graph) (ws : List ℕ) (v : ℕ) : Type 0 wh
 
 module _ (s : ℕ) (G : Graph) (ws : List ℕ) where
   pub high-none : ws ≡ replicate 16 0 → HighBelow s G ws 0
-  unfolding nobody
+  unfolding emptySet
   high-none e = record {
     long = ap length e;
     says = ap member e ∙ empty-words 16 ∙ fun-ext (λ x. sym (ap (λ (t : Bool). t && isHigh s G x) (le-ltb x 0 (omega arith))));
@@ -113,7 +113,7 @@ module _ (n : ℕ) (starts neighbours : List ℕ) (a : Accepted n starts neighbo
   -- the node, and then its neighbours
   pub closed-words : (w₀ w₁ w₂ row : List ℕ) → w₀ ≡ replicate 16 0 → member w₁ ≡ with (member w₀) v
       → row ≡ neighboursOf starts neighbours v → member w₂ ≡ (λ x. has x row || member w₁ x) → member w₂ ≡ (λ x. has x (closed (neighboursOf starts neighbours) v))
-  unfolding closed has with nobody
+  unfolding closed has with emptySet
   closed-words w₀ w₁ w₂ row e p r q =
       q ∙ fun-ext (λ x.
       ap₂ (λ (l : List ℕ) (m : Nodes). has x l || m x) r (p ∙ ap (λ (m : Nodes). with m v) (ap member e ∙ empty-words 16))

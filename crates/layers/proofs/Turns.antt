@@ -16,7 +16,7 @@ use Rattle.model.proofs.Chains.{stay, step}
 use Rattle.model.proofs.Entries.{getD-row, length-row}
 use Rattle.model.proofs.Lists.{none-in, of-single, any-of, of-any, has-keep, of-keep, has-upTo, of-upTo, First, found, nothing, first-below, first-is, keep-none}
 use Rattle.model.proofs.Tests.{and-l, and-r, and-i, or-l, or-r, or-e, passes, no-false, false-no, T-false, same-test, eq-or}
-use Rattle.nodeset.specs.NodeSet.{Nodes, member, nobody, with, both, without}
+use Rattle.nodeset.specs.NodeSet.{Nodes, member, emptySet, with, both, without}
 use Rattle.nodeset.proofs.Bits.{empty-words}
 use Rattle.layers.specs.Marks.{marked}
 use Rattle.layers.proofs.Marks.{marked-length, marked-in, marked-out}
@@ -81,7 +81,7 @@ module _ (E : Edges) (n s : ℕ) where
 
   pub turn-start : (row : List ℕ) (f u₀ u : Nodes) → row ≡ replicate n none → f ≡ with (member (replicate 16 0)) s
       → u₀ ≡ (λ v. ltb v n) → u ≡ without u₀ (λ x. eqb x s) → Turn 0 row f u (member (replicate 16 0))
-  unfolding before reach has any upTo from firstOf with without nobody
+  unfolding before reach has any upTo from firstOf with without emptySet
   turn-start row f u₀ u r e a b = record {
     size = ap length r ∙ length-replicate n none;
     known = λ x h. ap (λ (l : List ℕ). getD l x 0) r ∙ getD-replicate n x none 0 h;
