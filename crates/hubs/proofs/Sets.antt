@@ -2,7 +2,7 @@
 -- Assumes nothing.
 use mathlib.Core.Path.{_≡_, refl, sym, ap, ap₂, _∙_, subst, fun-ext}
 use mathlib.Core.Logic.{⊎-elim}
-use mathlib.Core.Bool.{Bool, true, false, not, _&&_, _||_, and-comm, and-false}
+use mathlib.Core.Bool.{Bool, true, false, not, _&&_, _||_, and-comm, and-false, or-comm, or-false}
 use mathlib.Core.List.{List, []}
 use Prim.Native.Nat.{ℕ, _+_, _*_, _≤_, _<_}
 use native.Mathlib.Omega.{arith}
@@ -117,13 +117,8 @@ module _ (n : ℕ) (starts neighbours : List ℕ) (a : Accepted n starts neighbo
   closed-words w₀ w₁ w₂ row e p r q =
       q ∙ fun-ext (λ x.
       ap₂ (λ (l : List ℕ) (m : Nodes). has x l || m x) r (p ∙ ap (λ (m : Nodes). with m v) (ap member e ∙ empty-words 16))
-      ∙ turned (has x (G v)) (eqb x v))
-    where
-      turned : (b c : Bool) → (b || (c || false)) ≡ (c || b)
-      turned true true = refl
-      turned true false = refl
-      turned false true = refl
-      turned false false = refl
+      ∙ ap (λ (b : Bool). has x (G v) || b) (or-false (eqb x v))
+      ∙ or-comm (has x (G v)) (eqb x v))
 
   -- what it has in common with the uncovered nodes is the gain
   pub gain-words : (ws us : List ℕ) → length ws ≡ 16 → member ws ≡ (λ x. has x (closed (neighboursOf starts neighbours) v))

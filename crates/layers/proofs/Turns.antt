@@ -2,7 +2,7 @@
 -- Assumes nothing.
 use mathlib.Core.Path.{_≡_, refl, sym, ap, ap₂, _∙_, subst, fun-ext}
 use mathlib.Core.Logic.{_⊎_, inl, inr, ⊎-elim}
-use mathlib.Core.Bool.{Bool, true, false, not, _&&_, _||_, and-true}
+use mathlib.Core.Bool.{Bool, true, false, not, _&&_, _||_, and-true, or-false}
 use mathlib.Core.List.{List, [], map}
 use Prim.Native.Nat.{ℕ, zero, suc, _+_, _-_, _≤_, _<_, zero-le}
 use native.Mathlib.Numerals.{add-one}
@@ -86,13 +86,9 @@ module _ (E : Edges) (n s : ℕ) where
     size = ap length r ∙ length-replicate n none;
     known = λ x h. ap (λ (l : List ℕ). getD l x 0) r ∙ getD-replicate n x none 0 h;
     front = λ x. ap (λ (p : Nodes). p x) e ∙ ap (λ (p : Nodes). eqb x s || p x) (empty-words 16) ∙ sym (and-true (eqb x s || false));
-    left = λ x. ap (λ (p : Nodes). p x) b ∙ ap (λ (p : Nodes). p x && not (eqb x s)) a ∙ ap (λ (c : Bool). ltb x n && not c) (alone (eqb x s));
+    left = λ x. ap (λ (p : Nodes). p x) b ∙ ap (λ (p : Nodes). p x && not (eqb x s)) a ∙ ap (λ (c : Bool). ltb x n && not c) (sym (or-false (eqb x s)));
     joined = λ x. ap (λ (p : Nodes). p x) (empty-words 16);
   }
-    where
-      alone : (c : Bool) → c ≡ (c || false)
-      alone true = refl
-      alone false = refl
 
   module _ (start : s < n) (few : n ≤ 1024) where
     inside : (k x : ℕ) → T (has x (reach E n s k)) → x < n
