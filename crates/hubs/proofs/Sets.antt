@@ -171,3 +171,7 @@ low-set n s G all high low a h l =
     at : (x y : Bool) → (x && not (x && y)) ≡ (x && not y)
     at true y = refl
     at false y = refl
+
+-- below n, the set's members are the low nodes
+pub low-are : (n s : ℕ) (G : Graph) (p : ℕ → Bool) → p ≡ (λ v. ltb v n && isLow s G v) → (v : ℕ) → v < n → p v ≡ isLow s G v
+low-are n s G p e v h = ap (λ (f : ℕ → Bool). f v) e ∙ rw (lt-ltb v n h) refl

@@ -30,7 +30,8 @@ use Rattle.model.proofs.Entries.{length-row}
 use Rattle.model.proofs.TableLaws.{all-allowed}
 use Rattle.model.proofs.Lists.{First, found, nothing, first-below, first-most, first-is, of-cons}
 use Rattle.model.proofs.Loops.{drop-next}
-use Rattle.model.proofs.Tests.{and-r, and-i, eq-or, lt-or}
+use Rattle.model.proofs.Tests.{eq-or, lt-or}
+use Rattle.hubs.proofs.Sets.{low-are}
 use Rattle.verdict.specs.Depth.{greatest, distances, ofDepth}
 
 -- ---- the greatest number
@@ -154,10 +155,7 @@ search-none n G hs i most size e h =
 
 module _ (n s : ℕ) (G : Graph) (size : n ≤ 1024) (p : ℕ → Bool) (is : p ≡ (λ v. ltb v n && isLow s G v)) where
   in-set : (v : ℕ) → v < n → T (isLow s G v) → T (p v)
-  in-set v h t = subst (λ (q : ℕ → Bool). T (q v)) (sym is) (and-i (ltb v n) (isLow s G v) (subst T (sym (lt-ltb v n h)) tt) t)
-
-  of-set : (v : ℕ) → T (p v) → T (isLow s G v)
-  of-set v t = and-r (ltb v n) (isLow s G v) (subst (λ (q : ℕ → Bool). T (q v)) is t)
+  in-set v h t = subst T (sym (low-are n s G p is v h)) t
 
   module _ (k r : ℕ) (wide : n ≤ k) (e : r ≡ firstOf p k (upTo k)) where
     first : First p k 0 k r
@@ -168,7 +166,7 @@ module _ (n s : ℕ) (G : Graph) (size : n ≤ 1024) (p : ℕ → Bool) (is : p 
     low-first h = at first
       where
         at : First p k 0 k r → firstOf (isLow s G) none (upTo n) ≡ r
-        at (found lo hi t least) = first-is (isLow s G) none n r h (of-set r t) (λ y l q. least y (omega arith) l (in-set y (omega arith) q))
+        at (found lo hi t least) = first-is (isLow s G) none n r h (subst T (low-are n s G p is r h) t) (λ y l q. least y (omega arith) l (in-set y (omega arith) q))
         at (nothing d least) = absurd (omega arith)
 
     -- there is no low node
