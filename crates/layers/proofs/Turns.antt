@@ -7,7 +7,7 @@ use mathlib.Core.List.{List, [], map}
 use Prim.Native.Nat.{ℕ, zero, suc, _+_, _-_, _≤_, _<_, zero-le}
 use native.Mathlib.Numerals.{add-one}
 use native.Mathlib.Omega.{arith}
-use lib.Dec.{T, eqb, ltb, lt→ltb, ltb→lt}
+use lib.Dec.{T, eqb, ltb, not-T, lt→ltb, ltb→lt}
 use lib.ListN.{length, getD, replicate, length-replicate, getD-replicate}
 use lib.Seq.{ext-getD}
 use Rattle.model.specs.Basics.{none, from, upTo, has, any, keep, firstOf}
@@ -105,7 +105,7 @@ module _ (E : Edges) (n s : ℕ) where
           )
 
       of-front : (x : ℕ) → T (has x (reach E n s k)) → (T (has x (before k)) → ⊥) → T (f x)
-      of-front x t h = subst T (sym (m .front x)) (and-i (has x (reach E n s k)) (not (has x (before k))) t (subst (λ (b : Bool). T (not b)) (sym (no-false (has x (before k)) h)) tt))
+      of-front x t h = subst T (sym (m .front x)) (and-i (has x (reach E n s k)) (not (has x (before k))) t (not-T (has x (before k)) h))
 
       pub front-inside : (x : ℕ) → T (f x) → x < length row
       front-inside x t = rw (m .size) (inside k x (in-front x t .0))
