@@ -11,21 +11,20 @@ use lib.Dec.{T, eqb, ltb}
 use lib.ListN.{length, getD, take, drop, set, drop-of-length-le, length-append, length-drop, length-take}
 use lib.Seq.{take-at}
 use Rattle.lists.specs.Writing.{Wrote, written}
-use Rattle.model.specs.Basics.{none, if_then_else_, upTo, has, any, firstOf, gather}
+use Rattle.model.specs.Basics.{none, if_then_else_, upTo, any, firstOf, gather}
 use Rattle.model.specs.declared.Verdict.{Verdict}
 use Rattle.model.specs.declared.Verdict.the-variants.{Parted, Long, Short}
 use Rattle.model.specs.Graph.{Edges, between, fewest}
 use Rattle.model.specs.declared.Refusal.{Refusal}
 use Rattle.model.specs.declared.Tested.{Tested}
 use Rattle.model.specs.Answers.{Outcome, refused, answered, number}
-use Rattle.model.specs.Survey.{Graph, neighboursOf, linked, accepting, IsGraph, Accepted}
+use Rattle.model.specs.Survey.{Graph, neighboursOf, linked, accepting, Accepted}
 use Rattle.model.specs.Threshold.{threshold}
 use Rattle.model.specs.Testing.{testingOf, testing}
 use Rattle.model.specs.Demand.{RightVerdict}
 use Rattle.model.specs.Hubs.{isLow, closed, hubs}
 use Rattle.model.specs.TwoOrFour.{sources, verdictOf, tested}
 use Rattle.model.proofs.Demand.{testing-right}
-use Rattle.model.proofs.Covering.{hubs-below}
 use Rattle.model.proofs.Entries.{length-row}
 use Rattle.model.proofs.TableLaws.{all-allowed}
 use Rattle.model.proofs.Lists.{First, found, nothing, first-below, first-most, first-is, of-cons}
@@ -185,20 +184,6 @@ module _ (n s : ℕ) (G : Graph) (size : n ≤ 1024) (p : ℕ → Bool) (is : p 
     pub sources-hubs : n ≤ r → sources n s G ≡ hubs n s G
     unfolding sources
     sources-hubs h = ap (λ (v : ℕ). if eqb v none then hubs n s G else closed G v) (low-missing h)
-
--- the sources are nodes
-pub sources-below : (n s : ℕ) (G : Graph) → IsGraph n G → n ≤ 1024 → (h : ℕ) → T (has h (sources n s G)) → h < n
-unfolding sources closed
-sources-below n s G g size h = at (first-below (isLow s G) none n)
-  where
-    at : {x : ℕ} → First (isLow s G) none 0 n x → T (has h (if eqb x none then hubs n s G else (x ∷ G x))) → h < n
-    at {x} (found lo hi t least) m =
-        own x hi (of-cons h x (G x) (subst (λ (b : Bool). T (has h (if b then hubs n s G else (x ∷ G x)))) (ne-eqb x none (λ q. omega arith)) m))
-      where
-        own : (x : ℕ) → x < 0 + n → (h ≡ x) ⊎ T (has h (G x)) → h < n
-        own x hi (inl q) = omega arith
-        own x hi (inr q) = g .below x h (omega arith) q
-    at {x} (nothing d least) m = hubs-below n G s h (subst (λ (b : Bool). T (has h (if b then hubs n s G else (x ∷ G x)))) (eq-eqb x none d) m)
 
 -- a node and then a list, in front of the list lent
 pub two-written : (x x′ t : List ℕ) (v e : ℕ) → 1 + length t ≤ length x → Wrote (set x 0 v) x′ 1 e t → take (1 + length t) x′ ≡ v ∷ t
