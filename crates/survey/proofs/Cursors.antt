@@ -8,13 +8,13 @@ use mathlib.Core.List.{List, [], _∷_, _++_, append-assoc, append-nil}
 use Prim.Native.Nat.{ℕ, zero, suc, _+_, _-_, _/_, _%_, _≤_, _<_}
 use native.Mathlib.Nat.{add-zero}
 use native.Mathlib.Omega.{arith}
-use borrow.Author.Tests.{leb-true, leb-false, ltb-true, ltb-false}
+use borrow.Author.Tests.{leb-true, leb-false, ltb-true, ltb-false, eqb-true, eqb-false}
 use lib.Dec.{T, eqb, ltb, leb, ltb→lt, lt→ltb}
 use lib.ListN.{length, getD, take, drop, length-set, length-take, length-drop}
 use lib.Seq.{getD-take, getD-drop, getD-set-same, getD-set-other, take-suc, take-add, drop-drop}
 use Rattle.model.specs.Basics.{if_then_else_, upTo, has, keep}
 use Rattle.model.specs.Survey.{Graph, neighboursOf, ascending, IsSurvey}
-use Rattle.model.proofs.Tests.{is, isnt, lt-or, eq-or}
+use Rattle.model.proofs.Tests.{lt-or, eq-or}
 use Rattle.model.proofs.Lists.{has-head, has-tail, none-in, of-single, has-append, has-later, of-append, has-keep, of-keep, keep-same, keep-length}
 use Rattle.model.proofs.Ascending.{ascending-above, ascending-cons, ascending-tail, ascending-keep, keep-of-ascending, standing, ascending-front}
 use Rattle.survey.specs.Rows.{Rows}
@@ -335,10 +335,10 @@ module _ (n : ℕ) (starts neighbours : List ℕ) (ok : Rows n starts neighbours
 
           fourth : b < x → x < n → getD cs x 0 < S n → (c : Bool) → B ≡ c → Rec → RowEnd v row (R c)
           fourth l h f true q rec =
-              let step = within-next v b done cs w x l h (omega arith) f (is (getD neighbours (getD cs x 0) 0) v q) in
+              let step = within-next v b done cs w x l h (omega arith) f (eqb-true (getD neighbours (getD cs x 0) 0) v q) in
               rec (done ++ x ∷ []) x (moved x cs) (e ∙ sym (append-assoc done (x ∷ []) xs)) (omega (arith, length-moved x cs)) step
           fourth l h f false q rec =
-              stuck (R false) (spoiled neighbours (S n) n v x xs (moved x cs)) (λ s. isnt (getD neighbours (getD cs x 0) 0) v q (next-stands s b x done xs cs e w .1))
+              stuck (R false) (spoiled neighbours (S n) n v x xs (moved x cs)) (λ s. eqb-false (getD neighbours (getD cs x 0) 0) v q (next-stands s b x done xs cs e w .1))
 
           third : b < x → x < n → (c : Bool) → leb (S n) (getD cs x 0) ≡ c → Rec → RowEnd v row (if c then pass false cs else R B)
           third l h true q rec = stuck (pass false cs) refl (λ s. let g = next-stands s b x done xs cs e w .0 in let f = leb-true (S n) (getD cs x 0) q in omega arith)
