@@ -12,8 +12,8 @@ use lib.ListN.{length, getD, drop, replicate, drop-of-length-le}
 use Rattle.model.specs.Basics.{upTo, has, keep, firstOf}
 use Rattle.model.specs.Survey.{Graph, Accepted, neighboursOf}
 use Rattle.model.specs.Hubs.{isHigh, isLow, closed, gain}
-use Rattle.model.proofs.Tests.{and-r, eq-or}
-use Rattle.model.proofs.Lists.{of-cons, has-keep, has-upTo, of-upTo, keep-same, keep-keep, keep-none, keep-below, First, found, nothing, first-below}
+use Rattle.model.proofs.Tests.{and-r, or-turned, eq-or}
+use Rattle.model.proofs.Lists.{of-cons, has-keep, has-upTo, of-upTo, keep-same, keep-keep, keep-none, keep-below, First, found, nothing, first-of}
 use Rattle.model.proofs.Loops.{drop-next}
 use Rattle.nodeset.specs.NodeSet.{Nodes, member, emptySet, with, both, without}
 use Rattle.nodeset.proofs.Bits.{empty-words}
@@ -83,15 +83,9 @@ module _ (list w₀ : List ℕ) where
       same = k ∙ h .same;
       says = λ x.
           ap (λ (p : Nodes). has x (drop (i + 1) list) || p x) e
-          ∙ swap (has x (drop (i + 1) list)) (eqb x (getD list i 0)) (member ws x)
+          ∙ or-turned (has x (drop (i + 1) list)) (eqb x (getD list i 0)) (member ws x)
           ∙ ap (λ (r : List ℕ). has x r || member ws x) (sym (drop-next list i l)) ∙ h .says x;
     }
-      where
-        swap : (a b c : Bool) → (a || (b || c)) ≡ ((b || a) || c)
-        swap true true c = refl
-        swap true false c = refl
-        swap false true c = refl
-        swap false false c = refl
 
     pub inserted-all : length list ≤ i → member ws ≡ (λ x. has x list || member w₀ x)
     unfolding has
@@ -137,11 +131,8 @@ module _ (n : ℕ) (starts neighbours : List ℕ) (a : Accepted n starts neighbo
 
 -- where the smallest member is below n, some node is uncovered; where it is not, none is
 module _ (n : ℕ) (us : List ℕ) (long : length us ≡ 16) (size : n ≤ 1024) (r : ℕ) (e : r ≡ firstOf (member us) (64 * length us) (upTo (64 * length us))) where
-  smallest-is : First (member us) (64 * length us) 0 (64 * length us) r
-  smallest-is = subst (λ (k : ℕ). First (member us) (64 * length us) 0 (64 * length us) k) (sym e) (first-below (member us) (64 * length us) (64 * length us))
-
   pub some-left : r < n → T (has r (keep (member us) (upTo n)))
-  some-left h = at smallest-is
+  some-left h = at (first-of (member us) (64 * length us) (64 * length us) e)
     where
       at : First (member us) (64 * length us) 0 (64 * length us) r → T (has r (keep (member us) (upTo n)))
       at (found lo hi t least) = has-keep (member us) (upTo n) r (has-upTo n r h) t

@@ -1,7 +1,7 @@
 -- The two lists of a graph: they give each node's neighbours back, and a survey's lists are those of its own graph.
 -- Assumes nothing.
 use mathlib.Core.Path.{_≡_, refl, sym, ap, ap₂, _∙_, subst}
-use mathlib.Core.List.{List, [], _∷_, _++_, map, append-assoc, append-nil}
+use mathlib.Core.List.{List, _∷_, _++_, map, append-assoc}
 use Prim.Native.Nat.{ℕ, zero, suc, _+_, _-_, _≤_, _<_}
 use native.Mathlib.Nat.{add-zero}
 use native.Mathlib.Numerals.{add-one}
@@ -11,7 +11,7 @@ use lib.Seq.{take-at, drop-at, take-add, getD-take, ext-getD}
 use Rattle.model.specs.Basics.{from, upTo, gather}
 use Rattle.model.specs.Survey.{Graph, neighboursOf, IsSurvey}
 use Rattle.model.specs.Reading.{startsOf, neighboursFrom}
-use Rattle.model.proofs.Lists.{gather-append, gather-same, upTo-suc, from-split, of-upTo}
+use Rattle.model.proofs.Lists.{gather-append, gather-same, gather-suc, from-split, of-upTo}
 use Rattle.model.proofs.Entries.{getD-row, length-row}
 
 -- how many neighbours the nodes below v have
@@ -23,12 +23,8 @@ unfolding total upTo from gather
 total-zero G = refl
 
 pub total-suc : (G : Graph) (v : ℕ) → total G (suc v) ≡ total G v + length (G v)
-unfolding total gather
-total-suc G v =
-    ap (λ (l : List ℕ). length (gather G l)) (upTo-suc v)
-    ∙ ap length (gather-append G (upTo v) (v ∷ []))
-    ∙ length-append (gather G (upTo v)) (G v ++ [])
-    ∙ ap (λ (l : List ℕ). total G v + length l) (append-nil (G v))
+unfolding total
+total-suc G v = ap length (gather-suc G v) ∙ length-append (gather G (upTo v)) (G v)
 
 pub starts-length : (n : ℕ) (G : Graph) → length (startsOf n G) ≡ n + 1
 unfolding startsOf
@@ -110,9 +106,8 @@ module _ (n : ℕ) (starts neighbours : List ℕ) (s : IsSurvey n starts neighbo
       let own : List ℕ = take (b - a) (drop a neighbours) in
       let r = s .rising v h in
       let e : a + (b - a) ≡ b = omega arith in
-      ap (gather (neighboursOf starts neighbours)) (upTo-suc v)
-      ∙ gather-append (neighboursOf starts neighbours) (upTo v) (v ∷ [])
-      ∙ ap₂ (λ (x y : List ℕ). x ++ y) (front v (omega arith)) (append-nil own)
+      gather-suc (neighboursOf starts neighbours) v
+      ∙ ap (λ (x : List ℕ). x ++ own) (front v (omega arith))
       ∙ sym (take-add a (b - a) neighbours)
       ∙ ap (λ (k : ℕ). take k neighbours) (e ∙ ap (λ (k : ℕ). getD starts k 0) (add-one v))
 

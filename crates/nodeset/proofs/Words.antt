@@ -16,7 +16,7 @@ use lib.Pow.{pow-pos}
 use lib.Seq.{getD-set-same, getD-set-other}
 use Rattle.model.specs.Basics.{if_then_else_, from, upTo, keep, firstOf}
 use Rattle.model.proofs.Tests.{picked, lt-or, eq-or}
-use Rattle.model.proofs.Lists.{First, found, nothing, first-below, keep-append, keep-length, length-upTo, upTo-add}
+use Rattle.model.proofs.Lists.{First, found, nothing, first-of, keep-append, keep-length, length-upTo, upTo-add}
 use Rattle.model.proofs.Loops.{below-next}
 use Rattle.nodeset.specs.NodeSet.{Nodes, bit, member, emptySet, both, without, membersFrom}
 use Rattle.nodeset.proofs.Bits.{bit-and, bit-not, bit-zero, bit-suc, bit-of-zero, word-bit, empty-words, shifted}
@@ -187,7 +187,7 @@ module _ (ws : List ℕ) (i : ℕ) (c : Clear ws i) where
 pub past-smallest : (n : ℕ) (ws : List ℕ) → n ≤ 64 * length ws → (r : ℕ) → r ≡ firstOf (member ws) (64 * length ws) (upTo (64 * length ws)) → n ≤ r
     → (x : ℕ) → x < n → T (member ws x) → ⊥
 past-smallest n ws long r e h x l t =
-    at (subst (λ (k : ℕ). First (member ws) (64 * length ws) 0 (64 * length ws) k) (sym e) (first-below (member ws) (64 * length ws) (64 * length ws)))
+    at (first-of (member ws) (64 * length ws) (64 * length ws) e)
   where
     at : First (member ws) (64 * length ws) 0 (64 * length ws) r → ⊥
     at (found lo hi s least) = least x (omega arith) (omega arith) t

@@ -2,7 +2,7 @@
 -- Assumes nothing.
 use mathlib.Core.Path.{_≡_, sym, ap, _∙_, subst}
 use mathlib.Core.Bool.{Bool}
-use mathlib.Core.List.{List, [], _∷_, _++_, map, append-nil}
+use mathlib.Core.List.{List, [], _∷_, _++_, map}
 use Prim.Native.Nat.{ℕ, _+_, _-_, _*_, _≤_, _<_}
 use native.Mathlib.Numerals.{add-one}
 use native.Mathlib.Omega.{arith}
@@ -12,7 +12,7 @@ use Rattle.lists.proofs.Writing.{wrote-none, wrote-one, wrote-then, wrote-room,
 use Rattle.model.specs.Basics.{from, upTo, keep, gather, over}
 use Rattle.model.specs.Survey.{Graph}
 use Rattle.model.specs.Reading.{startsOf, neighboursFrom}
-use Rattle.model.proofs.Lists.{keep-append, gather-append, map-append, upTo-suc, upTo-add}
+use Rattle.model.proofs.Lists.{keep-append, gather-append, gather-suc, map-append, upTo-suc, upTo-add}
 use Rattle.model.proofs.Entries.{length-row}
 use Rattle.nodeset.specs.NodeSet.{bit, member, membersFrom}
 use Rattle.nodeset.proofs.Bits.{word-bit}
@@ -73,13 +73,8 @@ module _ (ws : List ℕ) (v : ℕ) (x₀ : List ℕ) (at : ℕ) where
 
 -- ---- both lists, row by row
 
-gather-suc : (G : Graph) (v : ℕ) → gather G (upTo (v + 1)) ≡ gather G (upTo v) ++ G v
-unfolding gather
-gather-suc G v =
-    ap (λ (k : ℕ). gather G (upTo k)) (add-one v)
-    ∙ ap (gather G) (upTo-suc v)
-    ∙ gather-append G (upTo v) (v ∷ [])
-    ∙ ap (λ (l : List ℕ). gather G (upTo v) ++ l) (append-nil (G v))
+gather-next : (G : Graph) (v : ℕ) → gather G (upTo (v + 1)) ≡ gather G (upTo v) ++ G v
+gather-next G v = ap (λ (k : ℕ). gather G (upTo k)) (add-one v) ∙ gather-suc G v
 
 gather-mono : (G : Graph) (v n : ℕ) → v ≤ n → length (gather G (upTo v)) ≤ length (gather G (upTo n))
 gather-mono G v n h =
@@ -133,7 +128,7 @@ module _ (G : Graph) (n : ℕ) (s₀ x₀ : List ℕ) (hs : n + 1 ≤ length s�
     module _ (h : v < n) where
       row-room : 0 + length (gather G (upTo v)) + length (G v) ≤ length x₀
       unfolding neighboursFrom
-      row-room = omega (arith, ap length (gather-suc G v) ∙ length-append (gather G (upTo v)) (G v), gather-mono G (v + 1) n (omega arith))
+      row-room = omega (arith, ap length (gather-next G v) ∙ length-append (gather G (upTo v)) (G v), gather-mono G (v + 1) n (omega arith))
 
       pub row-fits : pos + length (G v) ≤ length x
       row-fits = wrote-room (G v) row-room (l .neighbours)
@@ -142,7 +137,7 @@ module _ (G : Graph) (n : ℕ) (s₀ x₀ : List ℕ) (hs : n + 1 ≤ length s�
       lists-more x′ pos′ w = record {
         within = omega arith;
         starts = start-more;
-        neighbours = subst (λ (t : List ℕ). Wrote x₀ x′ 0 pos′ t) (sym (gather-suc G v)) (wrote-then row-room (l .neighbours) w);
+        neighbours = subst (λ (t : List ℕ). Wrote x₀ x′ 0 pos′ t) (sym (gather-next G v)) (wrote-then row-room (l .neighbours) w);
       }
 
     -- after the last node, with its start behind the others

@@ -2,7 +2,7 @@
 -- Assumes nothing.
 use mathlib.Core.Path.{_≡_, refl, sym, ap, ap₂, _∙_, subst}
 use mathlib.Core.Logic.{_⊎_, inl, inr}
-use mathlib.Core.Bool.{Bool, _&&_, _||_, or-assoc}
+use mathlib.Core.Bool.{Bool, _&&_, _||_}
 use mathlib.Core.List.{List, [], _∷_, _++_, map}
 use Prim.Native.Nat.{ℕ, _+_, _≤_, _<_, max}
 use native.Mathlib.Omega.{arith}
@@ -27,7 +27,7 @@ use Rattle.model.specs.TwoOrFour.{sources, verdictOf, tested}
 use Rattle.model.proofs.Demand.{testing-right}
 use Rattle.model.proofs.Entries.{length-row}
 use Rattle.model.proofs.TableLaws.{all-allowed}
-use Rattle.model.proofs.Lists.{First, found, nothing, first-below, first-most, first-is, of-cons}
+use Rattle.model.proofs.Lists.{any-append, First, found, nothing, first-below, first-of, first-most, first-is}
 use Rattle.model.proofs.Loops.{drop-next}
 use Rattle.model.proofs.Tests.{eq-or, lt-or}
 use Rattle.hubs.proofs.Sets.{low-are}
@@ -58,11 +58,6 @@ is-none x h = at (eq-or x none)
     at : (x ≡ none) ⊎ (x ≡ none → ⊥) → eqb x none ≡ ltb 65534 x
     at (inl e) = eq-eqb x none e ∙ sym (lt-ltb 65534 x (omega arith))
     at (inr d) = ne-eqb x none d ∙ sym (le-ltb 65534 x (omega arith))
-
-any-append : (p : ℕ → Bool) (k l : List ℕ) → any p (k ++ l) ≡ (any p k || any p l)
-unfolding any
-any-append p [] l = refl
-any-append p (x ∷ k) l = ap (λ (b : Bool). p x || b) (any-append p k l) ∙ sym (or-assoc (p x) (any p k) (any p l))
 
 any-map : (p : ℕ → Bool) (f : ℕ → ℕ) (l : List ℕ) → any p (map f l) ≡ any (λ x. p (f x)) l
 unfolding any
@@ -157,12 +152,9 @@ module _ (n s : ℕ) (G : Graph) (size : n ≤ 1024) (p : ℕ → Bool) (is : p 
   in-set v h t = subst T (sym (low-are n s G p is v h)) t
 
   module _ (k r : ℕ) (wide : n ≤ k) (e : r ≡ firstOf p k (upTo k)) where
-    first : First p k 0 k r
-    first = subst (λ (x : ℕ). First p k 0 k x) (sym e) (first-below p k k)
-
     -- the smallest low node
     pub low-first : r < n → firstOf (isLow s G) none (upTo n) ≡ r
-    low-first h = at first
+    low-first h = at (first-of p k k e)
       where
         at : First p k 0 k r → firstOf (isLow s G) none (upTo n) ≡ r
         at (found lo hi t least) = first-is (isLow s G) none n r h (subst T (low-are n s G p is r h) t) (λ y l q. least y (omega arith) l (in-set y (omega arith) q))
@@ -170,7 +162,7 @@ module _ (n s : ℕ) (G : Graph) (size : n ≤ 1024) (p : ℕ → Bool) (is : p 
 
     -- there is no low node
     pub low-missing : n ≤ r → firstOf (isLow s G) none (upTo n) ≡ none
-    low-missing h = at first (first-below (isLow s G) none n)
+    low-missing h = at (first-of p k k e) (first-below (isLow s G) none n)
       where
         at : First p k 0 k r → {x : ℕ} → First (isLow s G) none 0 n x → x ≡ none
         at (found lo hi t least) {x} (found l m q o) = absurd (least x (omega arith) (omega arith) (in-set x (omega arith) q))
