@@ -79,22 +79,20 @@ module _ (n : ℕ) (G H : Graph) (same : (v : ℕ) → v < n → G v ≡ H v) wh
       let b : i < n + 1 = omega (arith, length-row f (n + 1)) in
       getD-row f (n + 1) i 0 b ∙ ap length (gather-below i (omega arith)) ∙ sym (getD-row g (n + 1) i 0 b))
 
+-- starts that never fall rise up to the last
+module _ (n : ℕ) (starts : List ℕ) (rising : (v : ℕ) → v < n → getD starts v 0 ≤ getD starts (v + 1) 0) where
+  rises : (k v : ℕ) → v + k ≡ n → getD starts v 0 ≤ getD starts n 0
+  rises zero v e = subst (λ (x : ℕ). getD starts v 0 ≤ getD starts x 0) (sym (add-zero v) ∙ e) (omega arith)
+  rises (suc k) v e = omega (arith, rises k (v + 1) (omega arith), rising v (omega arith))
+
+  pub start-last : (v : ℕ) → v ≤ n → getD starts v 0 ≤ getD starts n 0
+  start-last v h = rises (n - v) v (omega arith)
+
 -- ---- a survey's lists are those of its graph
 
 module _ (n : ℕ) (starts neighbours : List ℕ) (s : IsSurvey n starts neighbours) where
   abbrev G : Graph
   G = neighboursOf starts neighbours
-
-  -- starts rise up to the last
-  rises : (k v : ℕ) → v + k ≡ n → getD starts v 0 ≤ getD starts n 0
-  rises zero v e = subst (λ (x : ℕ). getD starts v 0 ≤ getD starts x 0) (sym (add-zero v) ∙ e) (omega arith)
-  rises (suc k) v e =
-      let r = rises k (v + 1) (omega arith) in
-      let h = s .rising v (omega arith) in
-      omega arith
-
-  pub start-within : (v : ℕ) → v ≤ n → getD starts v 0 ≤ length neighbours
-  start-within v h = let r = rises (n - v) v (omega arith) in omega (arith, r, s .within)
 
   -- the neighbours of the nodes below v are the entries up to v's start
   pub front : (v : ℕ) → v ≤ n → gather (neighboursOf starts neighbours) (upTo v) ≡ take (getD starts v 0) neighbours
@@ -113,7 +111,7 @@ module _ (n : ℕ) (starts neighbours : List ℕ) (s : IsSurvey n starts neighbo
 
   pub own-total : (v : ℕ) → v ≤ n → total (neighboursOf starts neighbours) v ≡ getD starts v 0
   unfolding total
-  own-total v h = ap length (front v h) ∙ length-take (getD starts v 0) neighbours ∙ omega (arith, start-within v h)
+  own-total v h = ap length (front v h) ∙ length-take (getD starts v 0) neighbours ∙ omega (arith, start-last n starts (s .rising) v h, s .within)
 
   pub own-neighbours : neighboursFrom n (neighboursOf starts neighbours) ≡ take (getD starts n 0) neighbours
   unfolding neighboursFrom

@@ -19,7 +19,8 @@ use Rattle.model.proofs.Lists.{has-head, has-tail, none-in, of-single, has-appe
 use Rattle.model.proofs.Ascending.{ascending-above, ascending-cons, ascending-tail, ascending-keep, keep-of-ascending, standing, ascending-front}
 use Rattle.survey.specs.Rows.{Rows}
 use Rattle.survey.specs.Matching.{stands, moved, left, Pass, pass, matchRow, matchRows}
-use Rattle.survey.proofs.RowLaws.{part, own-length, start-last}
+use Rattle.model.proofs.SurveyLists.{start-last}
+use Rattle.survey.proofs.RowLaws.{part, own-length}
 
 -- ---- ascending lists
 
@@ -126,7 +127,7 @@ module _ (n : ℕ) (starts neighbours : List ℕ) (ok : Rows n starts neighbours
   pub upto-none : (cs : List ℕ) → ((x : ℕ) → x < n → getD cs x 0 ≡ getD starts x 0) → Upto 0 cs
   unfolding met Placed ascending
   upto-none cs e = record {
-    place = λ x h. (omega (arith, e x h), omega (arith, e x h, start-last n starts neighbours ok x (omega arith)));
+    place = λ x h. (omega (arith, e x h), omega (arith, e x h, start-last n starts (ok .rising) x (omega arith)));
     up = λ x l h. subst (λ (k : List ℕ). T (ascending k)) (sym (nothing x h)) tt;
     from = λ x w l h m. absurd (none-in w (subst (λ (k : List ℕ). T (has w k)) (nothing x h) m));
     into = λ x w l h g m. absurd (omega arith);
@@ -312,7 +313,7 @@ module _ (n : ℕ) (starts neighbours : List ℕ) (ok : Rows n starts neighbours
             let c : getD cs x 0 ≡ S x + k = omega (arith, p .0, sym (met-length cs x (p .1)) ∙ ap length t) in
             let l = own-length n starts neighbours ok x next-below in
             let in-row : S x + k < S (x + 1) = omega (arith, a .0) in
-            let z = start-last n starts neighbours ok (x + 1) (omega (arith, next-below)) in (
+            let z = start-last n starts (ok .rising) (x + 1) (omega (arith, next-below)) in (
               omega arith,
               ap (λ (j : ℕ). getD neighbours j 0) c ∙ own-at x k in-row ∙ a .1,
             )

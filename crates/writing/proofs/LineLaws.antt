@@ -21,7 +21,8 @@ use Rattle.model.proofs.Acceptance.{accepting-facts}
 use Rattle.model.proofs.Lists.{keep-append, map-append, gather-append, gather-gather}
 use Rattle.model.proofs.Loops.{drop-next, gather-next, gather-end}
 use Rattle.model.proofs.ReadBack.{writing-answers, write-short}
-use Rattle.survey.proofs.RowLaws.{rows-of, own-length, start-last}
+use Rattle.model.proofs.SurveyLists.{start-last}
+use Rattle.survey.proofs.RowLaws.{rows-of, own-length}
 use Rattle.writing.specs.Lines.{linesOf}
 
 -- ---- one line
@@ -113,7 +114,7 @@ module _ (n : ℕ) (starts neighbours : List ℕ) (acc : Accepted n starts neigh
   own-end v h = omega (arith, own-length n starts neighbours (rows-of acc) v h, acc .lists .rising v h)
 
   pub own-few : (v : ℕ) → v ≤ n → getD starts v 0 ≤ 32768
-  own-few v h = omega (arith, start-last n starts neighbours (rows-of acc) v h, acc .lists .links, acc .lists .even)
+  own-few v h = omega (arith, start-last n starts (acc .lists .rising) v h, acc .lists .links, acc .lists .even)
 
   module _ (total v : ℕ) where
     pub text-none : (letter-line : total ≡ length (lineOf 83 n (getD starts n 0 / 2))) → total ≤ 24 → Counted total (1 + getD starts 0 0) text (rowsFrom n G 0)
