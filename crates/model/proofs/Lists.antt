@@ -156,7 +156,7 @@ pub first-below : (p : ℕ → Bool) (d n : ℕ) → First p d 0 n (firstOf p d 
 unfolding upTo
 first-below p d n = first-from p d 0 n
 
--- the same of what is found under another name
+-- the same for a number that is known to be the one found
 pub first-of : (p : ℕ → Bool) (d n : ℕ) {r : ℕ} → r ≡ firstOf p d (upTo n) → First p d 0 n r
 first-of p d n e = subst (λ (x : ℕ). First p d 0 n x) (sym e) (first-below p d n)
 

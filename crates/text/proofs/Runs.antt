@@ -40,7 +40,7 @@ run-nil = refl
 
 -- by whether the first byte is a digit
 run-cases : (P : List ℕ → Type 0) (b : ℕ) (t : List ℕ) → (T (isDigit b) → P (b ∷ run t)) → (T (not (isDigit b)) → P []) → P (run (b ∷ t))
-run-cases P b t f g = ⊎-elim (λ d. subst P (sym (run-digit b t d)) (f d)) (λ f. let d = not-T (isDigit b) f in subst P (sym (run-stop b t d)) (g d)) (passes (isDigit b))
+run-cases P b t f g = ⊎-elim (λ d. subst P (sym (run-digit b t d)) (f d)) (λ no. let d = not-T (isDigit b) no in subst P (sym (run-stop b t d)) (g d)) (passes (isDigit b))
 
 pub run-all : (t : List ℕ) → Digits (run t)
 unfolding all
