@@ -2,7 +2,7 @@
 -- Assumes nothing.
 use mathlib.Core.Path.{_≡_, refl, sym, ap, ap₂, _∙_, subst, fun-ext}
 use mathlib.Core.Logic.{⊎-elim}
-use mathlib.Core.Bool.{Bool, true, false, not, _&&_, _||_, and-comm, and-false}
+use mathlib.Core.Bool.{Bool, true, false, not, _&&_, _||_, and-comm, and-false, or-comm, or-false}
 use mathlib.Core.List.{List, []}
 use Prim.Native.Nat.{ℕ, _+_, _*_, _≤_, _<_}
 use native.Mathlib.Omega.{arith}
@@ -12,10 +12,10 @@ use lib.ListN.{length, getD, drop, replicate, drop-of-length-le}
 use Rattle.model.specs.Basics.{upTo, has, keep, firstOf}
 use Rattle.model.specs.Survey.{Graph, Accepted, neighboursOf}
 use Rattle.model.specs.Hubs.{isHigh, isLow, closed, gain}
-use Rattle.model.proofs.Tests.{and-r, eq-or}
-use Rattle.model.proofs.Lists.{of-cons, has-keep, has-upTo, of-upTo, keep-same, keep-keep, keep-none, keep-below, First, found, nothing, first-below}
+use Rattle.model.proofs.Tests.{and-r, or-turned, eq-or}
+use Rattle.model.proofs.Lists.{of-cons, has-keep, has-upTo, of-upTo, keep-same, keep-keep, keep-none, keep-below, First, found, nothing, first-of}
 use Rattle.model.proofs.Loops.{drop-next}
-use Rattle.nodeset.specs.NodeSet.{Nodes, member, nobody, with, both, without}
+use Rattle.nodeset.specs.NodeSet.{Nodes, member, emptySet, with, both, without}
 use Rattle.nodeset.proofs.Bits.{empty-words}
 use Rattle.nodeset.proofs.Words.{ltb-same, past-smallest}
 
@@ -28,7 +28,7 @@ pub record HighBelow (s : ℕ) (G : Graph) (ws : List ℕ) (v : ℕ) : Type 0 wh
 
 module _ (s : ℕ) (G : Graph) (ws : List ℕ) where
   pub high-none : ws ≡ replicate 16 0 → HighBelow s G ws 0
-  unfolding nobody
+  unfolding emptySet
   high-none e = record {
     long = ap length e;
     says = ap member e ∙ empty-words 16 ∙ fun-ext (λ x. sym (ap (λ (t : Bool). t && isHigh s G x) (le-ltb x 0 (omega arith))));
@@ -83,15 +83,9 @@ module _ (list w₀ : List ℕ) where
       same = k ∙ h .same;
       says = λ x.
           ap (λ (p : Nodes). has x (drop (i + 1) list) || p x) e
-          ∙ swap (has x (drop (i + 1) list)) (eqb x (getD list i 0)) (member ws x)
+          ∙ or-turned (has x (drop (i + 1) list)) (eqb x (getD list i 0)) (member ws x)
           ∙ ap (λ (r : List ℕ). has x r || member ws x) (sym (drop-next list i l)) ∙ h .says x;
     }
-      where
-        swap : (a b c : Bool) → (a || (b || c)) ≡ ((b || a) || c)
-        swap true true c = refl
-        swap true false c = refl
-        swap false true c = refl
-        swap false false c = refl
 
     pub inserted-all : length list ≤ i → member ws ≡ (λ x. has x list || member w₀ x)
     unfolding has
@@ -113,17 +107,12 @@ module _ (n : ℕ) (starts neighbours : List ℕ) (a : Accepted n starts neighbo
   -- the node, and then its neighbours
   pub closed-words : (w₀ w₁ w₂ row : List ℕ) → w₀ ≡ replicate 16 0 → member w₁ ≡ with (member w₀) v
       → row ≡ neighboursOf starts neighbours v → member w₂ ≡ (λ x. has x row || member w₁ x) → member w₂ ≡ (λ x. has x (closed (neighboursOf starts neighbours) v))
-  unfolding closed has with nobody
+  unfolding closed has with emptySet
   closed-words w₀ w₁ w₂ row e p r q =
       q ∙ fun-ext (λ x.
       ap₂ (λ (l : List ℕ) (m : Nodes). has x l || m x) r (p ∙ ap (λ (m : Nodes). with m v) (ap member e ∙ empty-words 16))
-      ∙ turned (has x (G v)) (eqb x v))
-    where
-      turned : (b c : Bool) → (b || (c || false)) ≡ (c || b)
-      turned true true = refl
-      turned true false = refl
-      turned false true = refl
-      turned false false = refl
+      ∙ ap (λ (b : Bool). has x (G v) || b) (or-false (eqb x v))
+      ∙ or-comm (has x (G v)) (eqb x v))
 
   -- what it has in common with the uncovered nodes is the gain
   pub gain-words : (ws us : List ℕ) → length ws ≡ 16 → member ws ≡ (λ x. has x (closed (neighboursOf starts neighbours) v))
@@ -142,11 +131,8 @@ module _ (n : ℕ) (starts neighbours : List ℕ) (a : Accepted n starts neighbo
 
 -- where the smallest member is below n, some node is uncovered; where it is not, none is
 module _ (n : ℕ) (us : List ℕ) (long : length us ≡ 16) (size : n ≤ 1024) (r : ℕ) (e : r ≡ firstOf (member us) (64 * length us) (upTo (64 * length us))) where
-  smallest-is : First (member us) (64 * length us) 0 (64 * length us) r
-  smallest-is = subst (λ (k : ℕ). First (member us) (64 * length us) 0 (64 * length us) k) (sym e) (first-below (member us) (64 * length us) (64 * length us))
-
   pub some-left : r < n → T (has r (keep (member us) (upTo n)))
-  some-left h = at smallest-is
+  some-left h = at (first-of (member us) (64 * length us) (64 * length us) e)
     where
       at : First (member us) (64 * length us) 0 (64 * length us) r → T (has r (keep (member us) (upTo n)))
       at (found lo hi t least) = has-keep (member us) (upTo n) r (has-upTo n r h) t
@@ -176,3 +162,7 @@ low-set n s G all high low a h l =
     at : (x y : Bool) → (x && not (x && y)) ≡ (x && not y)
     at true y = refl
     at false y = refl
+
+-- below n, the set's members are the low nodes
+pub low-are : (n s : ℕ) (G : Graph) (p : ℕ → Bool) → p ≡ (λ v. ltb v n && isLow s G v) → (v : ℕ) → v < n → p v ≡ isLow s G v
+low-are n s G p e v h = ap (λ (f : ℕ → Bool). f v) e ∙ rw (lt-ltb v n h) refl

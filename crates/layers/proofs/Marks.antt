@@ -2,7 +2,7 @@
 -- Assumes nothing.
 use mathlib.Core.Path.{_≡_, refl, sym, ap, _∙_, subst, fun-ext}
 use mathlib.Core.Logic.{_⊎_, inl, inr, ⊎-elim}
-use mathlib.Core.Bool.{Bool, true, false, _||_}
+use mathlib.Core.Bool.{Bool, _||_}
 use mathlib.Core.List.{List, [], _∷_, _++_}
 use Prim.Native.Nat.{ℕ, _+_, _-_, _*_, _^_, _≤_, _<_}
 use native.Mathlib.Omega.{arith}
@@ -12,8 +12,8 @@ use lib.ListN.{length, getD, set, length-set}
 use lib.Seq.{getD-set-same, getD-set-other}
 use Rattle.model.specs.Basics.{from, upTo, has, any, keep}
 use Rattle.model.specs.Graph.{Edges}
-use Rattle.model.proofs.Lists.{has-head, has-tail, of-cons, none-in, has-later, of-keep}
-use Rattle.model.proofs.Tests.{passes}
+use Rattle.model.proofs.Lists.{has-head, has-tail, of-cons, none-in, has-later, of-keep, any-append}
+use Rattle.model.proofs.Tests.{passes, or-turned}
 use Rattle.nodeset.specs.NodeSet.{Nodes, member, membersFrom}
 use Rattle.nodeset.proofs.Bits.{word-bit}
 use Rattle.nodeset.proofs.Members.{bits-none, Lowest, lowest}
@@ -50,24 +50,6 @@ marked-in d (v ∷ l) row x h t = at (passes (has x l)) (marked-in d l (set row 
         (λ (e : x ≡ v). marked-out d l (set row v d) x f ∙ ap (λ (y : ℕ). getD (set row y d) x 0) (sym e) ∙ getD-set-same row x d 0 h)
         (λ s. absurd (f s))
         (of-cons x v l t)
-
--- ---- some node of a list
-
-any-append : (p : ℕ → Bool) (k l : List ℕ) → any p (k ++ l) ≡ (any p k || any p l)
-unfolding any
-any-append p [] l = refl
-any-append p (x ∷ k) l = ap (λ (b : Bool). p x || b) (any-append p k l) ∙ grouped (p x) (any p k) (any p l)
-  where
-    grouped : (a b c : Bool) → (a || (b || c)) ≡ ((a || b) || c)
-    grouped true b c = refl
-    grouped false b c = refl
-
--- three tests in another order
-turned : (a b c : Bool) → (a || (b || c)) ≡ ((b || a) || c)
-turned true true c = refl
-turned true false c = refl
-turned false true c = refl
-turned false false c = refl
 
 -- ---- the bits of a word: those marked, and those that are left
 
@@ -116,7 +98,7 @@ module _ (E : Edges) (base word d : ℕ) (row₀ f₀ : List ℕ) where
             marks = ap (λ (l : List ℕ). marked d l row) (sym (low .first)) ∙ m .marks;
             finds = λ x.
                 ap (λ (q : Nodes). any (λ v. E v x) rest || q x) e
-                ∙ turned (any (λ v. E v x) rest) (E first x) (member f x)
+                ∙ or-turned (any (λ v. E v x) rest) (E first x) (member f x)
                 ∙ ap (λ (l : List ℕ). any (λ v. E v x) l || member f x) (sym (low .first)) ∙ m .finds x;
           }
 
@@ -156,7 +138,7 @@ module _ (E : Edges) (layer : List ℕ) (d : ℕ) (row₀ f₀ : List ℕ) where
           marks = r ∙ ap (marked d new) (m .marks) ∙ sym (ap (λ (l : List ℕ). marked d l row₀) more ∙ marked-append d old new row₀);
           finds = e ∙ fun-ext (λ x.
               ap (λ (q : Nodes). any (λ v. E v x) new || q x) (m .finds)
-              ∙ turned (any (λ v. E v x) new) (any (λ v. E v x) old) (member f₀ x)
+              ∙ or-turned (any (λ v. E v x) new) (any (λ v. E v x) old) (member f₀ x)
               ∙ ap (λ (b : Bool). b || member f₀ x) (sym (ap (any (λ v. E v x)) more ∙ any-append (λ v. E v x) old new)));
         }
 

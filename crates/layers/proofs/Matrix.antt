@@ -2,7 +2,7 @@
 -- Assumes nothing.
 use mathlib.Core.Path.{_≡_, refl, sym, ap, _∙_, subst, fun-ext}
 use mathlib.Core.Logic.{⊎-elim}
-use mathlib.Core.Bool.{Bool, true, false, _&&_, _||_, and-false, or-comm}
+use mathlib.Core.Bool.{Bool, true, false, _&&_, _||_, and-true, and-false, or-comm}
 use mathlib.Core.List.{List}
 use Prim.Native.Nat.{ℕ, _+_, _*_, _/_, _%_, _≤_, _<_}
 use native.Mathlib.Omega.{arith}
@@ -35,11 +35,7 @@ pub link-put : (ws ws′ : List ℕ) (p : Nodes) (v w : ℕ) → w < 1024 → p 
 link-put ws ws′ p v w h t e =
     edge-with ws ws′ v w h e
     ∙ same-edges (λ u x. (eqb u v && eqb x w) || edgesIn ws u x) (λ u x. (eqb u v && (eqb x w && p x)) || edgesIn ws u x) (λ u x.
-    ap (λ (b : Bool). (eqb u v && b) || edgesIn ws u x) (sym (at-one p x w true t ∙ alone (eqb x w))))
-  where
-    alone : (b : Bool) → (b && true) ≡ b
-    alone true = refl
-    alone false = refl
+    ap (λ (b : Bool). (eqb u v && b) || edgesIn ws u x) (sym (at-one p x w true t ∙ and-true (eqb x w))))
 
 -- ---- the links of a list, one more at a time: those that are in the matrix, and those to be put into it
 

@@ -2,12 +2,12 @@
 -- Assumes nothing.
 use mathlib.Core.Path.{_≡_, refl, sym, ap, ap₂, _∙_, subst, fun-ext}
 use mathlib.Core.Logic.{_⊎_, inl, inr, ⊎-elim}
-use mathlib.Core.Bool.{Bool, true, false, not, _&&_, _||_, and-true}
+use mathlib.Core.Bool.{Bool, true, false, not, _&&_, _||_, and-true, or-false}
 use mathlib.Core.List.{List, [], map}
 use Prim.Native.Nat.{ℕ, zero, suc, _+_, _-_, _≤_, _<_, zero-le}
 use native.Mathlib.Numerals.{add-one}
 use native.Mathlib.Omega.{arith}
-use lib.Dec.{T, eqb, ltb, lt→ltb, ltb→lt}
+use lib.Dec.{T, eqb, ltb, not-T, lt→ltb, ltb→lt}
 use lib.ListN.{length, getD, replicate, length-replicate, getD-replicate}
 use lib.Seq.{ext-getD}
 use Rattle.model.specs.Basics.{none, from, upTo, has, any, keep, firstOf}
@@ -16,7 +16,7 @@ use Rattle.model.proofs.Chains.{stay, step}
 use Rattle.model.proofs.Entries.{getD-row, length-row}
 use Rattle.model.proofs.Lists.{none-in, of-single, any-of, of-any, has-keep, of-keep, has-upTo, of-upTo, First, found, nothing, first-below, first-is, keep-none}
 use Rattle.model.proofs.Tests.{and-l, and-r, and-i, or-l, or-r, or-e, passes, no-false, false-no, T-false, same-test, eq-or}
-use Rattle.nodeset.specs.NodeSet.{Nodes, member, nobody, with, both, without}
+use Rattle.nodeset.specs.NodeSet.{Nodes, member, emptySet, with, both, without}
 use Rattle.nodeset.proofs.Bits.{empty-words}
 use Rattle.layers.specs.Marks.{marked}
 use Rattle.layers.proofs.Marks.{marked-length, marked-in, marked-out}
@@ -81,18 +81,14 @@ module _ (E : Edges) (n s : ℕ) where
 
   pub turn-start : (row : List ℕ) (f u₀ u : Nodes) → row ≡ replicate n none → f ≡ with (member (replicate 16 0)) s
       → u₀ ≡ (λ v. ltb v n) → u ≡ without u₀ (λ x. eqb x s) → Turn 0 row f u (member (replicate 16 0))
-  unfolding before reach has any upTo from firstOf with without nobody
+  unfolding before reach has any upTo from firstOf with without emptySet
   turn-start row f u₀ u r e a b = record {
     size = ap length r ∙ length-replicate n none;
     known = λ x h. ap (λ (l : List ℕ). getD l x 0) r ∙ getD-replicate n x none 0 h;
     front = λ x. ap (λ (p : Nodes). p x) e ∙ ap (λ (p : Nodes). eqb x s || p x) (empty-words 16) ∙ sym (and-true (eqb x s || false));
-    left = λ x. ap (λ (p : Nodes). p x) b ∙ ap (λ (p : Nodes). p x && not (eqb x s)) a ∙ ap (λ (c : Bool). ltb x n && not c) (alone (eqb x s));
+    left = λ x. ap (λ (p : Nodes). p x) b ∙ ap (λ (p : Nodes). p x && not (eqb x s)) a ∙ ap (λ (c : Bool). ltb x n && not c) (sym (or-false (eqb x s)));
     joined = λ x. ap (λ (p : Nodes). p x) (empty-words 16);
   }
-    where
-      alone : (c : Bool) → c ≡ (c || false)
-      alone true = refl
-      alone false = refl
 
   module _ (start : s < n) (few : n ≤ 1024) where
     inside : (k x : ℕ) → T (has x (reach E n s k)) → x < n
@@ -109,7 +105,7 @@ module _ (E : Edges) (n s : ℕ) where
           )
 
       of-front : (x : ℕ) → T (has x (reach E n s k)) → (T (has x (before k)) → ⊥) → T (f x)
-      of-front x t h = subst T (sym (m .front x)) (and-i (has x (reach E n s k)) (not (has x (before k))) t (subst (λ (b : Bool). T (not b)) (sym (no-false (has x (before k)) h)) tt))
+      of-front x t h = subst T (sym (m .front x)) (and-i (has x (reach E n s k)) (not (has x (before k))) t (not-T (has x (before k)) h))
 
       pub front-inside : (x : ℕ) → T (f x) → x < length row
       front-inside x t = rw (m .size) (inside k x (in-front x t .0))

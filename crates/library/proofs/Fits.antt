@@ -6,17 +6,16 @@ use mathlib.Core.List.{List, [], _∷_}
 use Prim.Native.Nat.{ℕ, _+_, _*_, _≤_}
 use native.Mathlib.Nat.{le-refl, le-trans, mul-le-mul}
 use native.Mathlib.Omega.{arith}
-use borrow.Author.Tests.{eq-eqb, ne-eqb}
-use lib.Dec.{eqb, ltb}
+use lib.Dec.{ltb}
 use lib.ListN.{length, getD, length-append}
 use Rattle.model.specs.declared.Size.{Size}
 use Rattle.model.specs.declared.Tested.{Tested}
 use Rattle.model.specs.Answers.{Outcome, refused, answered}
-use Rattle.model.specs.Basics.{none, if_then_else_, gather}
+use Rattle.model.specs.Basics.{gather}
 use Rattle.model.specs.SurveyText.{lineOf, linkLines, surveyText}
 use Rattle.model.specs.Survey.{Graph, neighboursOf, badSize, isSurvey, accepting, Accepted}
 use Rattle.model.specs.Threshold.{threshold, thresholdAnswer, bitLength}
-use Rattle.model.specs.Hubs.{isLow, closed, hubs}
+use Rattle.model.specs.Hubs.{closed, hubs}
 use Rattle.model.specs.Reading.{Parsed, parse, Reading, readingOf, reading}
 use Rattle.model.specs.Building.{Building, built, building}
 use Rattle.model.specs.TwoOrFour.{sources, tested}
@@ -24,9 +23,8 @@ use Rattle.model.specs.Testing.{testingOf, testing}
 use Rattle.model.specs.Writing.{Writing, textOf, writingOf, writing}
 use Rattle.model.proofs.Tests.{picked}
 use Rattle.model.proofs.Outcomes.{never}
-use Rattle.model.proofs.Lists.{First, found, nothing, first-below}
-use Rattle.model.proofs.Numbers.{length-le}
-use Rattle.model.proofs.Lines.{length-line}
+use Rattle.model.proofs.Verdicts.{Sources, round, covers, source-cases}
+use Rattle.model.proofs.Fronts.{line-few}
 use Rattle.model.proofs.Links.{AllFresh, TextRead, parse-sound}
 use Rattle.model.proofs.ReadBack.{read-back}
 use Rattle.model.proofs.Acceptance.{size-bounds, accepting-facts, few-neighbours}
@@ -78,9 +76,7 @@ lines-few n h (l ∷ ls) done f =
     omega (
       arith,
       length-append (lineOf 76 (l .0) (l .1)) (linkLines ls),
-      length-line 76 (l .0) (l .1),
-      length-le 9 (l .0) (omega (arith, f .0 .below-a)),
-      length-le 9 (l .1) (omega (arith, f .0 .below-b)),
+      line-few 76 (l .0) (l .1) (omega (arith, f .0 .below-a)) (omega (arith, f .0 .below-b)),
       lines-few n h ls (l ∷ done) (f .1),
     )
 
@@ -92,9 +88,7 @@ read-few p q text x r =
     omega (
       arith,
       ap length (r .is-text) ∙ length-append (lineOf 83 n m) (linkLines (x .links)),
-      length-line 83 n m,
-      length-le 9 n (omega (arith, r .within .size)),
-      length-le 9 m (omega (arith, r .within .few)),
+      line-few 83 n m (omega (arith, r .within .size)) (omega (arith, r .within .few)),
       lines-few n (r .within .size) (x .links) [] (r .fresh),
       r .within .few,
     )
@@ -126,15 +120,15 @@ text-fits n starts neighbours buffer k = at (accepting n starts neighbours) refl
 
 -- testing: the count of searches
 sources-few : (n : ℕ) (starts neighbours : List ℕ) (s : ℕ) → Accepted n starts neighbours → length (sources n s (neighboursOf starts neighbours)) ≤ 1024
-unfolding sources closed
-sources-few n starts neighbours s acc = at (first-below (isLow s (neighboursOf starts neighbours)) none n)
+unfolding closed
+sources-few n starts neighbours s acc = at (source-cases n s G (acc .lists .graph) (acc .size))
   where
     G : Graph
     G = neighboursOf starts neighbours
 
-    at : {x : ℕ} → First (isLow s G) none 0 n x → length (if eqb x none then hubs n s G else (x ∷ G x)) ≤ 1024
-    at {x} (found lo hi t least) = rw (ne-eqb x none (λ q. omega (arith, acc .size))) (omega (arith, few-neighbours n starts neighbours acc x (omega arith), acc .size))
-    at {x} (nothing d least) = rw (eq-eqb x none d) (omega (arith, hubs-length n G s, acc .size))
+    at : {hs : List ℕ} → Sources n s G (acc .lists .graph) (acc .size) hs → length hs ≤ 1024
+    at (round v h t l) = omega (arith, few-neighbours n starts neighbours acc v h, acc .size)
+    at (covers f) = omega (arith, hubs-length n G s, acc .size)
 
 pub searches-fit : (n : ℕ) (starts neighbours : List ℕ) (t : Tested) → testing n starts neighbours ≡ answered t → t .searches ≤ 1024
 unfolding testing testingOf tested

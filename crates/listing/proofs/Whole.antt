@@ -1,14 +1,14 @@
 -- The listing of a text, by way of what reading and building leave.
 -- Assumes nothing.
 use mathlib.Core.Path.{_≡_, refl, sym, ap, ap₂, _∙_, subst}
-use mathlib.Core.List.{List, _++_, append-nil}
+use mathlib.Core.List.{List, _++_}
 use Prim.Native.Nat.{ℕ, _+_, _*_, _≤_, _<_}
 use native.Mathlib.Nat.{mul-le-mul}
 use native.Mathlib.Omega.{arith}
-use lib.ListN.{length, take, drop, length-append, drop-of-length-le}
+use lib.ListN.{length, take, drop, length-append}
 use lib.Seq.{take-at}
 use Rattle.lists.specs.Writing.{Wrote}
-use Rattle.lists.proofs.Writing.{wrote-over}
+use Rattle.lists.proofs.Writing.{wrote-over, over-whole}
 use Rattle.model.specs.declared.Refusal.{Refusal}
 use Rattle.model.specs.declared.Refusal.the-variants.{ShortBuffer}
 use Rattle.model.specs.declared.Size.{Size}
@@ -34,11 +34,6 @@ use Rattle.model.proofs.ReadBack.{read-accepted, read-graph, write-whole, write
 
 pub square-most : (n : ℕ) → n ≤ 128 → n * n ≤ 16384
 square-most n h = mul-le-mul h h
-
--- a list of the same length is replaced whole
-over-whole : (t l : List ℕ) → length l ≡ length t → over t l ≡ t
-unfolding over
-over-whole t l e = let h : length l ≤ length t = omega arith in ap (λ (r : List ℕ). t ++ r) (drop-of-length-le l h) ∙ append-nil t
 
 -- ---- what building leaves in tables of exactly n x n entries
 

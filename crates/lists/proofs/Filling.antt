@@ -1,10 +1,10 @@
 -- A loop that fills a list with one value: after i turns it is `replicate i v ++ drop i d`.
 -- Assumes nothing.
-use mathlib.Core.Path.{_≡_, refl, ap, _∙_}
+use mathlib.Core.Path.{_≡_, refl, sym, ap, _∙_}
 use mathlib.Core.List.{List, _++_, append-nil}
 use Prim.Native.Nat.{ℕ, _+_, _≤_, _<_}
 use native.Mathlib.Omega.{arith}
-use lib.ListN.{length, set, drop, replicate, length-set}
+use lib.ListN.{length, set, drop, replicate, length-set, length-replicate}
 use lib.Seq.{drop-length}
 use borrow.Author.Fill.{fill-more}
 
@@ -28,3 +28,7 @@ pub filled-all : (v : ℕ) (d s : List ℕ) (i : ℕ) → Filled v d s i → len
 filled-all v d s i f h =
     let e : i ≡ length d = omega arith in
     f .content ∙ rw (e, drop-length d, append-nil)
+
+-- a list of one value is so at its own length
+pub filled-own : (v k : ℕ) {s : List ℕ} → s ≡ replicate k v → s ≡ replicate (length s) v
+filled-own v k e = e ∙ ap (λ (j : ℕ). replicate j v) (sym (ap length e ∙ length-replicate k v))

@@ -7,7 +7,7 @@ use native.Mathlib.Nat.{add-assoc}
 use native.Mathlib.Numerals.{add-one}
 use native.Mathlib.Omega.{arith}
 use borrow.Rule.Slice.PartMut.{putMid}
-use lib.ListN.{length, take, drop, set, length-append, length-drop}
+use lib.ListN.{length, take, drop, set, length-append, length-drop, drop-of-length-le}
 use lib.Seq.{set-split, append-snoc, length-take-le, take-at, drop-append-add, drop-drop, paste-zero}
 use Rattle.model.specs.Basics.{over}
 use Rattle.lists.specs.Writing.{written, Wrote}
@@ -71,6 +71,11 @@ unfolding written over
 wrote-over {buf} t w =
     let z : 0 + length t ≡ length t = omega arith in
     (w .text ∙ ap (λ (k : ℕ). t ++ drop k buf) z, w .ends ∙ z)
+
+-- a list of the same length is replaced whole
+pub over-whole : (t l : List ℕ) → length l ≡ length t → over t l ≡ t
+unfolding over
+over-whole t l e = let h : length l ≤ length t = omega arith in ap (λ (r : List ℕ). t ++ r) (drop-of-length-le l h) ∙ append-nil t
 
 -- a part that was lent and is put back is written at its place
 pub put-written : (l : List ℕ) (at k : ℕ) (part : List ℕ) → length part ≡ k → putMid at k l part ≡ written l at part

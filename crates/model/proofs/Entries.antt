@@ -1,11 +1,11 @@
 -- A table has n * n entries, and entry (a, b) of `table n f` is f a b.
 -- Assumes nothing.
-use mathlib.Core.Path.{_≡_, sym, ap, _∙_}
+use mathlib.Core.Path.{_≡_, refl, sym, ap, _∙_}
 use mathlib.Core.List.{List, _++_, map}
 use Prim.Native.Nat.{ℕ, zero, suc, _+_, _*_, _≤_, _<_}
 use native.Mathlib.Nat.{add-zero, zero-add, add-suc, suc-add, suc-mul, zero-mul, mul-le-mul, mul-le-mul-right, le-of-suc-le-suc, not-suc-le-zero}
 use native.Mathlib.Omega.{arith}
-use lib.ListN.{length, getD, take, length-take, length-append, length-map, List·getD-append}
+use lib.ListN.{length, getD, take, replicate, length-take, length-append, length-map, List·getD-append}
 use lib.Seq.{getD-append-add, getD-take, take-all}
 use Rattle.model.specs.Basics.{from, upTo, gather}
 use Rattle.model.specs.Tables.{table, entry}
@@ -16,6 +16,12 @@ unfolding from
 getD-numbers k zero i d h = absurd (not-suc-le-zero h)
 getD-numbers k (suc m) zero d h = sym (add-zero k)
 getD-numbers k (suc m) (suc i) d h = getD-numbers (suc k) m i d (le-of-suc-le-suc h) ∙ suc-add k i ∙ sym (add-suc k i)
+
+-- a list of one value reads that value everywhere, past its end too
+pub getD-same : (n i d : ℕ) → getD (replicate n d) i d ≡ d
+getD-same zero i d = refl
+getD-same (suc n) zero d = refl
+getD-same (suc n) (suc i) d = getD-same n i d
 
 -- the i-th of the numbers below n is i
 pub getD-upTo : (n i d : ℕ) → i < n → getD (upTo n) i d ≡ i

@@ -25,7 +25,7 @@ pub data FrontLine (letter : ℕ) (text : List ℕ) (k : ℕ) : Type 0 where
   no-line : line letter text ≡ missing → line letter (take k text) ≡ missing → FrontLine letter text k
   same-line : (x y : ℕ) (rest : List ℕ) (j : ℕ) → k ≤ j + 24 → line letter text ≡ some (x, y, rest) → line letter (take k text) ≡ some (x, y, take j rest) → FrontLine letter text k
 
-line-few : (letter x y : ℕ) → x < 10 ^ 10 → y < 10 ^ 10 → length (lineOf letter x y) ≤ 24
+pub line-few : (letter x y : ℕ) → x < 10 ^ 10 → y < 10 ^ 10 → length (lineOf letter x y) ≤ 24
 line-few letter x y hx hy = omega (arith, length-line letter x y, length-le 9 x hx, length-le 9 y hy)
 
 line-front : (letter : ℕ) → 44 < letter → (text : List ℕ) (k : ℕ) → 24 ≤ k → FrontLine letter text k

@@ -8,12 +8,13 @@ use mathlib.Core.List.{List, [], _∷_, _++_, append-assoc}
 use mathlib.Core.Option.{Option, none as missing, some}
 use Prim.Native.Nat.{ℕ, _+_, _^_, _<_}
 use native.Mathlib.Omega.{arith}
+use borrow.Author.Tests.{eqb-true}
 use lib.ListN.{length, length-append}
-use lib.Dec.{T, eqb}
+use lib.Dec.{T, eqb, eqb→eq}
 use Rattle.model.specs.Basics.{if_then_else_, has, all, same}
 use Rattle.model.specs.Numbers.{isDigit, isNumber, valueOf, digits}
 use Rattle.model.specs.SurveyText.{onFirst, split, onFront, cut, twoNumbers, withRest, lineIn, line, lineOf}
-use Rattle.model.proofs.Tests.{and-l, and-r, and-i, T-true, true-T, no-false, is, eq-T}
+use Rattle.model.proofs.Tests.{and-l, and-r, and-i, T-true, true-T, no-false, eq-T}
 use Rattle.model.proofs.Lists.{has-head, has-tail, of-cons, of-all, of-append, none-in, same-eq, same-refl}
 use Rattle.model.proofs.Numbers.{digit-bounds, digits-all, value-digits, digits-value, value-below, digits-number}
 
@@ -24,7 +25,7 @@ unfolding cut onFront
 cut-at c [] q f = ap (λ (b : Bool). if b then some ([], q) else onFront c (cut c q)) (T-true (eqb c c) (eq-T c c refl))
 cut-at c (x ∷ p) q f =
     ap (λ (b : Bool). if b then some ([], p ++ c ∷ q) else onFront x (cut c (p ++ c ∷ q)))
-    (no-false (eqb x c) (λ t. f (subst (λ (z : ℕ). T (has z (x ∷ p))) (is x c (T-true (eqb x c) t)) (has-head x p))))
+    (no-false (eqb x c) (λ t. f (subst (λ (z : ℕ). T (has z (x ∷ p))) (eqb→eq x c t) (has-head x p))))
     ∙ ap (onFront x) (cut-at c p q (λ t. f (has-tail c x p t)))
 
 pub cut-is : (c : ℕ) (s p q : List ℕ) → cut c s ≡ some (p, q) → s ≡ p ++ c ∷ q
@@ -38,7 +39,7 @@ cut-is c (x ∷ s) p q e = at (eqb x c) refl (cut c s) e (λ p q. cut-is c s p q
         let f : _≡_ {A = List ℕ × List ℕ} ([], s) (p, q) = cc in
         let k : _≡_ {A = List ℕ} [] p = ap (λ (r : List ℕ × List ℕ). r .0) f in
         let l : s ≡ q = ap (λ (r : List ℕ × List ℕ). r .1) f in
-        ap₂ (λ (z : ℕ) (t : List ℕ). z ∷ t) (is x c h) l ∙ ap (λ (t : List ℕ). t ++ c ∷ q) k
+        ap₂ (λ (z : ℕ) (t : List ℕ). z ∷ t) (eqb-true x c h) l ∙ ap (λ (t : List ℕ). t ++ c ∷ q) k
     at false h missing e rec = absurd (let z : _≡_ {A = ℕ} 0 1 = cc in omega arith)
     at false h (some r) e rec =
         let f : _≡_ {A = List ℕ × List ℕ} (x ∷ r .0, r .1) (p, q) = cc in
@@ -52,7 +53,7 @@ unfolding split onFirst
 split-none c [] f = refl
 split-none c (x ∷ p) f =
     ap (λ (b : Bool). if b then [] ∷ split c p else onFirst x (split c p))
-    (no-false (eqb x c) (λ t. f (subst (λ (z : ℕ). T (has z (x ∷ p))) (is x c (T-true (eqb x c) t)) (has-head x p))))
+    (no-false (eqb x c) (λ t. f (subst (λ (z : ℕ). T (has z (x ∷ p))) (eqb→eq x c t) (has-head x p))))
     ∙ ap (onFirst x) (split-none c p (λ t. f (has-tail c x p t)))
 
 pub split-at : (c : ℕ) (p q : List ℕ) → (T (has c p) → ⊥) → split c (p ++ c ∷ q) ≡ p ∷ split c q
@@ -60,7 +61,7 @@ unfolding split onFirst
 split-at c [] q f = ap (λ (b : Bool). if b then [] ∷ split c q else onFirst c (split c q)) (T-true (eqb c c) (eq-T c c refl))
 split-at c (x ∷ p) q f =
     ap (λ (b : Bool). if b then [] ∷ split c (p ++ c ∷ q) else onFirst x (split c (p ++ c ∷ q)))
-    (no-false (eqb x c) (λ t. f (subst (λ (z : ℕ). T (has z (x ∷ p))) (is x c (T-true (eqb x c) t)) (has-head x p))))
+    (no-false (eqb x c) (λ t. f (subst (λ (z : ℕ). T (has z (x ∷ p))) (eqb→eq x c t) (has-head x p))))
     ∙ ap (onFirst x) (split-at c p q (λ t. f (has-tail c x p t)))
 
 -- fields with byte c between them
@@ -95,7 +96,7 @@ joined-split c (x ∷ s) = at (eqb x c) refl (joined-split c s) (split-some c s)
         → joined c (if b then [] ∷ split c s else onFirst x (split c s)) ≡ x ∷ s
     at true h e i =
         ap (λ (r : List (List ℕ)). joined c ([] ∷ r)) (i .2)
-        ∙ ap₂ (λ (z : ℕ) (t : List ℕ). z ∷ t) (sym (is x c h)) (ap (joined c) (sym (i .2)) ∙ e)
+        ∙ ap₂ (λ (z : ℕ) (t : List ℕ). z ∷ t) (sym (eqb-true x c h)) (ap (joined c) (sym (i .2)) ∙ e)
     at false h e i = joined-first c x (split c s) ∙ ap (λ (t : List ℕ). x ∷ t) e
 
 -- ---- the line

@@ -7,7 +7,7 @@ use mathlib.Core.Option.{Option, none as missing, some}
 use Prim.Native.Nat.{ℕ, zero, suc, _+_, _*_, _^_, _≤_, _<_}
 use native.Mathlib.Nat.{lt-of-lt-of-le, lt-of-le-of-lt}
 use native.Mathlib.Omega.{arith}
-use borrow.Author.Tests.{lt-leb, leb-false, ne-eqb, le-ltb, ltb-false}
+use borrow.Author.Tests.{lt-leb, leb-false, ne-eqb, le-ltb, ltb-false, eqb-false}
 use lib.ListN.{length}
 use lib.Dec.{eqb, ltb, leb}
 use Rattle.model.specs.Answers.{Outcome, refused, answered}
@@ -15,7 +15,7 @@ use Rattle.model.specs.Basics.{if_then_else_, gather}
 use Rattle.model.specs.SurveyText.{line, lineOf, linkLines, surveyText}
 use Rattle.model.specs.Reading.{named, onLinks, linkOf, readOn, readLinks, Parsed, parsed, countsOf, parseLinks, parse}
 use Rattle.model.proofs.Outcomes.{never}
-use Rattle.model.proofs.Tests.{or-false, of-or-false, isnt}
+use Rattle.model.proofs.Tests.{or-false, of-or-false}
 use Rattle.model.proofs.Lines.{line-complete, IsLine, line-sound}
 
 -- a link that can be given after those of `given`
@@ -56,7 +56,7 @@ module _ (n : ℕ) (given : ℕ → ℕ → Bool) where
       five : (l .0 < n) × (l .1 < n) → (t : Bool) → eqb (l .0) (l .1) ≡ t
           → if_then_else_ {A = Outcome (ℕ × ℕ × List ℕ)} t (refused 5) (if given (l .0) (l .1) then refused 6 else answered l) ≡ answered x → Taken
       five b true q e = never e
-      five b false q e = six b (isnt (l .0) (l .1) q) (given (l .0) (l .1)) refl e
+      five b false q e = six b (eqb-false (l .0) (l .1) q) (given (l .0) (l .1)) refl e
 
       four : (t : Bool) → (leb n (l .0) || leb n (l .1)) ≡ t
           → if_then_else_ {A = Outcome (ℕ × ℕ × List ℕ)} t (refused 4) (if eqb (l .0) (l .1) then refused 5 else if given (l .0) (l .1) then refused 6 else answered l) ≡ answered x

@@ -2,7 +2,7 @@
 -- Assumes nothing.
 use mathlib.Core.Path.{_≡_, refl, sym, ap, ap₂, _∙_, subst}
 use mathlib.Core.Logic.{_⊎_, inl, inr}
-use mathlib.Core.Bool.{Bool, true, false, not, _&&_, _||_}
+use mathlib.Core.Bool.{Bool, true, false, not, _&&_, _||_, or-assoc}
 use mathlib.Core.List.{List, [], _∷_, _++_, map, append-assoc, append-nil}
 use Prim.Native.Nat.{ℕ, zero, suc, _+_, _-_, _≤_, _<_, suc-le-suc, zero-le}
 use native.Mathlib.Nat.{le-step, le-refl, add-zero, add-suc, suc-add, zero-add}
@@ -156,6 +156,10 @@ pub first-below : (p : ℕ → Bool) (d n : ℕ) → First p d 0 n (firstOf p d 
 unfolding upTo
 first-below p d n = first-from p d 0 n
 
+-- the same for a number that is known to be the one found
+pub first-of : (p : ℕ → Bool) (d n : ℕ) {r : ℕ} → r ≡ firstOf p d (upTo n) → First p d 0 n r
+first-of p d n e = subst (λ (x : ℕ). First p d 0 n x) (sym e) (first-below p d n)
+
 -- it is at most d, where d is not below n
 pub first-most : (p : ℕ → Bool) (d n : ℕ) → n ≤ d → firstOf p d (upTo n) ≤ d
 first-most p d n h = at (first-below p d n)
@@ -283,6 +287,11 @@ keep-append p (x ∷ k) l = go (p x) (keep-append p k l)
     go true e = ap (λ (r : List ℕ). x ∷ r) e
     go false e = e
 
+pub any-append : (p : ℕ → Bool) (k l : List ℕ) → any p (k ++ l) ≡ (any p k || any p l)
+unfolding any
+any-append p [] l = refl
+any-append p (x ∷ k) l = ap (λ (b : Bool). p x || b) (any-append p k l) ∙ sym (or-assoc (p x) (any p k) (any p l))
+
 pub gather-append : {A B : Type 0} (f : A → List B) (k l : List A) → gather f (k ++ l) ≡ gather f k ++ gather f l
 unfolding gather
 gather-append f [] l = refl
@@ -302,6 +311,13 @@ from-snoc k (suc m) = ap (λ (r : List ℕ). k ∷ r) (from-snoc (suc k) m ∙ a
 pub upTo-suc : (n : ℕ) → upTo (suc n) ≡ upTo n ++ n ∷ []
 unfolding upTo
 upTo-suc n = from-snoc 0 n ∙ ap (λ (x : ℕ). from 0 n ++ x ∷ []) (zero-add n)
+
+pub gather-suc : {B : Type 0} (f : ℕ → List B) (n : ℕ) → gather f (upTo (suc n)) ≡ gather f (upTo n) ++ f n
+unfolding gather
+gather-suc {B} f n =
+    ap (gather f) (upTo-suc n)
+    ∙ gather-append f (upTo n) (n ∷ [])
+    ∙ ap (λ (l : List B). gather f (upTo n) ++ l) (append-nil (f n))
 
 -- ---- two tests on one list
 

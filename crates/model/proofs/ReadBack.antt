@@ -26,6 +26,7 @@ use Rattle.model.proofs.Lists.{has-head, has-tail, of-cons, has-keep, o
 use Rattle.model.proofs.Ascending.{ascending-tail, ascending-above, keep-ascending, ascending-keep, keep-of-ascending}
 use Rattle.model.proofs.Acceptance.{accepting-answers, linked-is, is-linked}
 use Rattle.model.proofs.Outcomes.{never, numberIn}
+use Rattle.model.proofs.Entries.{getD-same}
 use Rattle.model.proofs.Links.{Fresh, AllFresh, TextRead, parse-complete, parse-sound}
 use Rattle.model.proofs.SurveyLists.{total, total-zero, total-suc, starts-length, neighbours-length, start-at, own-at, gather-below, neighbours-same, starts-same, own-total, own-neighbours, own-starts}
 use Rattle.model.proofs.Totals.{named-sym, links-total}
@@ -122,12 +123,6 @@ module _ (n : ℕ) (ls : List (ℕ × ℕ)) (some-node : 1 ≤ n) (size : n ≤ 
       G : Graph
       G = neighboursOf starts neighbours
 
--- a list of zeros reads 0 everywhere, past its end too
-zero-entry : (p i : ℕ) → getD {A = ℕ} (replicate p 0) i 0 ≡ 0
-zero-entry zero i = refl
-zero-entry (suc p) zero = refl
-zero-entry (suc p) (suc i) = zero-entry p i
-
 -- past n the starts read 0
 past-starts : (n : ℕ) (G : Graph) (p v : ℕ) → n ≤ v → getD (over (startsOf n G) (replicate p 0)) (v + 1) 0 ≡ 0
 unfolding over
@@ -137,7 +132,7 @@ past-starts n G p v h =
     ap (λ (k : ℕ). getD (s ++ drop (length s) (replicate p 0)) k 0) i
     ∙ getD-append-add s (drop (length s) (replicate p 0)) (v - n) 0
     ∙ getD-drop (length s) (replicate p 0) (v - n) 0
-    ∙ zero-entry p (length s + (v - n))
+    ∙ getD-same p (length s + (v - n)) 0
 
 -- ---- what a text says, read within limits into lists of p and q entries
 

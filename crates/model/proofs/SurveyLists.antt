@@ -3,7 +3,7 @@
 -- Assumes nothing.
 use mathlib.Core.Path.{_≡_, refl, sym, ap, ap₂, _∙_, subst}
 use mathlib.Core.Bool.{Bool, not}
-use mathlib.Core.List.{List, [], _∷_, _++_, map, append-assoc, append-nil}
+use mathlib.Core.List.{List, [], _∷_, _++_, map, append-assoc}
 use Prim.Native.Nat.{ℕ, zero, suc, _+_, _-_, _/_, _%_, _≤_, _<_, min}
 use native.Mathlib.Nat.{add-zero}
 use native.Mathlib.Numerals.{add-one}
@@ -16,7 +16,7 @@ use Rattle.model.specs.Basics.{if_then_else_, from, upTo, has, gather}
 use Rattle.model.specs.Survey.{Graph, neighboursOf, linked, ascending, isSurvey, badSize, accepting, IsSurvey, Accepted}
 use Rattle.model.specs.Reading.{startsOf, neighboursFrom}
 use Rattle.model.proofs.Tests.{same-test}
-use Rattle.model.proofs.Lists.{gather-append, gather-same, upTo-suc, from-split, of-upTo}
+use Rattle.model.proofs.Lists.{gather-append, gather-same, gather-suc, from-split, of-upTo}
 use Rattle.model.proofs.Entries.{getD-row, length-row}
 use Rattle.model.proofs.Acceptance.{survey-test, survey-facts, linked-is, is-linked}
 
@@ -29,12 +29,8 @@ unfolding total upTo from gather
 total-zero G = refl
 
 pub total-suc : (G : Graph) (v : ℕ) → total G (suc v) ≡ total G v + length (G v)
-unfolding total gather
-total-suc G v =
-    ap (λ (l : List ℕ). length (gather G l)) (upTo-suc v)
-    ∙ ap length (gather-append G (upTo v) (v ∷ []))
-    ∙ length-append (gather G (upTo v)) (G v ++ [])
-    ∙ ap (λ (l : List ℕ). total G v + length l) (append-nil (G v))
+unfolding total
+total-suc G v = ap length (gather-suc G v) ∙ length-append (gather G (upTo v)) (G v)
 
 pub starts-length : (n : ℕ) (G : Graph) → length (startsOf n G) ≡ n + 1
 unfolding startsOf
@@ -89,22 +85,20 @@ module _ (n : ℕ) (G H : Graph) (same : (v : ℕ) → v < n → G v ≡ H v) wh
       let b : i < n + 1 = omega (arith, length-row f (n + 1)) in
       getD-row f (n + 1) i 0 b ∙ ap length (gather-below i (omega arith)) ∙ sym (getD-row g (n + 1) i 0 b))
 
+-- starts that never fall rise up to the last
+module _ (n : ℕ) (starts : List ℕ) (rising : (v : ℕ) → v < n → getD starts v 0 ≤ getD starts (v + 1) 0) where
+  rises : (k v : ℕ) → v + k ≡ n → getD starts v 0 ≤ getD starts n 0
+  rises zero v e = subst (λ (x : ℕ). getD starts v 0 ≤ getD starts x 0) (sym (add-zero v) ∙ e) (omega arith)
+  rises (suc k) v e = omega (arith, rises k (v + 1) (omega arith), rising v (omega arith))
+
+  pub start-last : (v : ℕ) → v ≤ n → getD starts v 0 ≤ getD starts n 0
+  start-last v h = rises (n - v) v (omega arith)
+
 -- ---- a survey's lists are those of its graph
 
 module _ (n : ℕ) (starts neighbours : List ℕ) (s : IsSurvey n starts neighbours) where
   abbrev G : Graph
   G = neighboursOf starts neighbours
-
-  -- starts rise up to the last
-  rises : (k v : ℕ) → v + k ≡ n → getD starts v 0 ≤ getD starts n 0
-  rises zero v e = subst (λ (x : ℕ). getD starts v 0 ≤ getD starts x 0) (sym (add-zero v) ∙ e) (omega arith)
-  rises (suc k) v e =
-      let r = rises k (v + 1) (omega arith) in
-      let h = s .rising v (omega arith) in
-      omega arith
-
-  pub start-within : (v : ℕ) → v ≤ n → getD starts v 0 ≤ length neighbours
-  start-within v h = let r = rises (n - v) v (omega arith) in omega (arith, r, s .within)
 
   -- the neighbours of the nodes below v are the entries up to v's start
   pub front : (v : ℕ) → v ≤ n → gather (neighboursOf starts neighbours) (upTo v) ≡ take (getD starts v 0) neighbours
@@ -116,15 +110,14 @@ module _ (n : ℕ) (starts neighbours : List ℕ) (s : IsSurvey n starts neighbo
       let own : List ℕ = take (b - a) (drop a neighbours) in
       let r = s .rising v h in
       let e : a + (b - a) ≡ b = omega arith in
-      ap (gather (neighboursOf starts neighbours)) (upTo-suc v)
-      ∙ gather-append (neighboursOf starts neighbours) (upTo v) (v ∷ [])
-      ∙ ap₂ (λ (x y : List ℕ). x ++ y) (front v (omega arith)) (append-nil own)
+      gather-suc (neighboursOf starts neighbours) v
+      ∙ ap (λ (x : List ℕ). x ++ own) (front v (omega arith))
       ∙ sym (take-add a (b - a) neighbours)
       ∙ ap (λ (k : ℕ). take k neighbours) (e ∙ ap (λ (k : ℕ). getD starts k 0) (add-one v))
 
   pub own-total : (v : ℕ) → v ≤ n → total (neighboursOf starts neighbours) v ≡ getD starts v 0
   unfolding total
-  own-total v h = ap length (front v h) ∙ length-take (getD starts v 0) neighbours ∙ omega (arith, start-within v h)
+  own-total v h = ap length (front v h) ∙ length-take (getD starts v 0) neighbours ∙ omega (arith, start-last n starts (s .rising) v h, s .within)
 
   pub own-neighbours : neighboursFrom n (neighboursOf starts neighbours) ≡ take (getD starts n 0) neighbours
   unfolding neighboursFrom
@@ -172,7 +165,7 @@ module _ (n : ℕ) (starts neighbours starts′ neighbours′ : List ℕ) (e : A
       let b = getD starts (v + 1) 0 in
       let m = getD starts n 0 in
       let u = s .rising v h in
-      let r = rises n starts neighbours s (n - (v + 1)) (v + 1) (omega arith) in
+      let r = start-last n starts (s .rising) (v + 1) (omega arith) in
       let w : a + (b - a) ≤ m = omega arith in
       sym (part-front a (b - a) m neighbours w)
       ∙ ap (λ (l : List ℕ). take (b - a) (drop a l)) (e .neighbours-used)

@@ -2,10 +2,10 @@
 -- Assumes nothing.
 use mathlib.Core.Path.{_≡_, refl, sym, ap, subst, _∙_}
 use mathlib.Core.Logic.{_⊎_, inl, inr}
-use mathlib.Core.Bool.{Bool, true, false, not, _&&_, _||_}
+use mathlib.Core.Bool.{Bool, true, false, not, _&&_, _||_, or-assoc, or-comm, Bool·not-not}
 use Prim.Native.Nat.{ℕ, _≤_, _<_}
-use borrow.Author.Tests.{ltb-true, ltb-false}
-use lib.Dec.{T, eqb, ltb, eqb→eq, eqb-refl}
+use borrow.Author.Tests.{ltb-true, ltb-false, eqb-true, eqb-false, lt-ltb, le-ltb, lt-leb, le-leb}
+use lib.Dec.{T, eqb, ltb, leb, eqb-refl}
 use Rattle.model.specs.Basics.{if_then_else_}
 
 pub and-l : (a b : Bool) → T (a && b) → T a
@@ -72,21 +72,29 @@ pub of-or-false : (a b : Bool) → (a || b) ≡ false → (a ≡ false) × (b �
 of-or-false true b e = absurd (subst T e tt)
 of-or-false false b e = (refl, e)
 
+-- three tests in another order
+pub or-turned : (a b c : Bool) → (a || (b || c)) ≡ ((b || a) || c)
+or-turned a b c = sym (or-assoc a b c) ∙ ap (λ (t : Bool). t || c) (or-comm a b)
+
+pub not-and : (a b : Bool) → not (a && b) ≡ (not a || not b)
+not-and true b = refl
+not-and false b = refl
+
 pub eq-T : (x y : ℕ) → x ≡ y → T (eqb x y)
 eq-T x y e = subst (λ (z : ℕ). T (eqb x z)) e (eqb-refl x)
 
 pub is : (x y : ℕ) → eqb x y ≡ true → x ≡ y
-is x y e = eqb→eq x y (true-T (eqb x y) e)
+is x y e = eqb-true x y e
 
 pub isnt : (x y : ℕ) → eqb x y ≡ false → x ≡ y → ⊥
-isnt x y e q = false-no (eqb x y) e (eq-T x y q)
+isnt x y e q = eqb-false x y e q
 
 pub eq-or : (x y : ℕ) → (x ≡ y) ⊎ (x ≡ y → ⊥)
 eq-or x y = go (eqb x y) refl
   where
     go : (b : Bool) → eqb x y ≡ b → (x ≡ y) ⊎ (x ≡ y → ⊥)
-    go true e = inl (is x y e)
-    go false e = inr (isnt x y e)
+    go true e = inl (eqb-true x y e)
+    go false e = inr (eqb-false x y e)
 
 pub lt-or : (x y : ℕ) → (x < y) ⊎ (y ≤ x)
 lt-or x y = go (ltb x y) refl
@@ -94,6 +102,17 @@ lt-or x y = go (ltb x y) refl
     go : (b : Bool) → ltb x y ≡ b → (x < y) ⊎ (y ≤ x)
     go true e = inl (ltb-true x y e)
     go false e = inr (ltb-false x y e)
+
+-- not at least y: less than y; and the other way
+pub not-leb : (x y : ℕ) → not (leb y x) ≡ ltb x y
+not-leb x y = at (lt-or x y)
+  where
+    at : (x < y) ⊎ (y ≤ x) → not (leb y x) ≡ ltb x y
+    at (inl h) = rw (lt-leb y x h, lt-ltb x y h) refl
+    at (inr h) = rw (le-leb y x h, le-ltb x y h) refl
+
+pub not-ltb : (x y : ℕ) → not (ltb x y) ≡ leb y x
+not-ltb x y = ap not (sym (not-leb x y)) ∙ Bool·not-not (leb y x)
 
 -- what holds of both values holds of the one that a test picks
 pub picked : {A : Type 0} (P : A → Type 0) (t : Bool) (x y : A) → (t ≡ true → P x) → (t ≡ false → P y) → P (if t then x else y)

@@ -2,16 +2,17 @@
 -- Assumes nothing.
 use mathlib.Core.Path.{_≡_, refl, sym, ap, ap₂, _∙_, subst, fun-ext}
 use mathlib.Core.Logic.{⊎-elim}
-use mathlib.Core.Bool.{Bool, true, false, _&&_, _||_, or-false, or-comm, or-assoc}
+use mathlib.Core.Bool.{Bool, true, false, _&&_, _||_, and-comm, or-comm, or-false}
 use mathlib.Core.List.{List, [], _∷_}
 use Prim.Native.Nat.{ℕ, zero, suc, _+_, _*_, _≤_, _<_, zero-le}
 use native.Mathlib.Nat.{zero-add}
 use native.Mathlib.Omega.{arith}
+use borrow.Author.Tests.{eqb-true, eqb-false}
 use lib.Dec.{T, eqb, eqb→eq}
 use lib.ListN.{length, length-append}
 use Rattle.model.specs.Basics.{if_then_else_, from, upTo, keep, gather}
 use Rattle.model.specs.Reading.{named, graphOf}
-use Rattle.model.proofs.Tests.{and-l, and-r, or-e, false-no, isnt, is}
+use Rattle.model.proofs.Tests.{and-l, and-r, or-e, false-no, or-turned}
 use Rattle.model.proofs.Links.{Fresh, AllFresh}
 use Rattle.model.proofs.SurveyLists.{total}
 
@@ -63,8 +64,8 @@ once-from a k (suc m) = at (once-from a (suc k) m) (eqb a k) refl
 
     at : ((a < suc k) → R ≡ 0) × (suc k ≤ a → a < suc k + m → R ≡ 1) → (b : Bool) → eqb a k ≡ b
         → ((a < k) → bit b + R ≡ 0) × (k ≤ a → a < k + suc m → bit b + R ≡ 1)
-    at i true e = (λ h. let q = is a k e in absurd (omega arith), λ h l. let q = is a k e in omega (arith, i .0 (omega arith)))
-    at i false e = (λ h. omega (arith, i .0 (omega arith)), λ h l. let q = isnt a k e in omega (arith, i .1 (omega arith) (omega arith)))
+    at i true e = (λ h. let q = eqb-true a k e in absurd (omega arith), λ h l. let q = eqb-true a k e in omega (arith, i .0 (omega arith)))
+    at i false e = (λ h. omega (arith, i .0 (omega arith)), λ h l. let q = eqb-false a k e in omega (arith, i .1 (omega arith) (omega arith)))
 
 once : (a n : ℕ) → a < n → sumOver (λ x. bit (eqb a x)) (upTo n) ≡ 1
 unfolding upTo
@@ -142,25 +143,16 @@ module _ (n : ℕ) (done : List (ℕ × ℕ)) (l : ℕ × ℕ) (f : Fresh n (nam
       either (there u v || back u v) (named done u v) (λ s t. ⊎-elim (λ x. no-there u v x t) (λ x. no-back u v x t) (or-e (there u v) (back u v) s))) in
       let two = count-add there back (λ u v. there u v || back u v) n (λ u v. either (there u v) (back u v) (not-both u v)) in
       let three = count-one (l .0) (l .1) n (f .below-a) (f .below-b) in
-      let four : count back n ≡ 1 = count-same back (λ u v. eqb (l .1) u && eqb (l .0) v) n (λ u v. swap (eqb (l .0) v) (eqb (l .1) u)) ∙ count-one (l .1) (l .0) n (f .below-b) (f .below-a) in
+      let four : count back n ≡ 1 = count-same back (λ u v. eqb (l .1) u && eqb (l .0) v) n (λ u v. and-comm (eqb (l .0) v) (eqb (l .1) u)) ∙ count-one (l .1) (l .0) n (f .below-b) (f .below-a) in
       omega (arith, one, two, three, four)
-    where
-      swap : (x y : Bool) → (x && y) ≡ (y && x)
-      swap true true = refl
-      swap true false = refl
-      swap false true = refl
-      swap false false = refl
 
 count-all : (n : ℕ) (ls done : List (ℕ × ℕ)) → AllFresh n done ls → count (λ u v. named ls u v || named done u v) n ≡ count (named done) n + 2 * length ls
 unfolding named
 count-all n [] done f = omega arith
 count-all n (l ∷ ls) done f =
     count-same (λ u v. named (l ∷ ls) u v || named done u v) (λ u v. named ls u v || named (l ∷ done) u v) n (λ u v.
-    shift ((eqb (l .0) u && eqb (l .1) v) || (eqb (l .0) v && eqb (l .1) u)) (named ls u v) (named done u v))
+    sym (or-turned (named ls u v) ((eqb (l .0) u && eqb (l .1) v) || (eqb (l .0) v && eqb (l .1) u)) (named done u v)))
     ∙ omega (arith, count-all n ls (l ∷ done) (f .1), count-more n done l (f .0))
-  where
-    shift : (x y z : Bool) → ((x || y) || z) ≡ (y || (x || z))
-    shift x y z = ap (λ (t : Bool). t || z) (or-comm x y) ∙ or-assoc y x z
 
 -- the two lists of links that are all new have two neighbours for each link
 pub links-total : (n : ℕ) (ls : List (ℕ × ℕ)) → AllFresh n [] ls → total (graphOf n ls) n ≡ 2 * length ls

@@ -33,11 +33,11 @@ data Means (n : ℕ) (E : Edges) : Verdict → Type 0 where
 
 module _ (n s : ℕ) (G : Graph) (g : IsGraph n G) (size : n ≤ 1024) where
   -- the nodes searched from: the smallest low node and its neighbours, or the hubs of a graph without low nodes
-  data Sources : List ℕ → Type 0 where
+  pub data Sources : List ℕ → Type 0 where
     round : (v : ℕ) → v < n → T (isLow s G v) → ((u : ℕ) → u < v → T (isHigh s G u)) → Sources (closed G v)
     covers : ((v : ℕ) → v < n → T (isHigh s G v)) → Sources (hubs n s G)
 
-  source-cases : Sources (sources n s G)
+  pub source-cases : Sources (sources n s G)
   unfolding sources isLow
   source-cases = at (first-below (isLow s G) none n)
     where
@@ -54,7 +54,7 @@ module _ (n s : ℕ) (G : Graph) (g : IsGraph n G) (size : n ≤ 1024) where
       at {r} (nothing e miss) =
           pick (λ q. covers (λ v h. high (isHigh s G v) (λ t. miss v zero-le (omega arith) t))) (λ f. absurd (f e)) (eqb r none) refl
 
-  source-below : {hs : List ℕ} → Sources hs → (h : ℕ) → T (has h hs) → h < n
+  pub source-below : {hs : List ℕ} → Sources hs → (h : ℕ) → T (has h hs) → h < n
   unfolding closed
   source-below (round v b t l) h m = at (of-cons h v (G v) m)
     where

@@ -14,7 +14,8 @@ use lib.Dec.{eqb, eqb·suc-suc}
 use lib.ListN.{getD, set, length, replicate}
 use lib.Pow.{shl-exact, shr-shr, pow-pos}
 use lib.Seq.{getD-set-same, getD-set-other}
-use Rattle.nodeset.specs.NodeSet.{bit, member, nobody, with, without}
+use Rattle.model.proofs.Entries.{getD-same}
+use Rattle.nodeset.specs.NodeSet.{bit, member, emptySet, with, without}
 
 -- two tests agree where each passes when the other does
 pub eqb-same : (a b c d : ℕ) → (a ≡ b → c ≡ d) → (c ≡ d → a ≡ b) → eqb a b ≡ eqb c d
@@ -103,14 +104,9 @@ word-bit ws i k h =
     ap₂ (λ (a b : ℕ). bit (getD ws a 0) b) q r
 
 -- words of zeros are the empty set
-pub empty-words : (n : ℕ) → member (replicate n 0) ≡ nobody
-unfolding member nobody
-empty-words n = fun-ext (λ v. ap (λ (w : ℕ). bit w (v % 64)) (zeros n (v / 64)) ∙ bit-of-zero (v % 64))
-  where
-    zeros : (n i : ℕ) → _≡_ {A = ℕ} (getD (replicate n 0) i 0) 0
-    zeros zero i = refl
-    zeros (suc n) zero = refl
-    zeros (suc n) (suc i) = zeros n i
+pub empty-words : (n : ℕ) → member (replicate n 0) ≡ emptySet
+unfolding member emptySet
+empty-words n = fun-ext (λ v. ap (λ (w : ℕ). bit w (v % 64)) (getD-same n (v / 64) 0) ∙ bit-of-zero (v % 64))
 
 -- a single bit, as code makes it
 pub shifted : (k : ℕ) → k < 64 → (1 * 2 ^ k) % 2 ^ 64 ≡ 2 ^ k

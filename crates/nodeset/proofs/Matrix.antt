@@ -2,7 +2,7 @@
 -- Assumes nothing.
 use mathlib.Core.Path.{_≡_, refl, ap, _∙_, fun-ext}
 use mathlib.Core.Logic.{⊎-elim}
-use mathlib.Core.Bool.{Bool, false, _&&_, _||_, and-false}
+use mathlib.Core.Bool.{false, _&&_, _||_, and-false}
 use mathlib.Core.List.{List}
 use Prim.Native.Nat.{ℕ, _+_, _*_, _≤_, _<_}
 use native.Mathlib.Omega.{arith}
@@ -11,7 +11,7 @@ use lib.Dec.{eqb, ltb}
 use lib.ListN.{replicate}
 use Rattle.model.specs.Graph.{Edges}
 use Rattle.model.proofs.Tests.{and-l, and-r, and-i, T-true, same-test, eq-T, lt-or}
-use Rattle.nodeset.specs.NodeSet.{Nodes, member, nobody, with}
+use Rattle.nodeset.specs.NodeSet.{Nodes, member, emptySet, with}
 use Rattle.nodeset.specs.Matrix.{edgesIn}
 use Rattle.nodeset.proofs.Bits.{empty-words}
 
@@ -46,7 +46,7 @@ edge-with ws ws′ v w hw e = same-edges (edgesIn ws′) (λ u x. (eqb u v && eq
     far u x l = rw (le-ltb x 1024 l, ne-eqb x w (λ (q : x ≡ w). omega arith), and-false (eqb u v)) refl
 
 pub edges-none : edgesIn (replicate 16384 0) ≡ (λ u x. false)
-unfolding edgesIn nobody
+unfolding edgesIn emptySet
 edges-none = same-edges (edgesIn (replicate 16384 0)) (λ u x. false) (λ u x.
     ap (λ (m : Nodes). ltb x 1024 && m (1024 * u + x)) (empty-words 16384) ∙ and-false (ltb x 1024))
 

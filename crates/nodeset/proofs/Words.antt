@@ -16,9 +16,9 @@ use lib.Pow.{pow-pos}
 use lib.Seq.{getD-set-same, getD-set-other}
 use Rattle.model.specs.Basics.{if_then_else_, from, upTo, keep, firstOf}
 use Rattle.model.proofs.Tests.{picked, lt-or, eq-or}
-use Rattle.model.proofs.Lists.{First, found, nothing, first-below, keep-append, keep-length, length-upTo, upTo-add}
+use Rattle.model.proofs.Lists.{First, found, nothing, first-of, keep-append, keep-length, length-upTo, upTo-add}
 use Rattle.model.proofs.Loops.{below-next}
-use Rattle.nodeset.specs.NodeSet.{Nodes, bit, member, nobody, both, without, membersFrom}
+use Rattle.nodeset.specs.NodeSet.{Nodes, bit, member, emptySet, both, without, membersFrom}
 use Rattle.nodeset.proofs.Bits.{bit-and, bit-not, bit-zero, bit-suc, bit-of-zero, word-bit, empty-words, shifted}
 use Rattle.nodeset.proofs.Members.{Lowest, lowest, bits-none, ones-members, row-word}
 
@@ -187,7 +187,7 @@ module _ (ws : List ℕ) (i : ℕ) (c : Clear ws i) where
 pub past-smallest : (n : ℕ) (ws : List ℕ) → n ≤ 64 * length ws → (r : ℕ) → r ≡ firstOf (member ws) (64 * length ws) (upTo (64 * length ws)) → n ≤ r
     → (x : ℕ) → x < n → T (member ws x) → ⊥
 past-smallest n ws long r e h x l t =
-    at (subst (λ (k : ℕ). First (member ws) (64 * length ws) 0 (64 * length ws) k) (sym e) (first-below (member ws) (64 * length ws) (64 * length ws)))
+    at (first-of (member ws) (64 * length ws) (64 * length ws) e)
   where
     at : First (member ws) (64 * length ws) 0 (64 * length ws) r → ⊥
     at (found lo hi s least) = least x (omega arith) (omega arith) t
@@ -213,7 +213,7 @@ pub record Below (ws : List ℕ) (n : ℕ) : Type 0 where
   pub says : member ws ≡ (λ v. ltb v n)
 
 pub below-none : (ws : List ℕ) → ws ≡ replicate 16 0 → Below ws 0
-unfolding nobody
+unfolding emptySet
 below-none ws e = record {
   long = ap length e;
   says = ap member e ∙ empty-words 16 ∙ fun-ext (λ v. sym (le-ltb v 0 (omega arith)));

@@ -19,8 +19,8 @@ bit w k = eqb (w / 2 ^ k % 2) 1
 unfoldable pub member : List ℕ → Nodes
 member ws v = bit (getD ws (v / 64) 0) (v % 64)
 
-unfoldable pub nobody : Nodes
-nobody v = false
+unfoldable pub emptySet : Nodes
+emptySet v = false
 
 -- a set with one member more; what is in both; what is in one and not in the other
 unfoldable pub with : Nodes → ℕ → Nodes

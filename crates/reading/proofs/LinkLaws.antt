@@ -1,13 +1,12 @@
 -- What reading a link line tests, and how the lines that are left say the whole.
 -- Assumes nothing.
 use mathlib.Core.Path.{_≡_, refl, sym, ap, ap₂, _∙_, subst}
-use mathlib.Core.Logic.{_⊎_, inl, inr}
-use mathlib.Core.Bool.{Bool, true, false, not, _&&_, _||_, or-comm, or-assoc, or-false}
+use mathlib.Core.Bool.{Bool, true, false, not, _&&_, _||_, and-comm, or-false}
 use mathlib.Core.List.{List, [], _∷_}
 use mathlib.Core.Option.{Option, none as missing, some}
 use Prim.Native.Nat.{ℕ, suc, _+_, _-_, _*_, _≤_, _<_}
 use native.Mathlib.Omega.{arith}
-use borrow.Author.Tests.{lt-ltb, le-ltb, lt-leb, le-leb, leb-false, eq-eqb, ne-eqb}
+use borrow.Author.Tests.{leb-false, eq-eqb, ne-eqb}
 use lib.Dec.{eqb, ltb, leb, ltb→lt}
 use lib.ListN.{length, drop, replicate, length-replicate, drop-of-length-le}
 use Rattle.model.specs.Answers.{Outcome, refused, answered, number}
@@ -16,7 +15,7 @@ use Rattle.model.specs.Basics.{if_then_else_}
 use Rattle.model.specs.Graph.{Edges}
 use Rattle.model.specs.SurveyText.{line}
 use Rattle.model.specs.Reading.{named, onLinks, linkOf, readOn, readLinks}
-use Rattle.model.proofs.Tests.{true-T, and-l, and-r, lt-or, of-or-false}
+use Rattle.model.proofs.Tests.{true-T, and-l, and-r, or-turned, not-and, not-ltb, of-or-false}
 use Rattle.model.proofs.Loops.{drop-next}
 use Rattle.model.proofs.Links.{of-link-taken}
 use Rattle.model.proofs.Outcomes.{never}
@@ -31,12 +30,7 @@ use Rattle.reading.specs.declared.Links.the-variants as links
 
 -- not both below n: one of n or more
 not-both : (a b n : ℕ) → not (ltb a n && ltb b n) ≡ (leb n a || leb n b)
-not-both a b n = at (lt-or a n) (lt-or b n)
-  where
-    at : (a < n) ⊎ (n ≤ a) → (b < n) ⊎ (n ≤ b) → not (ltb a n && ltb b n) ≡ (leb n a || leb n b)
-    at (inl p) (inl q) = rw (lt-ltb a n p, lt-ltb b n q, lt-leb n a p, lt-leb n b q) refl
-    at (inl p) (inr q) = rw (lt-ltb a n p, le-ltb b n q, lt-leb n a p, le-leb n b q) refl
-    at (inr p) q = rw (le-ltb a n p, le-leb n a p) refl
+not-both a b n = not-and (ltb a n) (ltb b n) ∙ ap₂ _||_ (not-ltb a n) (not-ltb b n)
 
 pub both-below : (a b n : ℕ) → (ltb a n && ltb b n) ≡ true → (a < n) × (b < n)
 both-below a b n e =
@@ -109,16 +103,9 @@ held-more ws ws′ ws″ ls a b ha hb h long p q = record {
     flip : (x y : ℕ) → eqb x y ≡ eqb y x
     flip x y = eqb-same x y y x sym sym
 
-    swap : (x y : Bool) → (x && y) ≡ (y && x)
-    swap true true = refl
-    swap true false = refl
-    swap false true = refl
-    swap false false = refl
-
     turned : (ub va ua vb : Bool) (r : Bool) → ((ub && va) || ((ua && vb) || r)) ≡ (((ua && vb) || (va && ub)) || r)
     turned ub va ua vb r =
-        sym (or-assoc (ub && va) (ua && vb) r)
-        ∙ ap (λ (t : Bool). t || r) (or-comm (ub && va) (ua && vb) ∙ ap (λ (t : Bool). (ua && vb) || t) (swap ub va))
+        or-turned (ub && va) (ua && vb) r ∙ ap (λ (t : Bool). ((ua && vb) || t) || r) (and-comm ub va)
 
 -- ---- all lines
 
@@ -142,8 +129,7 @@ behind-named [] ls a b = refl
 behind-named (l ∷ done) ls a b =
     let X = (eqb (l .0) a && eqb (l .1) b) || (eqb (l .0) b && eqb (l .1) a) in
     behind-named done (l ∷ ls) a b
-    ∙ sym (or-assoc (named done a b) X (named ls a b))
-    ∙ ap (λ (t : Bool). t || named ls a b) (or-comm (named done a b) X)
+    ∙ or-turned (named done a b) X (named ls a b)
 
 pub behind-held : (ws : List ℕ) (done : List (ℕ × ℕ)) → Holds ws done → Holds ws (behind done [])
 unfolding named

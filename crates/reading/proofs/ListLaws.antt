@@ -1,9 +1,9 @@
 -- The two lists, written row by row, and a row, word by word.
 -- Assumes nothing.
-use mathlib.Core.Path.{_≡_, refl, sym, ap, _∙_, subst}
+use mathlib.Core.Path.{_≡_, sym, ap, _∙_, subst}
 use mathlib.Core.Bool.{Bool}
-use mathlib.Core.List.{List, [], _∷_, _++_, map, append-nil}
-use Prim.Native.Nat.{ℕ, _+_, _-_, _*_, _/_, _%_, _≤_, _<_}
+use mathlib.Core.List.{List, [], _∷_, _++_, map}
+use Prim.Native.Nat.{ℕ, _+_, _-_, _*_, _≤_, _<_}
 use native.Mathlib.Numerals.{add-one}
 use native.Mathlib.Omega.{arith}
 use lib.ListN.{length, getD, set, length-append}
@@ -12,10 +12,11 @@ use Rattle.lists.proofs.Writing.{wrote-none, wrote-one, wrote-then, wrote-room,
 use Rattle.model.specs.Basics.{from, upTo, keep, gather, over}
 use Rattle.model.specs.Survey.{Graph}
 use Rattle.model.specs.Reading.{startsOf, neighboursFrom}
-use Rattle.model.proofs.Lists.{keep-append, gather-append, map-append, upTo-suc, upTo-add}
+use Rattle.model.proofs.Lists.{keep-append, gather-append, gather-suc, map-append, upTo-suc, upTo-add}
 use Rattle.model.proofs.Entries.{length-row}
 use Rattle.nodeset.specs.NodeSet.{bit, member, membersFrom}
-use Rattle.nodeset.proofs.Members.{row-word}
+use Rattle.nodeset.proofs.Bits.{word-bit}
+use Rattle.nodeset.proofs.Words.{next-word}
 use Rattle.nodeset.specs.Matrix.{edgesIn}
 use Rattle.nodeset.proofs.Matrix.{edge-bit}
 use Rattle.reading.specs.Links.{rowsIn}
@@ -31,35 +32,30 @@ keep-mono f u n h =
 
 -- the row of v, as far as w words go
 unfoldable pub rowTo : List ℕ → ℕ → ℕ → List ℕ
-rowTo ws v w = keep (edgesIn ws v) (upTo (w * 64))
+rowTo ws v w = keep (edgesIn ws v) (upTo (64 * w))
 
-word-bits : (ws : List ℕ) (v w i : ℕ) → w < 16 → i < 64 → edgesIn ws v (w * 64 + i) ≡ bit (getD ws (v * 16 + w) 0) i
-unfolding member
+word-bits : (ws : List ℕ) (v w i : ℕ) → w < 16 → i < 64 → edgesIn ws v (64 * w + i) ≡ bit (getD ws (v * 16 + w) 0) i
 word-bits ws v w i hw hi =
-    let q : (1024 * v + (w * 64 + i)) / 64 ≡ v * 16 + w = omega arith in
-    let r : (1024 * v + (w * 64 + i)) % 64 ≡ i = omega arith in
-    edge-bit ws v (w * 64 + i) (omega arith) ∙ rw (q, r) refl
+    let e : 1024 * v + (64 * w + i) ≡ 64 * (v * 16 + w) + i = omega arith in
+    edge-bit ws v (64 * w + i) (omega arith) ∙ ap (member ws) e ∙ word-bit ws (v * 16 + w) i hi
 
 module _ (ws : List ℕ) (v w : ℕ) (hw : w < 16) where
-  row-turn : rowTo ws v (w + 1) ≡ rowTo ws v w ++ membersFrom 64 (w * 64) (getD ws (v * 16 + w) 0)
+  row-turn : rowTo ws v (w + 1) ≡ rowTo ws v w ++ membersFrom 64 (64 * w) (getD ws (v * 16 + w) 0)
   unfolding rowTo
-  row-turn =
-      let z : (w + 1) * 64 ≡ w * 64 + 64 = omega arith in
-      ap (λ (k : ℕ). keep (edgesIn ws v) (upTo k)) z
-      ∙ row-word 64 (w * 64) (getD ws (v * 16 + w) 0) (edgesIn ws v) (λ i h. word-bits ws v w i hw h)
+  row-turn = next-word (edgesIn ws v) w (getD ws (v * 16 + w) 0) (λ i h. word-bits ws v w i hw h)
 
   row-part : length (rowTo ws v (w + 1)) ≤ length (rowsIn ws v)
   unfolding rowTo rowsIn
-  row-part = keep-mono (edgesIn ws v) ((w + 1) * 64) 1024 (omega arith)
+  row-part = keep-mono (edgesIn ws v) (64 * (w + 1)) 1024 (omega arith)
 
   module _ (x₀ x : List ℕ) (at pos : ℕ) (room : at + length (rowsIn ws v) ≤ length x₀) (l : Wrote x₀ x at pos (rowTo ws v w)) where
-    word-room : at + length (rowTo ws v w) + length (membersFrom 64 (w * 64) (getD ws (v * 16 + w) 0)) ≤ length x₀
-    word-room = omega (arith, ap length row-turn ∙ length-append (rowTo ws v w) (membersFrom 64 (w * 64) (getD ws (v * 16 + w) 0)), row-part)
+    word-room : at + length (rowTo ws v w) + length (membersFrom 64 (64 * w) (getD ws (v * 16 + w) 0)) ≤ length x₀
+    word-room = omega (arith, ap length row-turn ∙ length-append (rowTo ws v w) (membersFrom 64 (64 * w) (getD ws (v * 16 + w) 0)), row-part)
 
-    pub word-fits : pos + length (membersFrom 64 (w * 64) (getD ws (v * 16 + w) 0)) ≤ length x
-    word-fits = wrote-room (membersFrom 64 (w * 64) (getD ws (v * 16 + w) 0)) word-room l
+    pub word-fits : pos + length (membersFrom 64 (64 * w) (getD ws (v * 16 + w) 0)) ≤ length x
+    word-fits = wrote-room (membersFrom 64 (64 * w) (getD ws (v * 16 + w) 0)) word-room l
 
-    pub word-more : (x′ : List ℕ) (pos′ : ℕ) → Wrote x x′ pos pos′ (membersFrom 64 (w * 64) (getD ws (v * 16 + w) 0)) → Wrote x₀ x′ at pos′ (rowTo ws v (w + 1))
+    pub word-more : (x′ : List ℕ) (pos′ : ℕ) → Wrote x x′ pos pos′ (membersFrom 64 (64 * w) (getD ws (v * 16 + w) 0)) → Wrote x₀ x′ at pos′ (rowTo ws v (w + 1))
     word-more x′ pos′ k = subst (λ (t : List ℕ). Wrote x₀ x′ at pos′ t) (sym row-turn) (wrote-then word-room l k)
 
 module _ (ws : List ℕ) (v : ℕ) (x₀ : List ℕ) (at : ℕ) where
@@ -69,21 +65,16 @@ module _ (ws : List ℕ) (v : ℕ) (x₀ : List ℕ) (at : ℕ) where
 
   pub row-long : (w : ℕ) (x : List ℕ) (pos : ℕ) → w ≤ 16 → at + length (rowsIn ws v) ≤ length x₀ → Wrote x₀ x at pos (rowTo ws v w) → length x ≡ length x₀
   unfolding rowTo rowsIn
-  row-long w x pos h room l = wrote-length (omega (arith, keep-mono (edgesIn ws v) (w * 64) 1024 (omega arith))) l
+  row-long w x pos h room l = wrote-length (omega (arith, keep-mono (edgesIn ws v) (64 * w) 1024 (omega arith))) l
 
   pub row-whole : (w : ℕ) (x : List ℕ) (pos : ℕ) → w ≤ 16 → 16 ≤ w → Wrote x₀ x at pos (rowTo ws v w) → Wrote x₀ x at pos (rowsIn ws v)
   unfolding rowTo rowsIn
-  row-whole w x pos h k l = let e : w * 64 ≡ 1024 = omega arith in subst (λ (i : ℕ). Wrote x₀ x at pos (keep (edgesIn ws v) (upTo i))) e l
+  row-whole w x pos h k l = let e : 64 * w ≡ 1024 = omega arith in subst (λ (i : ℕ). Wrote x₀ x at pos (keep (edgesIn ws v) (upTo i))) e l
 
 -- ---- both lists, row by row
 
-gather-suc : (G : Graph) (v : ℕ) → gather G (upTo (v + 1)) ≡ gather G (upTo v) ++ G v
-unfolding gather
-gather-suc G v =
-    ap (λ (k : ℕ). gather G (upTo k)) (add-one v)
-    ∙ ap (gather G) (upTo-suc v)
-    ∙ gather-append G (upTo v) (v ∷ [])
-    ∙ ap (λ (l : List ℕ). gather G (upTo v) ++ l) (append-nil (G v))
+gather-next : (G : Graph) (v : ℕ) → gather G (upTo (v + 1)) ≡ gather G (upTo v) ++ G v
+gather-next G v = ap (λ (k : ℕ). gather G (upTo k)) (add-one v) ∙ gather-suc G v
 
 gather-mono : (G : Graph) (v n : ℕ) → v ≤ n → length (gather G (upTo v)) ≤ length (gather G (upTo n))
 gather-mono G v n h =
@@ -137,7 +128,7 @@ module _ (G : Graph) (n : ℕ) (s₀ x₀ : List ℕ) (hs : n + 1 ≤ length s�
     module _ (h : v < n) where
       row-room : 0 + length (gather G (upTo v)) + length (G v) ≤ length x₀
       unfolding neighboursFrom
-      row-room = omega (arith, ap length (gather-suc G v) ∙ length-append (gather G (upTo v)) (G v), gather-mono G (v + 1) n (omega arith))
+      row-room = omega (arith, ap length (gather-next G v) ∙ length-append (gather G (upTo v)) (G v), gather-mono G (v + 1) n (omega arith))
 
       pub row-fits : pos + length (G v) ≤ length x
       row-fits = wrote-room (G v) row-room (l .neighbours)
@@ -146,7 +137,7 @@ module _ (G : Graph) (n : ℕ) (s₀ x₀ : List ℕ) (hs : n + 1 ≤ length s�
       lists-more x′ pos′ w = record {
         within = omega arith;
         starts = start-more;
-        neighbours = subst (λ (t : List ℕ). Wrote x₀ x′ 0 pos′ t) (sym (gather-suc G v)) (wrote-then row-room (l .neighbours) w);
+        neighbours = subst (λ (t : List ℕ). Wrote x₀ x′ 0 pos′ t) (sym (gather-next G v)) (wrote-then row-room (l .neighbours) w);
       }
 
     -- after the last node, with its start behind the others

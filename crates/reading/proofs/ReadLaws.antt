@@ -9,6 +9,7 @@ use native.Mathlib.Omega.{arith}
 use borrow.Author.Tests.{lt-ltb, le-ltb}
 use lib.Dec.{T, ltb}
 use lib.ListN.{length, replicate, length-replicate}
+use Rattle.lists.proofs.Filling.{filled-own}
 use Rattle.model.specs.Answers.{Outcome, refused, answered, number}
 use Rattle.model.specs.declared.Refusal.{Refusal}
 use Rattle.model.specs.declared.Reading.the-variants as read
@@ -166,9 +167,6 @@ module _ (N M : ℕ) (text s₀ x₀ s x : List ℕ) (hs : s ≡ replicate (leng
   same-x : length x ≡ length x₀
   same-x = ap length hx ∙ length-replicate (length x₀) 0
 
-  pub cleared : (s ≡ replicate (length s) 0) × (x ≡ replicate (length x) 0)
-  cleared = (hs ∙ ap (λ (k : ℕ). replicate k 0) (sym same-s), hx ∙ ap (λ (k : ℕ). replicate k 0) (sym same-x))
-
   -- the lengths are those of the lists before
   lengths : (P : ℕ → ℕ → Type 0) → P (length s) (length x) → P (length s₀) (length x₀)
   lengths P h = subst (λ (q : ℕ). P (length s₀) q) same-x (subst (λ (p : ℕ). P p (length x)) same-s h)
@@ -177,7 +175,7 @@ module _ (N M : ℕ) (text s₀ x₀ s x : List ℕ) (hs : s ≡ replicate (leng
       → returned (read.Refused r) s x ≡ readingOf (length s₀) (length x₀) (parse N M (length s₀) (length x₀) text)
   first-refused r e =
       lengths (λ p q. returned (read.Refused r) s x ≡ readingOf p q (parse N M p q text))
-      (read-refused (length s) (length x) r s x (cleared .0) (cleared .1) ∙ sym (parse-refused N M (length s) (length x) text (number r) (sym e)))
+      (read-refused (length s) (length x) r s x (filled-own 0 (length s₀) hs) (filled-own 0 (length x₀) hx) ∙ sym (parse-refused N M (length s) (length x) text (number r) (sym e)))
 
   pub first-read : (n m : ℕ) (rest : List ℕ) → answered (n, m, rest) ≡ countsOf N M (length s) (length x) (line 83 text)
       → (r : Reading) → r ≡ readingOf (length s) (length x) (parsed n (readLinks n m [] rest))

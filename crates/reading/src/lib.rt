@@ -110,7 +110,7 @@ fn write_row(bits: &[u64], v: usize, neighbours: &mut [u16], at: usize) -> usize
     let mut w = 0;
     while w < 16 {
         let word = bits[v * 16 + w];
-        pos = write_word(word, w * 64, neighbours, pos);
+        pos = write_word(word, 64 * w, neighbours, pos);
         w += 1;
     }
     pos

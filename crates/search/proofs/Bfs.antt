@@ -8,12 +8,13 @@ use Prim.Native.Nat.{ℕ, _+_, _≤_, _<_}
 use native.Mathlib.Nat.{le-refl, le-trans}
 use native.Mathlib.Numerals.{add-one}
 use native.Mathlib.Omega.{arith}
+use borrow.Author.Tests.{eqb-true, eqb-false}
 use lib.Dec.{T, eqb}
 use lib.ListN.{length, getD, length-set}
 use lib.Seq.{getD-set-same, getD-set-other, ext-getD}
 use Rattle.model.specs.Basics.{none, if_then_else_, has, upTo}
 use Rattle.model.specs.Graph.{Edges, Chain, here, link, Unjoined, Fewest, fewest}
-use Rattle.model.proofs.Tests.{eq-or, lt-or, is, isnt}
+use Rattle.model.proofs.Tests.{eq-or, lt-or}
 use Rattle.model.proofs.Lists.{none-in, of-single, of-cons, has-head, has-tail}
 use Rattle.model.proofs.Loops.{below-next}
 use Rattle.model.proofs.Entries.{getD-row, length-row}
@@ -184,10 +185,10 @@ module _ {E : Edges} {s n : ℕ} {head : ℕ} (allowed : ℕ → Bool) where
       go : (a b : Bool) → eqb (getD (p .row) w 0) none ≡ a → allowed w ≡ b → (T b → T (E (at p head) w))
           → Kept E s n allowed p head (w ∷ []) (if a && b then joined d w p else p)
       go true true g h ok =
-          let new = is (getD (p .row) w 0) none g in
+          let new = eqb-true (getD (p .row) w 0) none g in
           rw e (record { inv = join S l w hw new (ok tt); grown = join-grown S l w hw new (ok tt); found = only (joined (dist p head + 1) w p) (λ u. join-queued S l w hw new (ok tt)) })
       go true false g h ok = record { inv = S; grown = grown-refl p; found = only p (λ u. absurd (subst T h u)) }
-      go false b g h ok = record { inv = S; grown = grown-refl p; found = only p (λ u. S .queued w hw (isnt (getD (p .row) w 0) none g)) }
+      go false b g h ok = record { inv = S; grown = grown-refl p; found = only p (λ u. S .queued w hw (eqb-false (getD (p .row) w 0) none g)) }
 
   pub all-keep : (ws : List ℕ) (p : Progress) (d : ℕ) → Invariant E s n p head → head < p .tail → d ≡ dist p head + 1
       → ((w : ℕ) → T (has w ws) → (w < n) × (T (allowed w) → T (E (at p head) w)))

@@ -104,11 +104,11 @@ module _ (allowed : ℕ → Bool) (n : ℕ) (G : Graph) (s : ℕ) (p : Progress)
 
   -- ---- no node is left: the others of the queue lead to no new node
 
-  module _ (unvisited : ℕ → Bool) (o : Unvisited allowed unvisited (p .row)) (nobody : (x : ℕ) → x < n → T (unvisited x) → ⊥) where
+  module _ (unvisited : ℕ → Bool) (o : Unvisited allowed unvisited (p .row)) (none-left : (x : ℕ) → x < n → T (unvisited x) → ⊥) where
     pub search-skip : Invariant (between allowed (linked n G)) s n p (p .tail)
     search-skip = finish S (λ i w k t.
         let b : w < n = linked-ends n G (at p i) w (S .node i k) (between-link allowed (linked n G) (at p i) w t) in
-        S .queued w b (λ e. nobody w b (subst T (sym (o w (rw (S .row-length) b)))
+        S .queued w b (λ e. none-left w b (subst T (sym (o w (rw (S .row-length) b)))
         (and-i (eqb (getD (p .row) w 0) none) (allowed w) (true-T (eqb (getD (p .row) w 0) none) (eq-eqb (getD (p .row) w 0) none e)) (between-end allowed (linked n G) (at p i) w t)))))
 
   -- ---- the next turn

@@ -8,18 +8,19 @@ use mathlib.Core.List.{List, [], _∷_, _++_, append-assoc, append-nil}
 use Prim.Native.Nat.{ℕ, zero, suc, _+_, _-_, _/_, _%_, _≤_, _<_}
 use native.Mathlib.Nat.{add-zero}
 use native.Mathlib.Omega.{arith}
-use borrow.Author.Tests.{leb-true, leb-false, ltb-true, ltb-false}
+use borrow.Author.Tests.{leb-true, leb-false, ltb-true, ltb-false, eqb-true, eqb-false}
 use lib.Dec.{T, eqb, ltb, leb, ltb→lt, lt→ltb}
 use lib.ListN.{length, getD, take, drop, length-set, length-take, length-drop}
 use lib.Seq.{getD-take, getD-drop, getD-set-same, getD-set-other, take-suc, take-add, drop-drop}
 use Rattle.model.specs.Basics.{if_then_else_, upTo, has, keep}
 use Rattle.model.specs.Survey.{Graph, neighboursOf, ascending, IsSurvey}
-use Rattle.model.proofs.Tests.{is, isnt, lt-or, eq-or}
+use Rattle.model.proofs.Tests.{lt-or, eq-or}
 use Rattle.model.proofs.Lists.{has-head, has-tail, none-in, of-single, has-append, has-later, of-append, has-keep, of-keep, keep-same, keep-length}
 use Rattle.model.proofs.Ascending.{ascending-above, ascending-cons, ascending-tail, ascending-keep, keep-of-ascending, standing, ascending-front}
 use Rattle.survey.specs.Rows.{Rows}
 use Rattle.survey.specs.Matching.{stands, moved, left, Pass, pass, matchRow, matchRows}
-use Rattle.survey.proofs.RowLaws.{part, own-length, start-last}
+use Rattle.model.proofs.SurveyLists.{start-last}
+use Rattle.survey.proofs.RowLaws.{part, own-length}
 
 -- ---- ascending lists
 
@@ -126,7 +127,7 @@ module _ (n : ℕ) (starts neighbours : List ℕ) (ok : Rows n starts neighbours
   pub upto-none : (cs : List ℕ) → ((x : ℕ) → x < n → getD cs x 0 ≡ getD starts x 0) → Upto 0 cs
   unfolding met Placed ascending
   upto-none cs e = record {
-    place = λ x h. (omega (arith, e x h), omega (arith, e x h, start-last n starts neighbours ok x (omega arith)));
+    place = λ x h. (omega (arith, e x h), omega (arith, e x h, start-last n starts (ok .rising) x (omega arith)));
     up = λ x l h. subst (λ (k : List ℕ). T (ascending k)) (sym (nothing x h)) tt;
     from = λ x w l h m. absurd (none-in w (subst (λ (k : List ℕ). T (has w k)) (nothing x h) m));
     into = λ x w l h g m. absurd (omega arith);
@@ -312,7 +313,7 @@ module _ (n : ℕ) (starts neighbours : List ℕ) (ok : Rows n starts neighbours
             let c : getD cs x 0 ≡ S x + k = omega (arith, p .0, sym (met-length cs x (p .1)) ∙ ap length t) in
             let l = own-length n starts neighbours ok x next-below in
             let in-row : S x + k < S (x + 1) = omega (arith, a .0) in
-            let z = start-last n starts neighbours ok (x + 1) (omega (arith, next-below)) in (
+            let z = start-last n starts (ok .rising) (x + 1) (omega (arith, next-below)) in (
               omega arith,
               ap (λ (j : ℕ). getD neighbours j 0) c ∙ own-at x k in-row ∙ a .1,
             )
@@ -335,10 +336,10 @@ module _ (n : ℕ) (starts neighbours : List ℕ) (ok : Rows n starts neighbours
 
           fourth : b < x → x < n → getD cs x 0 < S n → (c : Bool) → B ≡ c → Rec → RowEnd v row (R c)
           fourth l h f true q rec =
-              let step = within-next v b done cs w x l h (omega arith) f (is (getD neighbours (getD cs x 0) 0) v q) in
+              let step = within-next v b done cs w x l h (omega arith) f (eqb-true (getD neighbours (getD cs x 0) 0) v q) in
               rec (done ++ x ∷ []) x (moved x cs) (e ∙ sym (append-assoc done (x ∷ []) xs)) (omega (arith, length-moved x cs)) step
           fourth l h f false q rec =
-              stuck (R false) (spoiled neighbours (S n) n v x xs (moved x cs)) (λ s. isnt (getD neighbours (getD cs x 0) 0) v q (next-stands s b x done xs cs e w .1))
+              stuck (R false) (spoiled neighbours (S n) n v x xs (moved x cs)) (λ s. eqb-false (getD neighbours (getD cs x 0) 0) v q (next-stands s b x done xs cs e w .1))
 
           third : b < x → x < n → (c : Bool) → leb (S n) (getD cs x 0) ≡ c → Rec → RowEnd v row (if c then pass false cs else R B)
           third l h true q rec = stuck (pass false cs) refl (λ s. let g = next-stands s b x done xs cs e w .0 in let f = leb-true (S n) (getD cs x 0) q in omega arith)

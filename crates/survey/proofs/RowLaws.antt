@@ -1,30 +1,20 @@
 -- Where each node's own neighbours stand.
 -- Assumes nothing.
-use mathlib.Core.Path.{_≡_, sym, ap, _∙_, subst}
+use mathlib.Core.Path.{_≡_, sym, ap, _∙_}
 use mathlib.Core.Bool.{Bool, _&&_, and-assoc, and-true}
 use mathlib.Core.List.{List}
-use Prim.Native.Nat.{ℕ, zero, suc, _+_, _-_, _≤_, _<_}
-use native.Mathlib.Nat.{add-zero, le-refl}
+use Prim.Native.Nat.{ℕ, suc, _+_, _-_, _≤_, _<_}
 use native.Mathlib.Numerals.{add-one}
 use native.Mathlib.Omega.{arith}
 use lib.ListN.{length, getD, drop, length-take, length-drop}
 use Rattle.model.specs.Basics.{all, from}
 use Rattle.model.specs.Survey.{Accepted, neighboursOf}
+use Rattle.model.proofs.SurveyLists.{start-last}
 use Rattle.survey.specs.Rows.{Rows}
 
 module _ (n : ℕ) (starts neighbours : List ℕ) (r : Rows n starts neighbours) where
-  rises : (k v : ℕ) → v + k ≡ n → getD starts v 0 ≤ getD starts n 0
-  rises zero v e = subst (λ (x : ℕ). getD starts v 0 ≤ getD starts x 0) (sym (add-zero v) ∙ e) (le-refl (getD starts v 0))
-  rises (suc k) v e =
-      let h = rises k (v + 1) (omega arith) in
-      let g = r .rising v (omega arith) in
-      omega arith
-
-  pub start-last : (v : ℕ) → v ≤ n → getD starts v 0 ≤ getD starts n 0
-  start-last v h = rises (n - v) v (omega arith)
-
   pub start-within : (v : ℕ) → v ≤ n → getD starts v 0 ≤ length neighbours
-  start-within v h = omega (arith, start-last v h, r .within)
+  start-within v h = omega (arith, start-last n starts (r .rising) v h, r .within)
 
   -- a node's own neighbours are a part of the list
   pub record Part (v : ℕ) : Type 0 where

@@ -7,7 +7,6 @@ use mathlib.Core.List.{List, [], _∷_, _++_, map}
 use Prim.Native.Nat.{ℕ, zero, suc, _+_, _*_, _≤_, _<_}
 use native.Mathlib.Numerals.{add-one}
 use native.Mathlib.Omega.{arith}
-use borrow.Author.Tests.{lt-ltb}
 use lib.Dec.{T, ltb}
 use lib.ListN.{length, getD, take, drop, replicate, length-append, length-drop, length-replicate}
 use lib.Seq.{take-suc, take-all, drop-at, length-take-le}
@@ -101,10 +100,6 @@ lowEntry n s G a b = if isLow s G a && isLow s G b then fewest (lowLinks n s G) 
 pub low-whole : (n s : ℕ) (G : Graph) → table n (lowEntry n s G) ≡ lowTable n s G
 unfolding lowEntry lowTable
 low-whole n s G = refl
-
--- the low nodes, as the set has them
-pub low-are : (n s : ℕ) (G : Graph) (p : ℕ → Bool) → p ≡ (λ v. ltb v n && isLow s G v) → (v : ℕ) → v < n → p v ≡ isLow s G v
-low-are n s G p e v k = ap (λ (f : ℕ → Bool). f v) e ∙ rw (lt-ltb v n k) refl
 
 module _ (n s : ℕ) (G : Graph) (g : IsGraph n G) where
   -- a search from a low node does not reach a high one

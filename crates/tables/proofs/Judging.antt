@@ -1,13 +1,12 @@
 -- The refusals of building.
 -- Assumes nothing.
 use mathlib.Core.Path.{_≡_, refl, sym, ap, ap₂, _∙_}
-use mathlib.Core.Logic.{_⊎_, inl, inr}
 use mathlib.Core.Bool.{Bool, true, false, not, _&&_, _||_}
 use mathlib.Core.List.{List}
-use Prim.Native.Nat.{ℕ, _+_, _-_, _*_, _≤_, _<_}
-use native.Mathlib.Omega.{arith}
-use borrow.Author.Tests.{lt-ltb, le-ltb, lt-leb, le-leb, ltb-false}
-use lib.Dec.{ltb, leb}
+use Prim.Native.Nat.{ℕ, _+_, _*_, _≤_, _<_}
+use native.Mathlib.Numerals.{add-one}
+use borrow.Author.Tests.{ltb-false}
+use lib.Dec.{ltb, leb, leb·suc-suc}
 use lib.ListN.{length, take}
 use Rattle.model.specs.declared.Refusal.the-variants.{NodeCount, ShortList, NotSurvey}
 use Rattle.model.specs.declared.Counting.the-variants as counting
@@ -21,28 +20,13 @@ use Rattle.model.specs.Building.{built, building, returned}
 use Rattle.model.proofs.Acceptance.{good-size, survey-facts}
 use Rattle.model.proofs.Covering.{hubs-below}
 use Rattle.model.proofs.Demand.{building-answers}
-use Rattle.model.proofs.Tests.{lt-or, of-or-false, true-T}
+use Rattle.model.proofs.Tests.{of-or-false, true-T, not-and, not-leb, not-ltb}
 use Rattle.hubs.proofs.Greedy.{hubs-front}
 use Rattle.tables.proofs.Reports.{report-same}
 
--- not at least y: less than y
-not-leb : (x y : ℕ) → not (leb y x) ≡ ltb x y
-not-leb x y = at (lt-or x y)
-  where
-    at : (x < y) ⊎ (y ≤ x) → not (leb y x) ≡ ltb x y
-    at (inl h) = rw (lt-leb y x h, lt-ltb x y h) refl
-    at (inr h) = rw (le-leb y x h, le-ltb x y h) refl
-
-not-ltb : (x n : ℕ) → not (ltb n x) ≡ ltb x (n + 1)
-not-ltb x n = at (lt-or n x)
-  where
-    at : (n < x) ⊎ (x ≤ n) → not (ltb n x) ≡ ltb x (n + 1)
-    at (inl h) = rw (lt-ltb n x h, le-ltb x (n + 1) (omega arith)) refl
-    at (inr h) = rw (le-ltb n x h, lt-ltb x (n + 1) (omega arith)) refl
-
-not-and : (x y : Bool) → not (x && y) ≡ (not x || not y)
-not-and true y = refl
-not-and false y = refl
+-- not above n: below n + 1
+not-above : (x n : ℕ) → not (ltb n x) ≡ ltb x (n + 1)
+not-above x n = not-ltb n x ∙ sym (leb·suc-suc x n) ∙ ap (ltb x) (sym (add-one n))
 
 pub room-is : (n s f l r h : ℕ)
     → not (ltb n s && leb (n * n) f && leb (n * n) l && leb (n * n) r && leb n h) ≡ (ltb s (n + 1) || ltb f (n * n) || ltb l (n * n) || ltb r (n * n) || ltb h n)
@@ -52,7 +36,7 @@ room-is n s f l r h =
     not-and (ltb n s && leb (n * n) f && leb (n * n) l) (leb (n * n) r)
     ∙ ap₂ _||_ (
     not-and (ltb n s && leb (n * n) f) (leb (n * n) l)
-    ∙ ap₂ _||_ (not-and (ltb n s) (leb (n * n) f) ∙ ap₂ _||_ (not-ltb s n) (not-leb f (n * n))) (not-leb l (n * n))
+    ∙ ap₂ _||_ (not-and (ltb n s) (leb (n * n) f) ∙ ap₂ _||_ (not-above s n) (not-leb f (n * n))) (not-leb l (n * n))
     ) (not-leb r (n * n))
     ) (not-leb h n)
 

@@ -3,7 +3,7 @@
 use mathlib.Core.Path.{_≡_, refl, sym, ap, ap₂, _∙_}
 use mathlib.Core.Logic.{_⊎_, inl, inr}
 use mathlib.Core.Bool.{_||_}
-use mathlib.Core.List.{List, [], _∷_, _++_, map, foldr, append-nil}
+use mathlib.Core.List.{List, [], _∷_, _++_, map, foldr}
 use Prim.Native.Nat.{ℕ, _+_, _-_, _*_, _≤_, _<_, min}
 use native.Mathlib.Nat.{le-refl}
 use native.Mathlib.Numerals.{add-one}
@@ -11,10 +11,10 @@ use native.Mathlib.Omega.{arith}
 use borrow.Author.Tests.{eq-eqb, ne-eqb}
 use borrow.Rule.Slice.PartMut.{midOf}
 use lib.Dec.{T, eqb}
-use lib.ListN.{length, getD, take, drop, set, length-set, drop-of-length-le}
+use lib.ListN.{length, getD, take, drop, set, length-set}
 use lib.Seq.{take-at, ext-getD, getD-take, getD-drop, take-suc, take-all, getD-set-same, getD-set-other}
 use Rattle.lists.specs.Writing.{Wrote}
-use Rattle.lists.proofs.Writing.{wrote-over}
+use Rattle.lists.proofs.Writing.{wrote-over, over-whole}
 use Rattle.model.specs.Basics.{none, if_then_else_, upTo, has, over}
 use Rattle.model.specs.Tables.{table, entry, sum, via, reportOf}
 use Rattle.model.proofs.Entries.{length-row, getD-row, length-table, entry-front}
@@ -112,10 +112,7 @@ module _ (n : ℕ) (full low : List ℕ) (hs : List ℕ) (a : ℕ) where
 
 -- a list that becomes another of its length
 pub copied : (x x′ t : List ℕ) (e : ℕ) → Wrote x x′ 0 e t → length x ≡ length t → x′ ≡ t
-unfolding over
-copied x x′ t e w l =
-    let k : length x ≤ length t = omega arith in
-    wrote-over t w .0 ∙ ap (λ (r : List ℕ). t ++ r) (drop-of-length-le x k) ∙ append-nil t
+copied x x′ t e w l = wrote-over t w .0 ∙ over-whole t x l
 
 -- ---- Report from tables that stand in front of longer lists
 

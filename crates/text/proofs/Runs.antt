@@ -2,19 +2,19 @@
 -- Assumes nothing.
 use mathlib.Core.Path.{_≡_, refl, sym, ap, _∙_, subst}
 use mathlib.Core.Logic.{_⊎_, inl, inr, ⊎-elim}
-use mathlib.Core.Bool.{Bool, true, false, not, and-false}
+use mathlib.Core.Bool.{not, and-false}
 use mathlib.Core.List.{List, [], _∷_, _++_}
 use Prim.Native.Nat.{ℕ, suc, _+_, _-_, _*_, _^_, _≤_, _<_}
 use native.Mathlib.Nat.{pow-suc, pow-le-pow-right, zero-lt-suc, lt-of-lt-of-le}
 use native.Mathlib.Numerals.{add-one}
 use native.Mathlib.Omega.{arith}
 use borrow.Author.Tests.{lt-leb}
-use lib.Dec.{T, leb}
+use lib.Dec.{T, leb, not-T}
 use lib.ListN.{length, getD, drop, drop-of-length-le}
 use lib.Seq.{drop-cons}
 use Rattle.model.specs.Basics.{all}
 use Rattle.model.specs.Numbers.{isDigit, valueFrom}
-use Rattle.model.proofs.Tests.{and-l, and-r, and-i, T-true, T-false}
+use Rattle.model.proofs.Tests.{and-l, and-r, and-i, passes, T-true, T-false}
 use Rattle.model.proofs.Numbers.{digit-bounds, bounds-digit}
 use Rattle.text.specs.Scan.{run}
 
@@ -25,10 +25,6 @@ Digits t = T (all isDigit t)
 abbrev pub NoDigit : List ℕ → Type 0
 NoDigit [] = Unit {0}
 NoDigit (b ∷ t) = T (not (isDigit b))
-
-dec-T : (x : Bool) → T x ⊎ T (not x)
-dec-T true = inl tt
-dec-T false = inr tt
 
 pub run-digit : (b : ℕ) (t : List ℕ) → T (isDigit b) → run (b ∷ t) ≡ b ∷ run t
 unfolding run
@@ -44,7 +40,7 @@ run-nil = refl
 
 -- by whether the first byte is a digit
 run-cases : (P : List ℕ → Type 0) (b : ℕ) (t : List ℕ) → (T (isDigit b) → P (b ∷ run t)) → (T (not (isDigit b)) → P []) → P (run (b ∷ t))
-run-cases P b t f g = ⊎-elim (λ d. subst P (sym (run-digit b t d)) (f d)) (λ d. subst P (sym (run-stop b t d)) (g d)) (dec-T (isDigit b))
+run-cases P b t f g = ⊎-elim (λ d. subst P (sym (run-digit b t d)) (f d)) (λ no. let d = not-T (isDigit b) no in subst P (sym (run-stop b t d)) (g d)) (passes (isDigit b))
 
 pub run-all : (t : List ℕ) → Digits (run t)
 unfolding all

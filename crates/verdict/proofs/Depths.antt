@@ -2,7 +2,7 @@
 -- Assumes nothing.
 use mathlib.Core.Path.{_≡_, refl, sym, ap, ap₂, _∙_, subst}
 use mathlib.Core.Logic.{_⊎_, inl, inr}
-use mathlib.Core.Bool.{Bool, _&&_, _||_, or-assoc}
+use mathlib.Core.Bool.{Bool, _&&_, _||_}
 use mathlib.Core.List.{List, [], _∷_, _++_, map}
 use Prim.Native.Nat.{ℕ, _+_, _≤_, _<_, max}
 use native.Mathlib.Omega.{arith}
@@ -11,26 +11,26 @@ use lib.Dec.{T, eqb, ltb}
 use lib.ListN.{length, getD, take, drop, set, drop-of-length-le, length-append, length-drop, length-take}
 use lib.Seq.{take-at}
 use Rattle.lists.specs.Writing.{Wrote, written}
-use Rattle.model.specs.Basics.{none, if_then_else_, upTo, has, any, firstOf, gather}
+use Rattle.model.specs.Basics.{none, if_then_else_, upTo, any, firstOf, gather}
 use Rattle.model.specs.declared.Verdict.{Verdict}
 use Rattle.model.specs.declared.Verdict.the-variants.{Parted, Long, Short}
 use Rattle.model.specs.Graph.{Edges, between, fewest}
 use Rattle.model.specs.declared.Refusal.{Refusal}
 use Rattle.model.specs.declared.Tested.{Tested}
 use Rattle.model.specs.Answers.{Outcome, refused, answered, number}
-use Rattle.model.specs.Survey.{Graph, neighboursOf, linked, accepting, IsGraph, Accepted}
+use Rattle.model.specs.Survey.{Graph, neighboursOf, linked, accepting, Accepted}
 use Rattle.model.specs.Threshold.{threshold}
 use Rattle.model.specs.Testing.{testingOf, testing}
 use Rattle.model.specs.Demand.{RightVerdict}
 use Rattle.model.specs.Hubs.{isLow, closed, hubs}
 use Rattle.model.specs.TwoOrFour.{sources, verdictOf, tested}
 use Rattle.model.proofs.Demand.{testing-right}
-use Rattle.model.proofs.Covering.{hubs-below}
 use Rattle.model.proofs.Entries.{length-row}
 use Rattle.model.proofs.TableLaws.{all-allowed}
-use Rattle.model.proofs.Lists.{First, found, nothing, first-below, first-most, first-is, of-cons}
+use Rattle.model.proofs.Lists.{any-append, First, found, nothing, first-below, first-of, first-most, first-is}
 use Rattle.model.proofs.Loops.{drop-next}
-use Rattle.model.proofs.Tests.{and-r, and-i, eq-or, lt-or}
+use Rattle.model.proofs.Tests.{eq-or, lt-or}
+use Rattle.hubs.proofs.Sets.{low-are}
 use Rattle.verdict.specs.Depth.{greatest, distances, ofDepth}
 
 -- ---- the greatest number
@@ -58,11 +58,6 @@ is-none x h = at (eq-or x none)
     at : (x ≡ none) ⊎ (x ≡ none → ⊥) → eqb x none ≡ ltb 65534 x
     at (inl e) = eq-eqb x none e ∙ sym (lt-ltb 65534 x (omega arith))
     at (inr d) = ne-eqb x none d ∙ sym (le-ltb 65534 x (omega arith))
-
-any-append : (p : ℕ → Bool) (k l : List ℕ) → any p (k ++ l) ≡ (any p k || any p l)
-unfolding any
-any-append p [] l = refl
-any-append p (x ∷ k) l = ap (λ (b : Bool). p x || b) (any-append p k l) ∙ sym (or-assoc (p x) (any p k) (any p l))
 
 any-map : (p : ℕ → Bool) (f : ℕ → ℕ) (l : List ℕ) → any p (map f l) ≡ any (λ x. p (f x)) l
 unfolding any
@@ -154,26 +149,20 @@ search-none n G hs i most size e h =
 
 module _ (n s : ℕ) (G : Graph) (size : n ≤ 1024) (p : ℕ → Bool) (is : p ≡ (λ v. ltb v n && isLow s G v)) where
   in-set : (v : ℕ) → v < n → T (isLow s G v) → T (p v)
-  in-set v h t = subst (λ (q : ℕ → Bool). T (q v)) (sym is) (and-i (ltb v n) (isLow s G v) (subst T (sym (lt-ltb v n h)) tt) t)
-
-  of-set : (v : ℕ) → T (p v) → T (isLow s G v)
-  of-set v t = and-r (ltb v n) (isLow s G v) (subst (λ (q : ℕ → Bool). T (q v)) is t)
+  in-set v h t = subst T (sym (low-are n s G p is v h)) t
 
   module _ (k r : ℕ) (wide : n ≤ k) (e : r ≡ firstOf p k (upTo k)) where
-    first : First p k 0 k r
-    first = subst (λ (x : ℕ). First p k 0 k x) (sym e) (first-below p k k)
-
     -- the smallest low node
     pub low-first : r < n → firstOf (isLow s G) none (upTo n) ≡ r
-    low-first h = at first
+    low-first h = at (first-of p k k e)
       where
         at : First p k 0 k r → firstOf (isLow s G) none (upTo n) ≡ r
-        at (found lo hi t least) = first-is (isLow s G) none n r h (of-set r t) (λ y l q. least y (omega arith) l (in-set y (omega arith) q))
+        at (found lo hi t least) = first-is (isLow s G) none n r h (subst T (low-are n s G p is r h) t) (λ y l q. least y (omega arith) l (in-set y (omega arith) q))
         at (nothing d least) = absurd (omega arith)
 
     -- there is no low node
     pub low-missing : n ≤ r → firstOf (isLow s G) none (upTo n) ≡ none
-    low-missing h = at first (first-below (isLow s G) none n)
+    low-missing h = at (first-of p k k e) (first-below (isLow s G) none n)
       where
         at : First p k 0 k r → {x : ℕ} → First (isLow s G) none 0 n x → x ≡ none
         at (found lo hi t least) {x} (found l m q o) = absurd (least x (omega arith) (omega arith) (in-set x (omega arith) q))
@@ -187,20 +176,6 @@ module _ (n s : ℕ) (G : Graph) (size : n ≤ 1024) (p : ℕ → Bool) (is : p 
     pub sources-hubs : n ≤ r → sources n s G ≡ hubs n s G
     unfolding sources
     sources-hubs h = ap (λ (v : ℕ). if eqb v none then hubs n s G else closed G v) (low-missing h)
-
--- the sources are nodes
-pub sources-below : (n s : ℕ) (G : Graph) → IsGraph n G → n ≤ 1024 → (h : ℕ) → T (has h (sources n s G)) → h < n
-unfolding sources closed
-sources-below n s G g size h = at (first-below (isLow s G) none n)
-  where
-    at : {x : ℕ} → First (isLow s G) none 0 n x → T (has h (if eqb x none then hubs n s G else (x ∷ G x))) → h < n
-    at {x} (found lo hi t least) m =
-        own x hi (of-cons h x (G x) (subst (λ (b : Bool). T (has h (if b then hubs n s G else (x ∷ G x)))) (ne-eqb x none (λ q. omega arith)) m))
-      where
-        own : (x : ℕ) → x < 0 + n → (h ≡ x) ⊎ T (has h (G x)) → h < n
-        own x hi (inl q) = omega arith
-        own x hi (inr q) = g .below x h (omega arith) q
-    at {x} (nothing d least) m = hubs-below n G s h (subst (λ (b : Bool). T (has h (if b then hubs n s G else (x ∷ G x)))) (eq-eqb x none d) m)
 
 -- a node and then a list, in front of the list lent
 pub two-written : (x x′ t : List ℕ) (v e : ℕ) → 1 + length t ≤ length x → Wrote (set x 0 v) x′ 1 e t → take (1 + length t) x′ ≡ v ∷ t

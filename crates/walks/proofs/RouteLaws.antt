@@ -85,7 +85,3 @@ module _ (n : ℕ) (starts neighbours full low report : List ℕ) (a b w : ℕ) 
         → {r : Walking} → r ≡ fit (length W) x (nodes n (threshold n) (neighboursOf starts neighbours) full low a b (x .route)) → Written r
     unfolding walkOf
     route-written x e f g = written (g ∙ ap (λ (k : ℕ). fit k x (nodes n (threshold n) G full low a b (x .route))) (ap length f ∙ length-replicate w none) ∙ sym (judged w ∙ rw e))
-
--- the list is as long as before
-pub blanked : {W : List ℕ} (w : ℕ) → W ≡ replicate w none → W ≡ replicate (length W) none
-blanked w e = e ∙ ap (λ (k : ℕ). replicate k none) (sym (ap length e ∙ length-replicate w none))

@@ -1,14 +1,13 @@
 -- One step of a walk, and the steps after it.
 -- Assumes nothing.
 use mathlib.Core.Path.{_≡_, refl, sym, ap, ap₂, _∙_, subst}
-use mathlib.Core.Logic.{_⊎_, inl, inr}
-use mathlib.Core.Bool.{Bool, true, false, not, _&&_}
+use mathlib.Core.Bool.{Bool, true, false, not, _&&_, and-true}
 use mathlib.Core.List.{List, [], _∷_, _++_, reverse, reverse-cons}
 use mathlib.Core.Option.{Option, none as missing, some}
 use Prim.Native.Nat.{ℕ, zero, suc, _-_, _*_, _≤_, _<_}
 use native.Mathlib.Nat.{mul-le-mul}
 use native.Mathlib.Omega.{arith}
-use borrow.Author.Tests.{eq-eqb, ne-eqb, lt-ltb, le-ltb, le-leb, lt-leb}
+use borrow.Author.Tests.{eq-eqb, ne-eqb}
 use lib.Dec.{eqb, ltb, leb}
 use lib.ListN.{length, take, drop, set, length-reverse}
 use lib.Seq.{set-split, drop-at, length-take-le, append-snoc}
@@ -17,7 +16,7 @@ use Rattle.model.specs.Graph.{Edges}
 use Rattle.model.specs.Survey.{Graph, neighboursOf, linked, Accepted}
 use Rattle.model.specs.Hubs.{isHigh, isLow}
 use Rattle.model.specs.Walk.{before, next, steps}
-use Rattle.model.proofs.Tests.{lt-or}
+use Rattle.model.proofs.Tests.{not-leb}
 use Rattle.model.proofs.Walks.{Sound, steps-sound, next-below}
 use Rattle.walks.specs.Parts.{leftIn, leadsOn, stepsIn, given, Leaves}
 
@@ -35,16 +34,11 @@ module _ (starts neighbours : List ℕ) (limit : ℕ) (table : List ℕ) (step d
   pub elsewhere : (leftIn table step x ≡ d → ⊥) → false ≡ leadsOn starts neighbours limit table step d x
   elsewhere f = not-on (isLow limit (neighboursOf starts neighbours) x) (ne-eqb (leftIn table step x) d f)
 
-  fewer : (k : ℕ) → ltb k limit ≡ (not (leb limit k) && true)
-  fewer k = at (lt-or k limit)
-    where
-      at : (k < limit) ⊎ (limit ≤ k) → ltb k limit ≡ (not (leb limit k) && true)
-      at (inl h) = rw (lt-ltb k limit h, lt-leb limit k h)
-      at (inr h) = rw (le-ltb k limit h, le-leb limit k h)
-
   pub nearer : leftIn table step x ≡ d → {row : List ℕ} → row ≡ neighboursOf starts neighbours x → ltb (length row) limit ≡ leadsOn starts neighbours limit table step d x
   unfolding isLow isHigh
-  nearer e q = rw (eq-eqb (leftIn table step x) d e, q) (fewer (length (neighboursOf starts neighbours x)))
+  nearer e q =
+      let k = length (neighboursOf starts neighbours x) in
+      rw (eq-eqb (leftIn table step x) d e, q) (sym (and-true (not (leb limit k)) ∙ not-leb k limit))
 
 -- ---- the steps from v where the way on leads nowhere, or to x
 

@@ -2,7 +2,7 @@
 -- Assumes nothing.
 use mathlib.Core.Path.{_≡_, refl, sym, ap, ap₂, _∙_, subst}
 use mathlib.Core.List.{List, [], _∷_, _++_, map, append-nil}
-use Prim.Native.Nat.{ℕ, suc, _+_, _-_, _*_, _/_, _≤_, _<_}
+use Prim.Native.Nat.{ℕ, _+_, _-_, _*_, _/_, _≤_, _<_}
 use native.Mathlib.Omega.{arith}
 use borrow.Author.Tests.{lt-ltb, le-ltb}
 use lib.Dec.{ltb}
@@ -21,8 +21,8 @@ use Rattle.model.proofs.Acceptance.{accepting-facts}
 use Rattle.model.proofs.Lists.{keep-append, map-append, gather-append, gather-gather}
 use Rattle.model.proofs.Loops.{drop-next, gather-next, gather-end}
 use Rattle.model.proofs.ReadBack.{writing-answers, write-short}
-use Rattle.model.proofs.SurveyLists.{total, total-suc, own-total}
-use Rattle.survey.proofs.RowLaws.{rows-of, start-last}
+use Rattle.model.proofs.SurveyLists.{start-last}
+use Rattle.survey.proofs.RowLaws.{rows-of, own-length}
 use Rattle.writing.specs.Lines.{linesOf}
 
 -- ---- one line
@@ -111,18 +111,10 @@ module _ (n : ℕ) (starts neighbours : List ℕ) (acc : Accepted n starts neigh
 
   -- where node v's own neighbours end
   pub own-end : (v : ℕ) → v < n → getD starts v 0 + length (neighboursOf starts neighbours v) ≡ getD starts (v + 1) 0
-  own-end v h =
-      let t = total-suc G v in
-      let e : suc v ≡ v + 1 = omega arith in
-      omega (
-        arith,
-        t,
-        own-total n starts neighbours (acc .lists) v (omega arith),
-        ap (total G) e ∙ own-total n starts neighbours (acc .lists) (v + 1) (omega arith),
-      )
+  own-end v h = omega (arith, own-length n starts neighbours (rows-of acc) v h, acc .lists .rising v h)
 
   pub own-few : (v : ℕ) → v ≤ n → getD starts v 0 ≤ 32768
-  own-few v h = omega (arith, start-last n starts neighbours (rows-of acc) v h, acc .lists .links, acc .lists .even)
+  own-few v h = omega (arith, start-last n starts (acc .lists .rising) v h, acc .lists .links, acc .lists .even)
 
   module _ (total v : ℕ) where
     pub text-none : (letter-line : total ≡ length (lineOf 83 n (getD starts n 0 / 2))) → total ≤ 24 → Counted total (1 + getD starts 0 0) text (rowsFrom n G 0)

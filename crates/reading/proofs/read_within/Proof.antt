@@ -3,8 +3,9 @@
 use mathlib.Core.Path.{sym, ap, _∙_}
 use native.Mathlib.Omega.{arith}
 use lib.ListN.{length}
+use Rattle.lists.proofs.Filling.{filled-own}
 use Rattle.reading.specs.Links.{firstAnswer}
-use Rattle.reading.proofs.ReadLaws.{counts-within, cleared, first-refused, first-read}
+use Rattle.reading.proofs.ReadLaws.{counts-within, first-refused, first-read}
 use borrow.Author.Needs.{needs}
 use Rattle.reading.proofs.read_within.Statement.{statement}
 use Rattle.reading.proofs.read_within.Tie as tie
@@ -25,7 +26,7 @@ enum-known-n : tie.Need-enum-known-n
 enum-known-n c = search needs
 
 read-lists-requires : tie.Need-read-lists-requires
-read-lists-requires c κs = let w = counts-within ((c .before .before .before .before .before .before .before .before .before .before .before .before .before .before .before .before .before .args .most-nodes)) ((c .before .before .before .before .before .before .before .before .before .before .before .before .before .before .before .before .before .args .most-links)) (length ((c .before .before .before .before .before .before .before .before .before .before .before .before .fill32 .last .0))) (length ((c .before .before .before .before .before .before .before .before .fill16 .last .0))) ((c .before .before .before .before .before .before .before .before .before .before .before .before .before .before .before .before .before .args .text .now)) _ _ _ (sym (sym (ap (firstAnswer ((c .before .before .before .before .before .before .before .before .before .before .before .before .before .before .before .before .before .args .text .now))) ((c .before .before .before .n .given .1))) ∙ ((c .before .before .before .before .before .first-line .ensures)))) in ((omega (arith, w .size, (c .before .before .before .before .before .before .before .before .before .before .before .before .before .before .before .before .before .pre .0)), omega (arith, w .few, (c .before .before .before .before .before .before .before .before .before .before .before .before .before .before .before .before .before .pre .1)), w .room, w .list-room), cleared ((c .before .before .before .before .before .before .before .before .before .before .before .before .before .before .before .before .before .args .most-nodes)) ((c .before .before .before .before .before .before .before .before .before .before .before .before .before .before .before .before .before .args .most-links)) ((c .before .before .before .before .before .before .before .before .before .before .before .before .before .before .before .before .before .args .text .now)) ((c .before .before .before .before .before .before .before .before .before .before .before .before .before .before .before .before .before .args .starts .now)) ((c .before .before .before .before .before .before .before .before .before .before .before .before .before .before .before .before .before .args .neighbours .now)) ((c .before .before .before .before .before .before .before .before .before .before .before .before .fill32 .last .0)) ((c .before .before .before .before .before .before .before .before .fill16 .last .0)) ((c .before .before .before .before .before .before .before .before .before .before .before .before .fill32 .ensures)) ((c .before .before .before .before .before .before .before .before .fill16 .ensures)))
+read-lists-requires c κs = let w = counts-within ((c .before .before .before .before .before .before .before .before .before .before .before .before .before .before .before .before .before .args .most-nodes)) ((c .before .before .before .before .before .before .before .before .before .before .before .before .before .before .before .before .before .args .most-links)) (length ((c .before .before .before .before .before .before .before .before .before .before .before .before .fill32 .last .0))) (length ((c .before .before .before .before .before .before .before .before .fill16 .last .0))) ((c .before .before .before .before .before .before .before .before .before .before .before .before .before .before .before .before .before .args .text .now)) _ _ _ (sym (sym (ap (firstAnswer ((c .before .before .before .before .before .before .before .before .before .before .before .before .before .before .before .before .before .args .text .now))) ((c .before .before .before .n .given .1))) ∙ ((c .before .before .before .before .before .first-line .ensures)))) in ((omega (arith, w .size, (c .before .before .before .before .before .before .before .before .before .before .before .before .before .before .before .before .before .pre .0)), omega (arith, w .few, (c .before .before .before .before .before .before .before .before .before .before .before .before .before .before .before .before .before .pre .1)), w .room, w .list-room), (filled-own 0 (length (c .before .before .before .before .before .before .before .before .before .before .before .before .before .before .before .before .before .args .starts .now)) (c .before .before .before .before .before .before .before .before .before .before .before .before .fill32 .ensures), filled-own 0 (length (c .before .before .before .before .before .before .before .before .before .before .before .before .before .before .before .before .before .args .neighbours .now)) (c .before .before .before .before .before .before .before .before .fill16 .ensures)))
 
 same-length : tie.Need-same-length
 same-length c = search needs

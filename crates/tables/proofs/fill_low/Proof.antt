@@ -5,13 +5,14 @@ use mathlib.Core.List.{List, map}
 use Prim.Native.Nat.{ℕ, _-_, _*_, _≤_}
 use native.Mathlib.Omega.{arith}
 use lib.ListN.{length, length-replicate}
+use Rattle.hubs.proofs.Sets.{low-are}
 use Rattle.lists.specs.Writing.{written}
 use Rattle.model.specs.Basics.{none, if_then_else_, upTo, over}
 use Rattle.model.specs.Graph.{Edges, fewest}
 use Rattle.model.specs.Survey.{neighboursOf}
 use Rattle.nodeset.specs.NodeSet.{member}
 use Rattle.tables.proofs.TableRows.{rowsTo, rows-none, rows-next, rows-done, rows-length}
-use Rattle.tables.proofs.Distances.{lowEntry, low-whole, low-are, low-row-is}
+use Rattle.tables.proofs.Distances.{lowEntry, low-whole, low-row-is}
 use borrow.Author.Needs.{needs}
 use Rattle.tables.proofs.fill_low.Statement.{statement}
 use Rattle.tables.proofs.fill_low.Tie as tie

@@ -7,7 +7,8 @@ use native.Mathlib.Omega.{arith}
 use lib.Dec.{T}
 use Rattle.model.specs.Basics.{has}
 use Rattle.model.specs.Survey.{neighboursOf}
-use Rattle.verdict.proofs.Depths.{sources-below, sources-fit, sources-long, tested-is}
+use Rattle.model.proofs.Verdicts.{source-cases, source-below}
+use Rattle.verdict.proofs.Depths.{sources-fit, sources-long, tested-is}
 use borrow.Author.Needs.{needs}
 use Rattle.verdict.proofs.run_test.Statement.{statement}
 use Rattle.verdict.proofs.run_test.Tie as tie
@@ -35,7 +36,7 @@ slice-aggregate-search-depth c = sources-long ((c .before .before .before .befor
 
 -- src/lib.rt:105:9
 search-depth-requires : tie.Need-search-depth-requires
-search-depth-requires c κs = ((c .before .before .before .before .before .before .pre), subst (λ (l : List ℕ). (h : ℕ) → T (has h l) → h < ((c .before .before .before .before .before .before .args .n))) (sym ((c .before .before .find-sources .ensures .1))) (sources-below ((c .before .before .before .before .before .before .args .n)) ((c .before .before .before .before .before .before .args .s)) (neighboursOf ((c .before .before .before .before .before .before .args .starts .now)) ((c .before .before .before .before .before .before .args .neighbours .now))) ((c .before .before .before .before .before .before .pre .lists .graph)) ((c .before .before .before .before .before .before .pre .size))))
+search-depth-requires c κs = ((c .before .before .before .before .before .before .pre), subst (λ (l : List ℕ). (h : ℕ) → T (has h l) → h < ((c .before .before .before .before .before .before .args .n))) (sym ((c .before .before .find-sources .ensures .1))) (source-below _ _ _ _ _ (source-cases ((c .before .before .before .before .before .before .args .n)) ((c .before .before .before .before .before .before .args .s)) (neighboursOf ((c .before .before .before .before .before .before .args .starts .now)) ((c .before .before .before .before .before .before .args .neighbours .now))) ((c .before .before .before .before .before .before .pre .lists .graph)) ((c .before .before .before .before .before .before .pre .size)))))
 
 -- src/lib.rt:107:18
 verdict-on-requires : tie.Need-verdict-on-requires

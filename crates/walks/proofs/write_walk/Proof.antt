@@ -2,8 +2,10 @@
 -- Assumes nothing.
 use mathlib.Core.Path.{ap}
 use lib.ListN.{length}
+use Rattle.lists.proofs.Filling.{filled-own}
 use Rattle.model.specs.Answers.{pairAnswer}
-use Rattle.walks.proofs.RouteLaws.{refused-written, route-written, blanked}
+use Rattle.model.specs.Basics.{none}
+use Rattle.walks.proofs.RouteLaws.{refused-written, route-written}
 use borrow.Author.Needs.{needs}
 use Rattle.walks.proofs.write_walk.Statement.{statement}
 use Rattle.walks.proofs.write_walk.Tie as tie
@@ -21,7 +23,7 @@ enum-known-x : tie.Need-enum-known-x
 enum-known-x c = search needs
 
 write-route-requires : tie.Need-write-route-requires
-write-route-requires c κs = ((c .before .before .before .before .judge .ensures .1) (c .before .before .x .given .0 .0) (ap pairAnswer (c .before .before .x .given .1)), blanked (length (c .before .before .before .before .before .before .before .before .before .before .before .before .before .before .before .args .walk .now)) (c .before .before .before .before .before .before .before .fill16 .ensures))
+write-route-requires c κs = ((c .before .before .before .before .judge .ensures .1) (c .before .before .x .given .0 .0) (ap pairAnswer (c .before .before .x .given .1)), filled-own none (length (c .before .before .before .before .before .before .before .before .before .before .before .before .before .before .before .args .walk .now)) (c .before .before .before .before .before .before .before .fill16 .ensures))
 
 same-length : tie.Need-same-length
 same-length c = search needs
