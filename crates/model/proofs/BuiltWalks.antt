@@ -32,15 +32,10 @@ use Rattle.model.proofs.TableLaws.{full-is, full-joined, low-is, low-jo
 use Rattle.model.proofs.Allowance.{routes, report-entry, least-cases}
 use Rattle.model.proofs.Walks.{Chosen, to-itself, to-none, to-low, to-hub, bad-itself, bad-hub, chosen, Sound, Given, steps-given, join-given, attains, via-sum, low-sound, hub-sound}
 
-abbrev counted : Option (List ℕ) → ℕ
-counted missing = 0
-counted (some l) = length l
-
 -- nodes that fit are given out with the answer as it is
-fits : (w : ℕ) (x : Answer) (o : Option (List ℕ)) → Given o → counted o ≤ w → fit w x o .answer ≡ answered x
+fits : (w : ℕ) (x : Answer) (k : List ℕ) → length k ≤ w → fit w x (some k) .answer ≡ answered x
 unfolding fit refuseWalk
-fits w x missing m l = absurd m
-fits w x (some k) m l = pick (ltb w (length k)) refl
+fits w x k l = pick (ltb w (length k)) refl
   where
     pick : (c : Bool) → ltb w (length k) ≡ c
         → (if_then_else_ {A = Walking} c (record { answer = refused 8; walk = replicate w none }) (record { answer = answered x; walk = k ++ replicate (w - length k) none })) .answer ≡ answered x
@@ -49,7 +44,7 @@ fits w x (some k) m l = pick (ltb w (length k)) refl
 
 fits-sound : (E : Edges) (a b w : ℕ) (x : Answer) (o : Option (List ℕ)) → Sound E (x .report) a b o → Given o → x .report < w → fit w x o .answer ≡ answered x
 fits-sound E a b w x missing s m l = absurd m
-fits-sound E a b w x (some k) s m l = fits w x (some k) tt (subst (λ (j : ℕ). j ≤ w) (sym (s .1)) l)
+fits-sound E a b w x (some k) s m l = fits w x k (subst (λ (j : ℕ). j ≤ w) (sym (s .1)) l)
 
 module _ (n s : ℕ) (G : Graph) (g : IsGraph n G) (size : n ≤ 1024) (full low report : List ℕ) (built : AreBuilt n s G full low report) where
   -- the laws of the tables, for lists whose fronts they are
@@ -242,11 +237,11 @@ module _ (n s : ℕ) (G : Graph) (g : IsGraph n G) (size : n ≤ 1024) (full low
             (λ v d. full-next h v d hh) (λ v. full-end h v hh) (entry n full h v) v hv (omega arith) refl
 
         at : {q : Outcome Answer} → Chosen a b r (entry n low a b) hub q → walkOf w n s G full low a b q .answer ≡ q
-        at (to-itself e z) = fits w (answer 0 Itself) (some (a ∷ [])) tt (subst (λ (k : ℕ). suc k ≤ w) z (roomy (λ q. clash (sym z ∙ q))))
+        at (to-itself e z) = fits w (answer 0 Itself) (a ∷ []) (subst (λ (k : ℕ). suc k ≤ w) z (roomy (λ q. clash (sym z ∙ q))))
           where
             clash : 0 ≡ none → ⊥
             clash q = omega arith
-        at (to-none x e) = fits w (answer none NoRoute) (some []) tt zero-le
+        at (to-none x e) = fits w (answer none NoRoute) [] zero-le
         at (to-low x f e) =
             fits-sound (linked n G) a b w (answer r Low) (byLow n s G low a b)
             (subst (λ (k : ℕ). Sound (linked n G) k a b (byLow n s G low a b)) e (low-sound n s G g full low a b ha hb))
