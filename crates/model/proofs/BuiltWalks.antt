@@ -4,7 +4,7 @@ use mathlib.Core.Path.{_≡_, refl, sym, ap, ap₂, _∙_, subst}
 use mathlib.Core.Logic.{_⊎_, inl, inr}
 use mathlib.Core.Bool.{Bool, true, false, not, _&&_}
 use mathlib.Core.List.{List, [], _∷_, _++_}
-use mathlib.Core.Option.{Option, none as missing, some}
+use mathlib.Core.Option.{Option, none as missing, some, IsSome}
 use Prim.Native.Nat.{ℕ, suc, _+_, _-_, _≤_, _<_, zero-le}
 use native.Mathlib.Nat.{le-of-suc-le-suc}
 use native.Mathlib.Omega.{arith}
@@ -30,7 +30,7 @@ use Rattle.model.proofs.Covering.{hubs-below}
 use Rattle.model.proofs.Entries.{entry-front}
 use Rattle.model.proofs.TableLaws.{full-is, full-joined, low-is, low-joined, low-ends, both-low, low-widen, fewest-unique}
 use Rattle.model.proofs.Allowance.{routes, report-entry, least-cases}
-use Rattle.model.proofs.Walks.{Chosen, to-itself, to-none, to-low, to-hub, bad-itself, bad-hub, chosen, Sound, Given, steps-given, join-given, attains, via-sum, low-sound, hub-sound}
+use Rattle.model.proofs.Walks.{Chosen, to-itself, to-none, to-low, to-hub, bad-itself, bad-hub, chosen, Sound, steps-given, join-given, attains, via-sum, low-sound, hub-sound}
 
 -- nodes that fit are given out with the answer as it is
 fits : (w : ℕ) (x : Answer) (k : List ℕ) → length k ≤ w → fit w x (some k) .answer ≡ answered x
@@ -42,7 +42,7 @@ fits w x k l = pick (ltb w (length k)) refl
     pick true e = absurd (omega (arith, ltb→lt w (length k) (subst T (sym e) tt)))
     pick false e = refl
 
-fits-sound : (E : Edges) (a b w : ℕ) (x : Answer) (o : Option (List ℕ)) → Sound E (x .report) a b o → Given o → x .report < w → fit w x o .answer ≡ answered x
+fits-sound : (E : Edges) (a b w : ℕ) (x : Answer) (o : Option (List ℕ)) → Sound E (x .report) a b o → IsSome o → x .report < w → fit w x o .answer ≡ answered x
 fits-sound E a b w x missing s m l = absurd m
 fits-sound E a b w x (some k) s m l = fits w x k (subst (λ (j : ℕ). j ≤ w) (sym (s .1)) l)
 
@@ -222,14 +222,14 @@ module _ (n s : ℕ) (G : Graph) (g : IsGraph n G) (size : n ≤ 1024) (full low
             side (inl e) = absurd (f e)
             side (inr l) = l
 
-        low-given : (entry n low a b ≡ none → ⊥) → Given (byLow n s G low a b)
+        low-given : (entry n low a b ≡ none → ⊥) → IsSome (byLow n s G low a b)
         low-given f =
             let i = low-is′ a b ha hb f in
             let j = low-joined′ a b (entry n low a b) ha hb (i .0) (i .1) (i .2 .0) in
             steps-given n G g (isLow s G) (λ x. entry n low x b) b (omega arith)
             (λ v d. low-next b v d hb) (λ v. low-end b v hb) (entry n low a b) a ha (omega arith) refl
 
-        hub-given : (h v : ℕ) → h < n → v < n → (entry n full h v ≡ none → ⊥) → Given (toHub n G full h v)
+        hub-given : (h v : ℕ) → h < n → v < n → (entry n full h v ≡ none → ⊥) → IsSome (toHub n G full h v)
         hub-given h v hh hv f =
             let i = full-is′ h v hh hv f in
             let j = full-joined′ h v (entry n full h v) hh hv (i .0) (i .1 .0) in

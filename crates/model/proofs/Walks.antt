@@ -5,7 +5,7 @@ use mathlib.Core.Path.{_≡_, refl, sym, ap, ap₂, _∙_, subst}
 use mathlib.Core.Logic.{_⊎_, inl, inr}
 use mathlib.Core.Bool.{Bool, true, false, _&&_}
 use mathlib.Core.List.{List, [], _∷_, _++_, reverse, tail, reverse-cons}
-use mathlib.Core.Option.{Option, none as missing, some}
+use mathlib.Core.Option.{Option, none as missing, some, IsSome}
 use Prim.Native.Nat.{ℕ, zero, suc, _+_, _-_, _≤_, _<_, zero-le}
 use native.Mathlib.Nat.{sub-zero}
 use native.Mathlib.Omega.{arith}
@@ -72,10 +72,6 @@ abbrev pub Sound : Edges → ℕ → ℕ → ℕ → Option (List ℕ) → Type 
 Sound E d v goal missing = Unit {0}
 Sound E d v goal (some l) = Walked E l v goal × (length l ≡ suc d)
 
-abbrev pub Given : Option (List ℕ) → Type 0
-Given missing = ⊥
-Given (some l) = Unit {0}
-
 module _ (n : ℕ) (G : Graph) (g : IsGraph n G) (may : ℕ → Bool) (left : ℕ → ℕ) (goal : ℕ) where
   pub steps-sound : (d v : ℕ) → v < n → Sound (linked n G) d v goal (steps G may left goal d v)
   unfolding steps next before
@@ -105,11 +101,11 @@ module _ (n : ℕ) (G : Graph) (g : IsGraph n G) (may : ℕ → Bool) (left : �
 
   -- where each node has a next one, one link nearer, the steps lead to the goal
   pub steps-given : n ≤ none → ((v d : ℕ) → v < n → suc d < none → left v ≡ suc d → (u : ℕ) × T (has u (G v)) × T (may u) × (left u ≡ d))
-      → ((v : ℕ) → v < n → left v ≡ 0 → v ≡ goal) → (d v : ℕ) → v < n → d < none → left v ≡ d → Given (steps G may left goal d v)
+      → ((v : ℕ) → v < n → left v ≡ 0 → v ≡ goal) → (d v : ℕ) → v < n → d < none → left v ≡ d → IsSome (steps G may left goal d v)
   unfolding steps next before
   steps-given size next end zero v h z q = at (eqb v goal) (eq-T v goal (end v h q))
     where
-      at : (t : Bool) → T t → Given (if t then some (v ∷ []) else missing)
+      at : (t : Bool) → T t → IsSome (if t then some (v ∷ []) else missing)
       at true t = tt
       at false t = t
   steps-given size next end (suc d) v h z q = at (first-in p none (G v)) (λ b e. steps-given size next end d x b (omega arith) e)
@@ -120,16 +116,16 @@ module _ (n : ℕ) (G : Graph) (g : IsGraph n G) (may : ℕ → Bool) (left : �
       x : ℕ
       x = firstOf p none (G v)
 
-      add : (o : Option (List ℕ)) → Given o → Given (before v o)
+      add : (o : Option (List ℕ)) → IsSome o → IsSome (before v o)
       add missing t = t
       add (some l) t = tt
 
-      away : (t : Bool) → eqb x none ≡ t → x < n → Given (steps G may left goal d x) → Given (if t then missing else before v (steps G may left goal d x))
+      away : (t : Bool) → eqb x none ≡ t → x < n → IsSome (steps G may left goal d x) → IsSome (if t then missing else before v (steps G may left goal d x))
       away true e b s = let w : x ≡ none = is x none e in absurd (omega arith)
       away false e b s = add (steps G may left goal d x) s
 
       at : (T (has x (G v)) × T (p x)) ⊎ ((x ≡ none) × ((y : ℕ) → T (has y (G v)) → T (p y) → ⊥))
-          → (x < n → left x ≡ d → Given (steps G may left goal d x)) → Given (if eqb x none then missing else before v (steps G may left goal d x))
+          → (x < n → left x ≡ d → IsSome (steps G may left goal d x)) → IsSome (if eqb x none then missing else before v (steps G may left goal d x))
       at (inl r) rec =
           let b = g .below v x h (r .0) in
           away (eqb x none) refl b (rec b (eqb→eq (left x) d (and-r (may x) (eqb (left x) d) (r .1))))
@@ -205,7 +201,7 @@ join-sound E f i j a b h (some p) (some q) s t =
       length-append p (tail (reverse q)) ∙ omega (arith, s .1, t .1, ap length (walked-head w), length-reverse q),
     )
 
-pub join-given : (p q : Option (List ℕ)) → Given p → Given q → Given (join p q)
+pub join-given : (p q : Option (List ℕ)) → IsSome p → IsSome q → IsSome (join p q)
 unfolding join
 join-given missing q s t = s
 join-given (some p) missing s t = t
@@ -262,7 +258,7 @@ module _ (n : ℕ) (G : Graph) (g : IsGraph n G) (may : ℕ → Bool) (left : �
   depth-bounded d v h = omega (arith, depth-under d v h, keep-length (λ x. ltb (left x) d) (upTo n), length-upTo n)
 
   -- a part that is given out takes all its steps; so none of n links or more is, from a node that has as many left
-  depth-all : (goal d v : ℕ) → Given (steps G may left goal d v) → depth G may left d v ≡ d
+  depth-all : (goal d v : ℕ) → IsSome (steps G may left goal d v) → depth G may left d v ≡ d
   unfolding steps depth before
   depth-all goal zero v m = refl
   depth-all goal (suc d) v m = at (eqb x none) m (λ r. depth-all goal d x r)
@@ -270,12 +266,12 @@ module _ (n : ℕ) (G : Graph) (g : IsGraph n G) (may : ℕ → Bool) (left : �
       x : ℕ
       x = next G may left d v
 
-      rest : (o : Option (List ℕ)) → Given (before v o) → Given o
+      rest : (o : Option (List ℕ)) → IsSome (before v o) → IsSome o
       rest missing r = r
       rest (some l) r = tt
 
-      at : (t : Bool) → Given (if t then missing else before v (steps G may left goal d x))
-          → (Given (steps G may left goal d x) → depth G may left d x ≡ d) → (if t then 0 else suc (depth G may left d x)) ≡ suc d
+      at : (t : Bool) → IsSome (if t then missing else before v (steps G may left goal d x))
+          → (IsSome (steps G may left goal d x) → depth G may left d x ≡ d) → (if t then 0 else suc (depth G may left d x)) ≡ suc d
       at true r rec = absurd r
       at false r rec = ap suc (rec (rest (steps G may left goal d x) r))
 
@@ -293,7 +289,7 @@ module _ (n : ℕ) (G : Graph) (g : IsGraph n G) (may : ℕ → Bool) (left : �
     where
       at : (o : Option (List ℕ)) → steps G may left goal d v ≡ o → o ≡ missing
       at missing e = refl
-      at (some p) e = absurd (omega (arith, depth-all goal d v (subst Given (sym e) tt), depth-under d v h, under-all d v h l))
+      at (some p) e = absurd (omega (arith, depth-all goal d v (subst IsSome (sym e) tt), depth-under d v h, under-all d v h l))
 
 -- ---- the whole walk, whatever the tables hold
 

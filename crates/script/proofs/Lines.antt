@@ -4,7 +4,7 @@ use mathlib.Core.Path.{_≡_, sym, ap, _∙_, subst}
 use mathlib.Core.Logic.{_⊎_, inl, inr}
 use mathlib.Core.Bool.{Bool}
 use mathlib.Core.List.{List}
-use mathlib.Core.Option.{Option, none as missing, some}
+use mathlib.Core.Option.{none as missing, some, IsSome}
 use Prim.Native.Nat.{ℕ, _≤_, _<_}
 use native.Mathlib.Omega.{arith}
 use borrow.Author.Tests.{le-ltb, ne-eqb}
@@ -15,17 +15,13 @@ use Rattle.model.proofs.Tests.{lt-or}
 use Rattle.text.specs.Scan.{lineBy}
 use Rattle.script.specs.Commands.{lettered, lineAt, lineOf}
 
-abbrev Given : Option (ℕ × ℕ × List ℕ) → Type 0
-Given missing = ⊥
-Given (some l) = Unit {0}
-
 -- a line's letter is above the comma's, and so not 0
 letter-above : (letter : ℕ) (t : List ℕ) (l : ℕ × ℕ × List ℕ) → lineBy letter t ≡ some l → 44 < letter
 letter-above letter t l e = at (lt-or 44 letter)
   where
     at : (44 < letter) ⊎ (letter ≤ 44) → 44 < letter
     at (inl p) = p
-    at (inr p) = absurd (subst Given (sym e ∙ ap (λ (b : Bool). if b then line letter t else missing) (le-ltb 44 letter p)) tt)
+    at (inr p) = absurd (subst IsSome (sym e ∙ ap (λ (b : Bool). if b then line letter t else missing) (le-ltb 44 letter p)) tt)
 
 -- a line was found; there is none; the place is past the script
 pub line-found : (s : List ℕ) (at x y e : ℕ) → lineBy (getD s at 0) (drop at s) ≡ some (x, y, drop e s)
