@@ -10,7 +10,7 @@ use native.Mathlib.Omega.{arith}
 use native.Mathlib.Decide.{decLe}
 use lib.Dec.{T, eqb, eqb→eq, eqb-refl, not-T}
 use Rattle.model.specs.Basics.{none, if_then_else_, has}
-use Rattle.model.specs.Graph.{Edges, Chain, here, link, Fewest, fewest}
+use Rattle.model.specs.Graph.{Edges, between, Chain, here, link, Unjoined, Fewest, fewest}
 use Rattle.model.specs.Survey.{Graph, linked, IsGraph}
 use Rattle.model.specs.Hubs.{isHigh, isLow, closed, hubs}
 use Rattle.model.specs.Tables.{entry, fullTable, lowLinks, lowTable, sum, via, reportTable}
@@ -75,7 +75,7 @@ sum-is x y = go (eqb x none) refl (eqb y none) refl
 -- ---- a chain goes through low nodes only, or through a high one
 
 data Split (E : Edges) (high : ℕ → Bool) (k a b : ℕ) : Type 0 where
-  lows : T (not (high a)) → T (not (high b)) → Chain (λ u v. not (high u) && not (high v) && E u v) k a b → Split E high k a b
+  lows : T (not (high a)) → T (not (high b)) → Chain (between (λ v. not (high v)) E) k a b → Split E high k a b
   through : (w i j : ℕ) → T (high w) → Chain E i a w → Chain E j w b → i + j ≡ k → Split E high k a b
 
 split : (E : Edges) (high : ℕ → Bool) {k a b : ℕ} → Chain E k a b → Split E high k a b
@@ -205,10 +205,10 @@ allowed n s G g size a b ha hb = record {
         d : ℕ
         d = fewest (linked n G) n a b
 
-        cases : ((d < n) × Fewest (linked n G) a b d) ⊎ ((d ≡ none) × ((k : ℕ) → Chain (linked n G) k a b → ⊥)) → ⊥
+        cases : ((d < n) × Fewest (linked n G) a b d) ⊎ ((d ≡ none) × Unjoined (linked n G) a b) → ⊥
         cases (inl p) = let l = report-near n s G g a b d size ha hb (p .1 .0) in omega arith
         cases (inr p) = p .1 k c
 
-    at : T (eqb r none) ⊎ (T (eqb r none) → ⊥) → ((k : ℕ) → Chain (linked n G) k a b → ⊥) → r ≡ none
+    at : T (eqb r none) ⊎ (T (eqb r none) → ⊥) → Unjoined (linked n G) a b → r ≡ none
     at (inl t) f = eqb→eq r none t
     at (inr t) f = absurd (f r (report-chain n s G g a b ha hb (λ e. t (subst (λ (z : ℕ). T (eqb r z)) e (eqb-refl r)))))

@@ -13,7 +13,7 @@ use lib.ListN.{length, getD, take, drop, replicate, length-append, length-drop, 
 use lib.Seq.{take-suc, take-all, drop-at, length-take-le}
 use Rattle.lists.specs.Writing.{written}
 use Rattle.model.specs.Basics.{none, if_then_else_, upTo, has, over}
-use Rattle.model.specs.Graph.{Edges, between, Chain, fewest}
+use Rattle.model.specs.Graph.{Edges, between, Unjoined, fewest}
 use Rattle.model.specs.Survey.{Graph, linked, IsGraph}
 use Rattle.model.specs.Hubs.{isLow}
 use Rattle.model.specs.Tables.{table, fullOf, lowLinks, lowTable}
@@ -111,7 +111,7 @@ module _ (n s : ℕ) (G : Graph) (g : IsGraph n G) where
   high-missed : (a b : ℕ) → a < n → T (isLow s G a) → (T (isLow s G b) → ⊥) → fewest (lowLinks n s G) n a b ≡ none
   high-missed a b ha la nb = fewest-missing (lowLinks n s G) n a (low-ends n s G g) ha b (λ k c. at k c)
     where
-      at : (k : ℕ) → Chain (lowLinks n s G) k a b → ⊥
+      at : Unjoined (lowLinks n s G) a b
       at zero c = nb (subst (λ (x : ℕ). T (isLow s G x)) (chain-zero c) la)
       at (suc k) c = let l = split-last c in nb (both-low n s G g (l .0) b (l .2) .1)
 
