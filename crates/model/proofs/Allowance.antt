@@ -3,7 +3,7 @@
 use mathlib.Core.Path.{_≡_, refl, sym, ap, _∙_, subst}
 use mathlib.Core.Logic.{_⊎_, inl, inr}
 use mathlib.Core.Bool.{Bool, true, false, not, _&&_, _||_}
-use mathlib.Core.List.{List, [], _∷_, foldr}
+use mathlib.Core.List.{List, [], _∷_}
 use Prim.Native.Nat.{ℕ, suc, _+_, _≤_, _<_, zero-le, min}
 use native.Mathlib.Nat.{zero-add, suc-add, le-refl, le-trans, min-le-left, min-le-right}
 use native.Mathlib.Omega.{arith}
@@ -13,7 +13,7 @@ use Rattle.model.specs.Basics.{none, if_then_else_, has}
 use Rattle.model.specs.Graph.{Edges, between, Chain, here, link, Unjoined, Fewest, fewest}
 use Rattle.model.specs.Survey.{Graph, linked, IsGraph}
 use Rattle.model.specs.Hubs.{isHigh, isLow, closed, hubs}
-use Rattle.model.specs.Tables.{entry, fullTable, lowLinks, lowTable, sum, via, reportTable}
+use Rattle.model.specs.Tables.{entry, fullTable, lowLinks, lowTable, sum, via, least, reportEntry, reportTable}
 use Rattle.model.specs.Demand.{Allowed}
 use Rattle.model.proofs.Tests.{and-i, passes}
 use Rattle.model.proofs.Lists.{of-cons, has-head, has-tail}
@@ -26,30 +26,25 @@ use Rattle.model.proofs.TableLaws.{full-is, full-joined, low-is, low-jo
 -- ---- the least of a list of candidates
 
 module _ (f : ℕ → ℕ) (base : ℕ) where
-  pub least : List ℕ → ℕ
-  least hs = foldr (λ h x. min (f h) x) base hs
-
-  least-base : (hs : List ℕ) → least hs ≤ base
-  unfolding least
+  pub least-base : (hs : List ℕ) → least f base hs ≤ base
   least-base [] = le-refl base
-  least-base (h ∷ hs) = le-trans (min-le-right (f h) (least hs)) (least-base hs)
+  least-base (h ∷ hs) = le-trans (min-le-right (f h) (least f base hs)) (least-base hs)
 
-  least-at : (hs : List ℕ) (h : ℕ) → T (has h hs) → least hs ≤ f h
-  unfolding least has
+  least-at : (hs : List ℕ) (h : ℕ) → T (has h hs) → least f base hs ≤ f h
+  unfolding has
   least-at [] h m = absurd m
   least-at (x ∷ xs) h m = go (of-cons h x xs m) (λ r. least-at xs h r)
     where
-      go : (h ≡ x) ⊎ T (has h xs) → (T (has h xs) → least xs ≤ f h) → min (f x) (least xs) ≤ f h
-      go (inl e) rec = subst (λ (z : ℕ). min (f x) (least xs) ≤ f z) (sym e) (min-le-left (f x) (least xs))
-      go (inr r) rec = le-trans (min-le-right (f x) (least xs)) (rec r)
+      go : (h ≡ x) ⊎ T (has h xs) → (T (has h xs) → least f base xs ≤ f h) → min (f x) (least f base xs) ≤ f h
+      go (inl e) rec = subst (λ (z : ℕ). min (f x) (least f base xs) ≤ f z) (sym e) (min-le-left (f x) (least f base xs))
+      go (inr r) rec = le-trans (min-le-right (f x) (least f base xs)) (rec r)
 
-  pub least-cases : (hs : List ℕ) → (least hs ≡ base) ⊎ ((h : ℕ) × T (has h hs) × (least hs ≡ f h))
-  unfolding least
+  pub least-cases : (hs : List ℕ) → (least f base hs ≡ base) ⊎ ((h : ℕ) × T (has h hs) × (least f base hs ≡ f h))
   least-cases [] = inl refl
-  least-cases (x ∷ xs) = go (decLe (f x) (least xs)) (least-cases xs)
+  least-cases (x ∷ xs) = go (decLe (f x) (least f base xs)) (least-cases xs)
     where
-      go : Dec (f x ≤ least xs) → (least xs ≡ base) ⊎ ((h : ℕ) × T (has h xs) × (least xs ≡ f h))
-          → (min (f x) (least xs) ≡ base) ⊎ ((h : ℕ) × T (has h (x ∷ xs)) × (min (f x) (least xs) ≡ f h))
+      go : Dec (f x ≤ least f base xs) → (least f base xs ≡ base) ⊎ ((h : ℕ) × T (has h xs) × (least f base xs ≡ f h))
+          → (min (f x) (least f base xs) ≡ base) ⊎ ((h : ℕ) × T (has h (x ∷ xs)) × (min (f x) (least f base xs) ≡ f h))
       go (yes l) r = inr (x, has-head x xs, omega arith)
       go (no l) (inl e) = inl (omega arith)
       go (no l) (inr r) = inr (r .0, has-tail (r .0) x xs (r .1), omega (arith, r .2))
@@ -101,9 +96,9 @@ module _ (n s : ℕ) (G : Graph) (g : IsGraph n G) where
   routes a b = least (via n (fullTable n s G) a b) (entry n (lowTable n s G) a b) (hubs n s G)
 
   pub report-entry : (a b : ℕ) → a < n → b < n → entry n (reportTable n s G) a b ≡ (if eqb a b then 0 else routes a b)
-  unfolding reportTable routes least
+  unfolding reportTable routes
   report-entry a b ha hb =
-      entry-table n (λ a b. if eqb a b then 0 else foldr (λ h x. min (via n (fullTable n s G) a b h) x) (entry n (lowTable n s G) a b) (hubs n s G)) a b ha hb
+      entry-table n (reportEntry n (fullTable n s G) (lowTable n s G) (hubs n s G)) a b ha hb
 
   -- a chain of as many links as a route through a hub has
   via-chain : (a b h : ℕ) → a < n → b < n → h < n → (via n (fullTable n s G) a b h ≡ none → ⊥) → Chain (linked n G) (via n (fullTable n s G) a b h) a b
