@@ -1,7 +1,7 @@
 -- The values of every answer are within the limits of document 01, so that each fits its field of the code.
 -- Assumes nothing.
 use mathlib.Core.Path.{_≡_, refl, ap, _∙_, subst}
-use mathlib.Core.Bool.{not, _||_}
+use mathlib.Core.Bool.{not}
 use mathlib.Core.List.{List, [], _∷_}
 use Prim.Native.Nat.{ℕ, _+_, _*_, _≤_}
 use native.Mathlib.Nat.{le-refl, le-trans, mul-le-mul}
@@ -18,7 +18,7 @@ use Rattle.model.specs.Survey.{Graph, neighboursOf, badSize, isSurvey, acceptin
 use Rattle.model.specs.Threshold.{threshold, thresholdAnswer, bitLength}
 use Rattle.model.specs.Hubs.{isLow, closed, hubs}
 use Rattle.model.specs.Reading.{Parsed, parse, Reading, readingOf, reading}
-use Rattle.model.specs.Building.{Building, built, building}
+use Rattle.model.specs.Building.{Building, shortLists, built, building}
 use Rattle.model.specs.TwoOrFour.{sources, tested}
 use Rattle.model.specs.Testing.{testingOf, testing}
 use Rattle.model.specs.Writing.{Writing, textOf, writingOf, writing}
@@ -51,7 +51,7 @@ unfolding building built
 hubs-fit n starts neighbours full low report list k =
     let P : Building → Type 0 = λ b. b .answer ≡ answered k → k ≤ 1024 in
     picked P (badSize n) _ _ (λ h e. never e) (λ g.
-    picked P (ltb (length starts) (n + 1) || ltb (length full) (n * n) || ltb (length low) (n * n) || ltb (length report) (n * n) || ltb (length list) n) _ _ (λ h e. never e) (λ h.
+    picked P (shortLists n (length starts) (length full) (length low) (length report) (length list)) _ _ (λ h e. never e) (λ h.
     picked P (not (isSurvey n starts neighbours)) _ _ (λ i e. never e) (λ i e.
     let j : length (hubs n (threshold n) (neighboursOf starts neighbours)) ≡ k = cc in
     omega (arith, size-bounds n g .1, hubs-length n (neighboursOf starts neighbours) (threshold n)))))

@@ -19,7 +19,7 @@ use Rattle.model.specs.Graph.{Edges, Walked}
 use Rattle.model.specs.Survey.{Graph, neighboursOf, linked, badSize, isSurvey, Accepted}
 use Rattle.model.specs.Threshold.{threshold}
 use Rattle.model.specs.Hubs.{hubs, hubList}
-use Rattle.model.specs.Tables.{entry, fullTable, lowTable, reportTable, AreBuilt, AreBuiltWith}
+use Rattle.model.specs.Tables.{entry, shortTables, fullTable, lowTable, reportTable, AreBuilt, AreBuiltWith}
 use Rattle.model.specs.Pair.{answer, taken, pair}
 use Rattle.model.specs.TwoOrFour.{tested}
 use Rattle.model.specs.Building.{built, building}
@@ -30,7 +30,7 @@ use Rattle.model.specs.Demand.{Allowed, AllowedAnswer, WalkSound, WalkAn
 use Rattle.model.proofs.Outcomes.{never}
 use Rattle.model.proofs.Tests.{or-false, of-or-false, picked, not-not}
 use Rattle.model.proofs.Acceptance.{survey-test, survey-facts, good-size, accepting-answers}
-use Rattle.model.proofs.Entries.{front-length, length-table}
+use Rattle.model.proofs.Entries.{front-length, length-table, long-tables}
 use Rattle.model.proofs.Covering.{hubs-length}
 use Rattle.model.proofs.Allowance.{allowed}
 use Rattle.model.proofs.Walks.{Given-out, refusal, no-way, walked, walk-given-out}
@@ -94,7 +94,7 @@ pub walking-sound : (n : ℕ) (starts neighbours full low report : List ℕ) (a 
 unfolding walking refuseWalk pair
 walking-sound n starts neighbours full low report a b w =
     picked P (badSize n) _ _ (λ _. refuses) (λ size.
-    picked P (ltb (length starts) (n + 1) || ltb (length full) (n * n) || ltb (length low) (n * n) || ltb (length report) (n * n)) _ _ (λ _. refuses) (λ room.
+    picked P (ltb (length starts) (n + 1) || shortTables n (length full) (length low) (length report)) _ _ (λ _. refuses) (λ room.
     picked P (not (isSurvey n starts neighbours)) _ _ (λ _. refuses) (λ lists.
     picked P (leb n a || leb n b) _ _ (λ _. refuses) (λ below.
     let h = of-or-false (leb n a) (leb n b) below in
@@ -137,17 +137,11 @@ module _ (n : ℕ) (starts neighbours : List ℕ) (acc : Accepted n starts neigh
       → building n starts neighbours full low report list ≡ built n (threshold n) G full low report list
   unfolding building
   building-answers full low report list hf hl hr hh =
-      let A = ltb (length starts) (n + 1) in
-      let B = ltb (length full) (n * n) in
-      let C = ltb (length low) (n * n) in
-      let D = ltb (length report) (n * n) in
       rw (
         good-size n (acc .some-node) (acc .size),
-        or-false (A || B || C || D) (ltb (length list) n)
-            (or-false (A || B || C) D
-            (or-false (A || B) C (or-false A B (le-ltb (length starts) (n + 1) (acc .room)) (le-ltb (length full) (n * n) hf)) (le-ltb (length low) (n * n) hl))
-            (le-ltb (length report) (n * n) hr))
-            (le-ltb (length list) n hh),
+        le-ltb (length starts) (n + 1) (acc .room),
+        long-tables n (length full) (length low) (length report) hf hl hr,
+        le-ltb (length list) n hh,
         is-survey,
       ) refl
 
@@ -155,22 +149,14 @@ module _ (n : ℕ) (starts neighbours : List ℕ) (acc : Accepted n starts neigh
     below : (leb n a || leb n b) ≡ false
     below = or-false (leb n a) (leb n b) (lt-leb n a ha) (lt-leb n b hb)
 
-    fits : ltb (length full) (n * n) ≡ false
-    fits = le-ltb (length full) (n * n) (full-room n (threshold n) G full low report own)
-
-    fits-low : ltb (length low) (n * n) ≡ false
-    fits-low = le-ltb (length low) (n * n) (low-room n (threshold n) G full low report own)
-
-    fits-report : ltb (length report) (n * n) ≡ false
-    fits-report = le-ltb (length report) (n * n) (report-room n (threshold n) G full low report own)
+    fits : shortTables n (length full) (length low) (length report) ≡ false
+    fits =
+        long-tables n (length full) (length low) (length report) (full-room n (threshold n) G full low report own)
+        (low-room n (threshold n) G full low report own) (report-room n (threshold n) G full low report own)
 
     asks : asking n full low report a b ≡ pair n full low report a b
     unfolding asking
-    asks =
-        let B = ltb (length full) (n * n) in
-        let C = ltb (length low) (n * n) in
-        let D = ltb (length report) (n * n) in
-        rw (good-size n (acc .some-node) (acc .size), or-false (B || C) D (or-false B C fits fits-low) fits-report, below) refl
+    asks = rw (good-size n (acc .some-node) (acc .size), fits, below) refl
 
     -- asking is not refused, and answers the entry of Report
     pub asking-answers : (x : Answer) × (asking n full low report a b ≡ answered x) × (x .report ≡ entry n (reportTable n (threshold n) G) a b)
@@ -191,17 +177,7 @@ module _ (n : ℕ) (starts neighbours : List ℕ) (acc : Accepted n starts neigh
 
     walks : (w : ℕ) → walking n starts neighbours full low report a b w ≡ walkOf w n (threshold n) G full low a b (pair n full low report a b)
     unfolding walking
-    walks w =
-        let A = ltb (length starts) (n + 1) in
-        let B = ltb (length full) (n * n) in
-        let C = ltb (length low) (n * n) in
-        let D = ltb (length report) (n * n) in
-        rw (
-          good-size n (acc .some-node) (acc .size),
-          or-false (A || B || C) D (or-false (A || B) C (or-false A B (le-ltb (length starts) (n + 1) (acc .room)) fits) fits-low) fits-report,
-          is-survey,
-          below,
-        ) refl
+    walks w = rw (good-size n (acc .some-node) (acc .size), le-ltb (length starts) (n + 1) (acc .room), fits, is-survey, below) refl
 
     -- and writing the walk answers as asking does, if the walk list has report + 1 entries or there is no route
     pub walking-right : (w : ℕ) → WalkAnswers w (asking n full low report a b) (walking n starts neighbours full low report a b w)

@@ -2,10 +2,10 @@
 -- nodes, Report the estimated distances.
 -- Assumes nothing.
 use mathlib.Core.Path.{_≡_}
-use mathlib.Core.Bool.{_&&_, _||_}
+use mathlib.Core.Bool.{Bool, _&&_, _||_}
 use mathlib.Core.List.{List, map, foldr}
 use Prim.Native.Nat.{ℕ, _+_, _*_, min}
-use lib.Dec.{eqb}
+use lib.Dec.{eqb, ltb}
 use lib.ListN.{getD, take}
 use Rattle.model.specs.Basics.{none, if_then_else_, upTo, has, gather}
 use Rattle.model.specs.Graph.{Edges, between, fewest}
@@ -18,6 +18,10 @@ table n f = gather (λ a. map (f a) (upTo n)) (upTo n)
 
 unfoldable pub entry : ℕ → List ℕ → ℕ → ℕ → ℕ
 entry n t a b = getD t (a * n + b) 0
+
+-- "a table shorter than n × n", by the three lengths
+abbrev pub shortTables : ℕ → (full low report : ℕ) → Bool
+shortTables n full low report = ltb full (n * n) || ltb low (n * n) || ltb report (n * n)
 
 -- "row h is the fewest links from h to each node if h is a hub; every other row is all none"
 abbrev pub fullEntry : ℕ → Graph → (hs : List ℕ) → ℕ → ℕ → ℕ

@@ -3,10 +3,10 @@ use model::Counting;
 use model::NONE;
 use model::Refusal;
 ghost use mathlib.Core.Path.{_≡_};
-ghost use mathlib.Core.Bool.{not, _||_};
+ghost use mathlib.Core.Bool.{not};
 ghost use mathlib.Core.List.{map};
 ghost use Prim.Native.Nat.{ℕ, _+_, _*_, _<_, _≤_, min};
-ghost use lib.Dec.{T, ltb};
+ghost use lib.Dec.{T};
 ghost use lib.ListN.{length, getD};
 ghost use Rattle.lists.specs.Writing.{written};
 ghost use Rattle.model.specs.Basics.{none, if_then_else_, upTo, has, over};
@@ -14,7 +14,7 @@ ghost use Rattle.model.specs.Graph.{fewest};
 ghost use Rattle.model.specs.Survey.{neighboursOf, Accepted};
 ghost use Rattle.model.specs.Tables.{fullOf, lowTable, reportEntry, reportOf};
 ghost use Rattle.model.specs.Answers.{answered};
-ghost use Rattle.model.specs.Building.{Building, built, returned, building};
+ghost use Rattle.model.specs.Building.{Building, shortLists, built, returned, building};
 ghost use Rattle.nodeset.specs.NodeSet.{member};
 ghost use Rattle.nodeset.specs.Matrix.{edgesIn};
 ghost use Rattle.tables.specs.Rows.{relaxed};
@@ -161,7 +161,7 @@ pub fn build_tables(
 // Whether lists of these lengths have room for n nodes.
 fn has_room(n: usize, starts: usize, full: usize, low: usize, report: usize, hubs: usize) -> bool
     requires { ⌜ n ≤ 1024 ⌝ }
-    ensures { λ r. ⌜ not r ≡ (ltb starts (n + 1) || ltb full (n * n) || ltb low (n * n) || ltb report (n * n) || ltb hubs n) ⌝ }
+    ensures { λ r. ⌜ not r ≡ shortLists n starts full low report hubs ⌝ }
 {
     let entries = n * n;
     (n < starts) & (entries <= full) & (entries <= low) & (entries <= report) & (n <= hubs)
