@@ -11,7 +11,7 @@ use lib.Dec.{T, eqb, ltb, leb, eqb→eq, leb→le, le→leb, ltb→lt, lt→ltb,
 use lib.ListN.{length, getD}
 use Rattle.model.specs.Answers.{Outcome, answered, isAnswered}
 use Rattle.model.specs.Basics.{upTo, has, all, keep}
-use Rattle.model.specs.Survey.{Graph, neighboursOf, linked, ascending, isSurvey, badSize, accepting, accepted, IsSurvey, IsGraph, Accepted}
+use Rattle.model.specs.Survey.{Graph, neighboursOf, linked, ascending, isSurvey, outside, badSize, accepting, accepted, IsSurvey, IsGraph, Accepted}
 use Rattle.model.proofs.Tests.{picked, not-not, and-l, and-r, and-i, or-r, or-false, of-or-false, T-true, eq-T}
 use Rattle.model.proofs.Lists.{of-all, all-of, has-upTo, of-upTo, keep-same, keep-grows, keep-length, length-upTo}
 use Rattle.model.proofs.Ascending.{ascending-keep}
@@ -98,7 +98,7 @@ small-size n h = ap (λ (t : Bool). t || ltb 1024 n) (lt-ltb n 1 h)
 
 pub large-size : (n : ℕ) → 1024 < n → badSize n ≡ true
 unfolding badSize
-large-size n h = T-true (ltb n 1 || ltb 1024 n) (or-r (ltb n 1) (ltb 1024 n) (lt→ltb 1024 n h))
+large-size n h = T-true (outside 1024 n) (or-r (ltb n 1) (ltb 1024 n) (lt→ltb 1024 n h))
 
 pub size-bounds : (n : ℕ) → badSize n ≡ false → (1 ≤ n) × (n ≤ 1024)
 unfolding badSize

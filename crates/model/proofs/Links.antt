@@ -13,6 +13,7 @@ use lib.Dec.{eqb, ltb, leb}
 use Rattle.model.specs.Answers.{Outcome, refused, answered}
 use Rattle.model.specs.Basics.{if_then_else_, gather}
 use Rattle.model.specs.SurveyText.{line, lineOf, linkLines, surveyText}
+use Rattle.model.specs.Survey.{outside}
 use Rattle.model.specs.Reading.{named, onLinks, linkOf, readOn, readLinks, Parsed, parsed, countsOf, parseLinks, parse}
 use Rattle.model.proofs.Outcomes.{never}
 use Rattle.model.proofs.Tests.{or-false, of-or-false, isnt}
@@ -142,7 +143,7 @@ module _ (N M p q : ℕ) where
   pub of-first-taken : (o : Option (ℕ × ℕ × List ℕ)) (x : ℕ × ℕ × List ℕ) → countsOf N M p q o ≡ answered x → (o ≡ some x) × Within N M p q (x .0) (x .1)
   unfolding countsOf
   of-first-taken missing x e = never e
-  of-first-taken (some f) x e = two (ltb n 1 || ltb N n) refl e
+  of-first-taken (some f) x e = two (outside N n) refl e
     where
       n : ℕ
       n = f .0
@@ -174,7 +175,7 @@ module _ (N M p q : ℕ) where
       three s true k e = never e
       three s false k e = eight s (ltb-false M m k) (ltb p (n + 1) || ltb q (2 * m)) refl e
 
-      two : (t : Bool) → (ltb n 1 || ltb N n) ≡ t
+      two : (t : Bool) → outside N n ≡ t
           → if_then_else_ {A = Outcome (ℕ × ℕ × List ℕ)} t (refused 2) (if ltb M m then refused 3 else if ltb p (n + 1) || ltb q (2 * m) then refused 8 else answered f) ≡ answered x
           → Taken
       two true k e = never e

@@ -11,7 +11,7 @@ use Rattle.model.specs.declared.Reading as read
 use Rattle.model.specs.Answers.{Outcome, refused, answered, readAnswer}
 use Rattle.model.specs.Basics.{if_then_else_, upTo, keep, gather, over}
 use Rattle.model.specs.SurveyText.{line}
-use Rattle.model.specs.Survey.{Graph}
+use Rattle.model.specs.Survey.{Graph, outside}
 
 -- "Links may come in any order, ends either way round.": the link is one of these
 unfoldable pub named : List (ℕ × ℕ) → ℕ → ℕ → Bool
@@ -59,7 +59,7 @@ parsed n (answered ls) = answered (record { nodes = n; links = ls })
 unfoldable pub countsOf : (mostNodes mostLinks p q : ℕ) → Option (ℕ × ℕ × List ℕ) → Outcome (ℕ × ℕ × List ℕ)
 countsOf mostNodes mostLinks p q missing = refused 1
 countsOf mostNodes mostLinks p q (some f) =
-    if ltb (f .0) 1 || ltb mostNodes (f .0) then refused 2
+    if outside mostNodes (f .0) then refused 2
     else if ltb mostLinks (f .1) then refused 3
     else if ltb p (f .0 + 1) || ltb q (2 * f .1) then refused 8
     else answered f
