@@ -16,7 +16,7 @@ use Rattle.model.specs.Basics.{if_then_else_}
 use Rattle.model.specs.SurveyText.{line, lineOf}
 use Rattle.model.specs.Survey.{outside}
 use Rattle.model.specs.Reading.{named, onLinks, linkOf, readOn, readLinks, parsed, countsOf, parseLinks, parse}
-use Rattle.model.specs.Listing.{listed, listing}
+use Rattle.model.specs.Listing.{listingText, listing}
 use Rattle.model.proofs.Numbers.{length-le}
 use Rattle.model.proofs.Lines.{length-line, line-complete, line-sound}
 
@@ -117,4 +117,4 @@ parse-front N M p q text k h = at (line-front 83 (omega arith) text k (omega ari
 -- the listing of a text is that of its first 49,177 bytes
 pub listing-front : (text : List ℕ) (k : ℕ) → 24 * (2048 + 1) < k → listing (take k text) ≡ listing text
 unfolding listing
-listing-front text k h = ap listed (parse-front 128 2048 (128 + 1) (2 * 2048) text k h)
+listing-front text k h = ap listingText (parse-front 128 2048 (128 + 1) (2 * 2048) text k h)

@@ -19,5 +19,5 @@ unfoldable pub lineAt : List ℕ → ℕ → Option (ℕ × ℕ × ℕ × List �
 lineAt s at = lettered (getD s at 0) (lineBy (getD s at 0) (drop at s))
 
 -- a command as such a line; letter 0 says that there is none
-unfoldable pub lineOf : List ℕ → Command → Option (ℕ × ℕ × ℕ × List ℕ)
-lineOf s c = if eqb (c .letter) 0 then missing else some (c .letter, c .x, c .y, drop (c .next) s)
+unfoldable pub commandLine : List ℕ → Command → Option (ℕ × ℕ × ℕ × List ℕ)
+commandLine s c = if eqb (c .letter) 0 then missing else some (c .letter, c .x, c .y, drop (c .next) s)
