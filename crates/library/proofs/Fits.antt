@@ -11,7 +11,7 @@ use lib.Dec.{eqb, ltb}
 use lib.ListN.{length, getD, length-append}
 use Rattle.model.specs.declared.Size.{Size}
 use Rattle.model.specs.declared.Tested.{Tested}
-use Rattle.model.specs.Answers.{Outcome, refused, answered}
+use Rattle.model.specs.Answers.{Outcome, refused, answered, mapAnswer}
 use Rattle.model.specs.Basics.{none, if_then_else_, gather}
 use Rattle.model.specs.SurveyText.{lineOf, linkLines, surveyText}
 use Rattle.model.specs.Survey.{Graph, neighboursOf, badSize, isSurvey, accepting, Accepted}
@@ -20,7 +20,7 @@ use Rattle.model.specs.Hubs.{isLow, closed, hubs}
 use Rattle.model.specs.Reading.{Parsed, parse, Reading, readingOf, reading}
 use Rattle.model.specs.Building.{Building, shortLists, built, building}
 use Rattle.model.specs.TwoOrFour.{sources, tested}
-use Rattle.model.specs.Testing.{testingOf, testing}
+use Rattle.model.specs.Testing.{testing}
 use Rattle.model.specs.Writing.{Writing, textOf, writingOf, writing}
 use Rattle.model.proofs.Tests.{picked}
 use Rattle.model.proofs.Outcomes.{never}
@@ -137,10 +137,10 @@ sources-few n starts neighbours s acc = at (first-below (isLow s (neighboursOf s
     at {x} (nothing d least) = rw (eq-eqb x none d) (omega (arith, hubs-length n G s, acc .size))
 
 pub searches-fit : (n : ℕ) (starts neighbours : List ℕ) (t : Tested) → testing n starts neighbours ≡ answered t → t .searches ≤ 1024
-unfolding testing testingOf tested
+unfolding testing tested
 searches-fit n starts neighbours t = at (accepting n starts neighbours) refl
   where
-    at : (o : Outcome (Unit {0})) → accepting n starts neighbours ≡ o → testingOf o (tested n (threshold n) (neighboursOf starts neighbours)) ≡ answered t → t .searches ≤ 1024
+    at : (o : Outcome (Unit {0})) → accepting n starts neighbours ≡ o → mapAnswer (λ _. tested n (threshold n) (neighboursOf starts neighbours)) o ≡ answered t → t .searches ≤ 1024
     at (refused r) h e = never e
     at (answered x) h e =
         let j : _≡_ {A = Tested} (tested n (threshold n) (neighboursOf starts neighbours)) t = cc in

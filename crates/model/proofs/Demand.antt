@@ -25,7 +25,7 @@ use Rattle.model.specs.TwoOrFour.{tested}
 use Rattle.model.specs.Building.{built, building}
 use Rattle.model.specs.Asking.{asking}
 use Rattle.model.specs.Walking.{Walking, refuseWalk, walkOf, walking}
-use Rattle.model.specs.Testing.{testingOf, testing}
+use Rattle.model.specs.Testing.{testing}
 use Rattle.model.specs.Demand.{Allowed, AllowedAnswer, WalkSound, WalkAnswers, RightVerdict}
 use Rattle.model.proofs.Outcomes.{never}
 use Rattle.model.proofs.Tests.{or-false, of-or-false, picked, not-not}
@@ -122,7 +122,7 @@ module _ (n : ℕ) (starts neighbours : List ℕ) (acc : Accepted n starts neigh
 
   -- the test is not refused, and its verdict is right
   pub testing-answers : testing n starts neighbours ≡ answered (tested n (threshold n) G)
-  unfolding testing testingOf
+  unfolding testing
   testing-answers = rw (accepting-answers n starts neighbours acc) refl
 
   pub testing-right : RightVerdict n (linked n G) (testing n starts neighbours)

@@ -23,6 +23,11 @@ pub data Outcome (A : Type 0) : Type 0 where
   refused : ℕ → Outcome A
   answered : A → Outcome A
 
+-- the value replaced by f of it, a refusal kept
+abbrev pub mapAnswer : {A B : Type 0} → (A → B) → Outcome A → Outcome B
+mapAnswer f (refused k) = refused k
+mapAnswer f (answered x) = answered (f x)
+
 abbrev pub isAnswered : {A : Type 0} → Outcome A → Bool
 isAnswered (refused k) = false
 isAnswered (answered x) = true

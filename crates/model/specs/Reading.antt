@@ -8,7 +8,7 @@ use lib.Dec.{eqb, ltb, leb}
 use lib.ListN.{length, replicate}
 use Rattle.model.specs.declared.Size.{Size}
 use Rattle.model.specs.declared.Reading as read
-use Rattle.model.specs.Answers.{Outcome, refused, answered, readAnswer}
+use Rattle.model.specs.Answers.{Outcome, refused, answered, mapAnswer, readAnswer}
 use Rattle.model.specs.Basics.{if_then_else_, upTo, keep, gather, over}
 use Rattle.model.specs.SurveyText.{line}
 use Rattle.model.specs.Survey.{Graph, outside}
@@ -20,8 +20,7 @@ named (l ∷ ls) a b = eqb (l .0) a && eqb (l .1) b || eqb (l .0) b && eqb (l .1
 
 -- a link in front of those that the later lines name
 unfoldable pub onLinks : ℕ × ℕ → Outcome (List (ℕ × ℕ)) → Outcome (List (ℕ × ℕ))
-onLinks l (refused k) = refused k
-onLinks l (answered ls) = answered (l ∷ ls)
+onLinks l o = mapAnswer (λ ls. l ∷ ls) o
 
 -- "Then line by line: 1 wrong form or text ending inside a line; 4 a node of n or more; 5 both ends equal; 6 a link already given,
 -- either way round.": the link that a line names after the links `given`, and the text behind the line
@@ -51,8 +50,7 @@ pub record Parsed : Type 0 where
   pub links : List (ℕ × ℕ)
 
 unfoldable pub parsed : ℕ → Outcome (List (ℕ × ℕ)) → Outcome Parsed
-parsed n (refused k) = refused k
-parsed n (answered ls) = answered (record { nodes = n; links = ls })
+parsed n o = mapAnswer (λ ls. record { nodes = n; links = ls }) o
 
 -- "First line: 1 not in the stated form; 2 n outside 1 to 1,024; 3 m above 16,384; 8 `starts` shorter than n + 1 or `neighbours`
 -- shorter than 2m.": n, m and the text behind the line. The limits, and the lengths p and q of the two lists, are parameters

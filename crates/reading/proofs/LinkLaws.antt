@@ -10,7 +10,7 @@ use native.Mathlib.Omega.{arith}
 use borrow.Author.Tests.{lt-ltb, le-ltb, lt-leb, le-leb, leb-false, eq-eqb, ne-eqb}
 use lib.Dec.{eqb, ltb, leb, ltb→lt}
 use lib.ListN.{length, drop, replicate, length-replicate, drop-of-length-le}
-use Rattle.model.specs.Answers.{Outcome, refused, answered, number}
+use Rattle.model.specs.Answers.{Outcome, refused, answered, mapAnswer, number}
 use Rattle.model.specs.declared.Refusal.{Refusal}
 use Rattle.model.specs.Basics.{if_then_else_}
 use Rattle.model.specs.Graph.{Edges}
@@ -128,8 +128,7 @@ behind [] ls = ls
 behind (l ∷ done) ls = behind done (l ∷ ls)
 
 unfoldable pub after : List (ℕ × ℕ) → Outcome (List (ℕ × ℕ)) → Outcome (List (ℕ × ℕ))
-after done (refused k) = refused k
-after done (answered ls) = answered (behind done ls)
+after done o = mapAnswer (behind done) o
 
 after-on : (done : List (ℕ × ℕ)) (l : ℕ × ℕ) (o : Outcome (List (ℕ × ℕ))) → after done (onLinks l o) ≡ after (l ∷ done) o
 unfolding after behind onLinks
