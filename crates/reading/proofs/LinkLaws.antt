@@ -2,7 +2,7 @@
 -- Assumes nothing.
 use mathlib.Core.Path.{_≡_, refl, sym, ap, ap₂, _∙_, subst}
 use mathlib.Core.Logic.{_⊎_, inl, inr}
-use mathlib.Core.Bool.{Bool, true, false, not, _&&_, _||_, or-comm, or-assoc, or-false}
+use mathlib.Core.Bool.{Bool, true, false, not, _&&_, _||_, and-comm, or-comm, or-assoc, or-false}
 use mathlib.Core.List.{List, [], _∷_}
 use mathlib.Core.Option.{Option, none as missing, some}
 use Prim.Native.Nat.{ℕ, suc, _+_, _-_, _*_, _≤_, _<_}
@@ -109,16 +109,10 @@ held-more ws ws′ ws″ ls a b ha hb h long p q = record {
     flip : (x y : ℕ) → eqb x y ≡ eqb y x
     flip x y = eqb-same x y y x sym sym
 
-    swap : (x y : Bool) → (x && y) ≡ (y && x)
-    swap true true = refl
-    swap true false = refl
-    swap false true = refl
-    swap false false = refl
-
     turned : (ub va ua vb : Bool) (r : Bool) → ((ub && va) || ((ua && vb) || r)) ≡ (((ua && vb) || (va && ub)) || r)
     turned ub va ua vb r =
         sym (or-assoc (ub && va) (ua && vb) r)
-        ∙ ap (λ (t : Bool). t || r) (or-comm (ub && va) (ua && vb) ∙ ap (λ (t : Bool). (ua && vb) || t) (swap ub va))
+        ∙ ap (λ (t : Bool). t || r) (or-comm (ub && va) (ua && vb) ∙ ap (λ (t : Bool). (ua && vb) || t) (and-comm ub va))
 
 -- ---- all lines
 
