@@ -88,9 +88,16 @@ module _ (n : ℕ) (starts neighbours : List ℕ) where
 
 -- ---- the same for acceptance
 
+-- from 1 to a limit: not outside
+pub in-range : (most n : ℕ) → 1 ≤ n → n ≤ most → outside most n ≡ false
+in-range most n p q = or-false (ltb n 1) (ltb most n) (le-ltb n 1 p) (le-ltb most n q)
+
+pub of-in-range : (most n : ℕ) → outside most n ≡ false → (1 ≤ n) × (n ≤ most)
+of-in-range most n e = let h = of-or-false (ltb n 1) (ltb most n) e in (ltb-false n 1 (h .0), ltb-false most n (h .1))
+
 pub good-size : (n : ℕ) → 1 ≤ n → n ≤ 1024 → badSize n ≡ false
 unfolding badSize
-good-size n p q = or-false (ltb n 1) (ltb 1024 n) (le-ltb n 1 p) (le-ltb 1024 n q)
+good-size = in-range 1024
 
 pub small-size : (n : ℕ) → n < 1 → badSize n ≡ true
 unfolding badSize
@@ -102,7 +109,7 @@ large-size n h = T-true (outside 1024 n) (or-r (ltb n 1) (ltb 1024 n) (lt→ltb 
 
 pub size-bounds : (n : ℕ) → badSize n ≡ false → (1 ≤ n) × (n ≤ 1024)
 unfolding badSize
-size-bounds n e = let h = of-or-false (ltb n 1) (ltb 1024 n) e in (ltb-false n 1 (h .0), ltb-false 1024 n (h .1))
+size-bounds = of-in-range 1024
 
 module _ (n : ℕ) (starts neighbours : List ℕ) where
   pub accepted-facts : T (accepted n starts neighbours) → Accepted n starts neighbours

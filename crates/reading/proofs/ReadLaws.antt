@@ -21,7 +21,7 @@ use Rattle.model.proofs.Links.{Within, AllFresh, first-taken, of-first-taken, l
 use Rattle.model.specs.Demand.{ReadRight}
 use Rattle.model.proofs.ReadBack.{named-below, reading-right}
 use Rattle.model.proofs.SurveyLists.{neighbours-length, starts-same, neighbours-same}
-use Rattle.model.proofs.Tests.{or-false as neither}
+use Rattle.model.proofs.Acceptance.{in-range}
 use Rattle.model.proofs.Totals.{links-total}
 use Rattle.nodeset.specs.Matrix.{edgesIn}
 use Rattle.reading.specs.Links.{Holds, Told, rowsIn}
@@ -45,7 +45,7 @@ module _ (N M p q : ℕ) (s : List ℕ) where
 
     module _ (h : 1 ≤ n) (k : n ≤ N) where
       sized : outside N n ≡ false
-      sized = neither (ltb n 1) (ltb N n) (le-ltb n 1 h) (le-ltb N n k)
+      sized = in-range N n h k
 
       pub many-links : M < m → countsOf N M p q (line 83 s) ≡ refused 3
       unfolding countsOf
