@@ -28,6 +28,11 @@ abbrev pub mapAnswer : {A B : Type 0} → (A → B) → Outcome A → Outcome B
 mapAnswer f (refused k) = refused k
 mapAnswer f (answered x) = answered (f x)
 
+-- what follows an answer, f of its value; a refusal kept
+abbrev pub andThen : {A B : Type 0} → Outcome A → (A → Outcome B) → Outcome B
+andThen (refused k) f = refused k
+andThen (answered x) f = f x
+
 abbrev pub isAnswered : {A : Type 0} → Outcome A → Bool
 isAnswered (refused k) = false
 isAnswered (answered x) = true

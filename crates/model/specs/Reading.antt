@@ -8,7 +8,7 @@ use lib.Dec.{eqb, ltb, leb}
 use lib.ListN.{length, replicate}
 use Rattle.model.specs.declared.Size.{Size}
 use Rattle.model.specs.declared.Reading as read
-use Rattle.model.specs.Answers.{Outcome, refused, answered, mapAnswer, readAnswer}
+use Rattle.model.specs.Answers.{Outcome, refused, answered, mapAnswer, andThen, readAnswer}
 use Rattle.model.specs.Basics.{if_then_else_, upTo, keep, gather, over}
 use Rattle.model.specs.SurveyText.{line}
 use Rattle.model.specs.Survey.{Graph, outside}
@@ -34,8 +34,7 @@ linkOf n given (some l) =
 
 -- the link that a line names, in front of those that `next` reads behind it
 unfoldable pub readOn : (next : ℕ → ℕ → List ℕ → Outcome (List (ℕ × ℕ))) → Outcome (ℕ × ℕ × List ℕ) → Outcome (List (ℕ × ℕ))
-readOn next (refused k) = refused k
-readOn next (answered l) = onLinks (l .0, l .1) (next (l .0) (l .1) (l .2))
+readOn next o = andThen o (λ l. onLinks (l .0, l .1) (next (l .0) (l .1) (l .2)))
 
 -- "7 the text ends at a line's end before m links, or a byte follows the m-th.": the links that m lines name after those of `done`
 unfoldable pub readLinks : ℕ → ℕ → List (ℕ × ℕ) → List ℕ → Outcome (List (ℕ × ℕ))
@@ -63,8 +62,7 @@ countsOf mostNodes mostLinks p q (some f) =
     else answered f
 
 unfoldable pub parseLinks : Outcome (ℕ × ℕ × List ℕ) → Outcome Parsed
-parseLinks (refused k) = refused k
-parseLinks (answered f) = parsed (f .0) (readLinks (f .0) (f .1) [] (f .2))
+parseLinks o = andThen o (λ f. parsed (f .0) (readLinks (f .0) (f .1) [] (f .2)))
 
 unfoldable pub parse : (mostNodes mostLinks p q : ℕ) → List ℕ → Outcome Parsed
 parse mostNodes mostLinks p q text = parseLinks (countsOf mostNodes mostLinks p q (line 83 text))
