@@ -1,7 +1,7 @@
 -- The values of every answer are within the limits of document 01, so that each fits its field of the code.
 -- Assumes nothing.
 use mathlib.Core.Path.{_≡_, refl, ap, _∙_, subst}
-use mathlib.Core.Bool.{not, _||_}
+use mathlib.Core.Bool.{not}
 use mathlib.Core.List.{List, [], _∷_}
 use Prim.Native.Nat.{ℕ, _+_, _*_, _≤_}
 use native.Mathlib.Nat.{le-refl, le-trans, mul-le-mul}
@@ -10,16 +10,16 @@ use lib.Dec.{ltb}
 use lib.ListN.{length, getD, length-append}
 use Rattle.model.specs.declared.Size.{Size}
 use Rattle.model.specs.declared.Tested.{Tested}
-use Rattle.model.specs.Answers.{Outcome, refused, answered}
-use Rattle.model.specs.Basics.{gather}
+use Rattle.model.specs.Answers.{Outcome, refused, answered, mapAnswer}
+use Rattle.model.specs.Basics.{gather, none, if_then_else_}
 use Rattle.model.specs.SurveyText.{lineOf, linkLines, surveyText}
 use Rattle.model.specs.Survey.{Graph, neighboursOf, badSize, isSurvey, accepting, Accepted}
 use Rattle.model.specs.Threshold.{threshold, thresholdAnswer, bitLength}
 use Rattle.model.specs.Hubs.{closed, hubs}
 use Rattle.model.specs.Reading.{Parsed, parse, Reading, readingOf, reading}
-use Rattle.model.specs.Building.{Building, built, building}
+use Rattle.model.specs.Building.{Building, shortLists, built, building}
 use Rattle.model.specs.TwoOrFour.{sources, tested}
-use Rattle.model.specs.Testing.{testingOf, testing}
+use Rattle.model.specs.Testing.{testing}
 use Rattle.model.specs.Writing.{Writing, textOf, writingOf, writing}
 use Rattle.model.proofs.Tests.{picked}
 use Rattle.model.proofs.Outcomes.{never}
@@ -49,7 +49,7 @@ unfolding building built
 hubs-fit n starts neighbours full low report list k =
     let P : Building → Type 0 = λ b. b .answer ≡ answered k → k ≤ 1024 in
     picked P (badSize n) _ _ (λ h e. never e) (λ g.
-    picked P (ltb (length starts) (n + 1) || ltb (length full) (n * n) || ltb (length low) (n * n) || ltb (length report) (n * n) || ltb (length list) n) _ _ (λ h e. never e) (λ h.
+    picked P (shortLists n (length starts) (length full) (length low) (length report) (length list)) _ _ (λ h e. never e) (λ h.
     picked P (not (isSurvey n starts neighbours)) _ _ (λ i e. never e) (λ i e.
     let j : length (hubs n (threshold n) (neighboursOf starts neighbours)) ≡ k = cc in
     omega (arith, size-bounds n g .1, hubs-length n (neighboursOf starts neighbours) (threshold n)))))
@@ -131,10 +131,10 @@ sources-few n starts neighbours s acc = at (source-cases n s G (acc .lists .grap
     at (covers f) = omega (arith, hubs-length n G s, acc .size)
 
 pub searches-fit : (n : ℕ) (starts neighbours : List ℕ) (t : Tested) → testing n starts neighbours ≡ answered t → t .searches ≤ 1024
-unfolding testing testingOf tested
+unfolding testing tested
 searches-fit n starts neighbours t = at (accepting n starts neighbours) refl
   where
-    at : (o : Outcome (Unit {0})) → accepting n starts neighbours ≡ o → testingOf o (tested n (threshold n) (neighboursOf starts neighbours)) ≡ answered t → t .searches ≤ 1024
+    at : (o : Outcome (Unit {0})) → accepting n starts neighbours ≡ o → mapAnswer (λ _. tested n (threshold n) (neighboursOf starts neighbours)) o ≡ answered t → t .searches ≤ 1024
     at (refused r) h e = never e
     at (answered x) h e =
         let j : _≡_ {A = Tested} (tested n (threshold n) (neighboursOf starts neighbours)) t = cc in

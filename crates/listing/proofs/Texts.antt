@@ -11,7 +11,7 @@ use Rattle.model.specs.declared.Refusal.the-variants.{Form, NodeCount, LinkCoun
 use Rattle.model.specs.Answers.{number, refused}
 use Rattle.model.specs.Basics.{none, from, upTo, gather}
 use Rattle.model.specs.Numbers.{digits}
-use Rattle.model.specs.Listing.{reportText, pairLines, listed}
+use Rattle.model.specs.Listing.{reportText, pairLines, listingText}
 use Rattle.model.proofs.Numbers.{length-le}
 use Rattle.model.proofs.Lists.{gather-same, of-upTo}
 use Rattle.model.proofs.Listing.{by-pairs}
@@ -42,8 +42,8 @@ number-small NoNode = omega arith
 number-small NotAttained = omega arith
 number-small ShortBuffer = omega arith
 
-pub refusal-room : (r : Refusal) (k : ℕ) → k ≡ number r → (buf : List ℕ) → most ≤ length buf → 0 + length (listed (refused k)) ≤ length buf
-unfolding listed
+pub refusal-room : (r : Refusal) (k : ℕ) → k ≡ number r → (buf : List ℕ) → most ≤ length buf → 0 + length (listingText (refused k)) ≤ length buf
+unfolding listingText
 refusal-room r k e buf h =
     omega (arith, length-append (digits k) (10 ∷ []), length-le 1 k (omega (arith, number-small r, e)))
 

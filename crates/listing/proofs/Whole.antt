@@ -25,7 +25,7 @@ use Rattle.model.specs.Building.{Building, built}
 use Rattle.model.specs.Reading as reading
 use Rattle.model.specs.Reading.{Parsed, parse, readingOf}
 use Rattle.model.specs.Writing.{writingOf, returned}
-use Rattle.model.specs.Listing.{pairLines, listingOf, listed, listing}
+use Rattle.model.specs.Listing.{pairLines, listingOf, listingText, listing}
 use Rattle.model.proofs.Covering.{hubs-length}
 use Rattle.model.proofs.Entries.{length-table}
 use Rattle.model.proofs.Links.{parse-sound}
@@ -66,16 +66,16 @@ module _ (n s : ℕ) (G : Graph) (full low report list full′ low′ report′ 
 -- ---- what reading leaves in lists for 128 nodes and 2,048 links
 
 module _ (text : List ℕ) (p q : ℕ) (p-is : p ≡ 128 + 1) (q-is : q ≡ 2 * 2048) (starts neighbours : List ℕ) where
-  listing-said : listing text ≡ listed (parse 128 2048 p q text)
+  listing-said : listing text ≡ listingText (parse 128 2048 p q text)
   unfolding listing
   listing-said = rw (p-is, q-is) refl
 
-  pub listing-refused : (r : Refusal) → reading.returned (read.Refused r) starts neighbours ≡ readingOf p q (parse 128 2048 p q text) → listed (refused (number r)) ≡ listing text
+  pub listing-refused : (r : Refusal) → reading.returned (read.Refused r) starts neighbours ≡ readingOf p q (parse 128 2048 p q text) → listingText (refused (number r)) ≡ listing text
   unfolding readingOf numberIn
   listing-refused r e = at (parse 128 2048 p q text) refl e ∙ sym listing-said
     where
-      at : (o : Outcome Parsed) → parse 128 2048 p q text ≡ o → reading.returned (read.Refused r) starts neighbours ≡ readingOf p q o → listed (refused (number r)) ≡ listed (parse 128 2048 p q text)
-      at (refused k) h e = let j : number r ≡ k = ap (λ (z : reading.Reading). numberIn (λ s. s .nodes) (z .answer)) e in ap (λ (i : ℕ). listed (refused i)) j ∙ sym (ap listed h)
+      at : (o : Outcome Parsed) → parse 128 2048 p q text ≡ o → reading.returned (read.Refused r) starts neighbours ≡ readingOf p q o → listingText (refused (number r)) ≡ listingText (parse 128 2048 p q text)
+      at (refused k) h e = let j : number r ≡ k = ap (λ (z : reading.Reading). numberIn (λ s. s .nodes) (z .answer)) e in ap (λ (i : ℕ). listingText (refused i)) j ∙ sym (ap listingText h)
       at (answered x) h e = never (ap (λ (z : reading.Reading). z .answer) e)
 
   -- a survey that is read
@@ -85,7 +85,7 @@ module _ (text : List ℕ) (p q : ℕ) (p-is : p ≡ 128 + 1) (q-is : q ≡ 2 * 
     pub lines : listingOf n (neighboursOf starts neighbours) ≡ listing text
 
   pub listing-read : (x : Size) → reading.returned (read.Read x) starts neighbours ≡ readingOf p q (parse 128 2048 p q text) → IsListed (x .nodes)
-  unfolding readingOf listed numberIn
+  unfolding readingOf listingText numberIn
   listing-read x e = at (parse 128 2048 p q text) refl e
     where
       at : (o : Outcome Parsed) → parse 128 2048 p q text ≡ o → reading.returned (read.Read x) starts neighbours ≡ readingOf p q o → IsListed (x .nodes)
@@ -99,7 +99,7 @@ module _ (text : List ℕ) (p q : ℕ) (p-is : p ≡ 128 + 1) (q-is : q ≡ 2 * 
             few = omega (arith, j, parse-sound 128 2048 p q text y h .within .size);
             lines =
                 ap₂ listingOf j (ap (λ (z : reading.Reading). neighboursOf (z .starts) (z .neighbours)) e ∙ read-graph 128 2048 p q (omega arith) (omega arith) text y h)
-                ∙ sym (listing-said ∙ ap listed h);
+                ∙ sym (listing-said ∙ ap listingText h);
           }
 
 -- ---- a text that stands in front of a list

@@ -13,7 +13,7 @@ ghost use lib.ListN.{length};
 ghost use Rattle.lists.specs.Writing.{Wrote};
 ghost use Rattle.model.specs.Answers.{number, refused, answered, countAnswer};
 ghost use Rattle.model.specs.Survey.{neighboursOf, Accepted};
-ghost use Rattle.model.specs.Listing.{reportText, routeText, pairLine, pairLines, listingOf, listed, listing};
+ghost use Rattle.model.specs.Listing.{reportText, routeText, pairLine, pairLines, listingOf, listingText, listing};
 ghost use Rattle.model.specs.Writing.{writingOf, returned};
 ghost use Rattle.listing.specs.Rows.{most, answerText, rowText};
 
@@ -177,7 +177,7 @@ fn write_survey(n: usize, starts: &[u32], neighbours: &[u16], buffer: &mut [u8])
 // Writes a refusal's line from the first byte on, and returns its length.
 fn write_refusal(refusal: Refusal, buffer: &mut [u8]) -> usize
     requires { ⌜ most ≤ length (now buffer) ⌝ }
-    ensures { λ r. ⌜ Wrote (now (buffer .entry)) (now (buffer .exit)) 0 r (listed (refused (number refusal))) ⌝ }
+    ensures { λ r. ⌜ Wrote (now (buffer .entry)) (now (buffer .exit)) 0 r (listingText (refused (number refusal))) ⌝ }
 {
     let i = text::write_byte(buffer, 0, 88);
     let i = text::write_field(buffer, i, refusals::refusal_number(refusal) as u32);

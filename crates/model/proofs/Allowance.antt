@@ -3,17 +3,17 @@
 use mathlib.Core.Path.{_≡_, refl, sym, ap, _∙_, subst}
 use mathlib.Core.Logic.{_⊎_, inl, inr}
 use mathlib.Core.Bool.{Bool, true, false, not, _&&_, _||_}
-use mathlib.Core.List.{List, [], _∷_, foldr}
+use mathlib.Core.List.{List, [], _∷_}
 use Prim.Native.Nat.{ℕ, suc, _+_, _≤_, _<_, zero-le, min}
 use native.Mathlib.Nat.{zero-add, suc-add, le-refl, le-trans, min-le-left, min-le-right}
 use native.Mathlib.Omega.{arith}
 use native.Mathlib.Decide.{decLe}
 use lib.Dec.{T, eqb, eqb→eq, eqb-refl, not-T}
 use Rattle.model.specs.Basics.{none, if_then_else_, has}
-use Rattle.model.specs.Graph.{Edges, Chain, here, link, Fewest, fewest}
+use Rattle.model.specs.Graph.{Edges, between, Chain, here, link, Unjoined, Fewest, fewest}
 use Rattle.model.specs.Survey.{Graph, linked, IsGraph}
-use Rattle.model.specs.Hubs.{isHigh, isLow, hubs}
-use Rattle.model.specs.Tables.{entry, fullTable, lowLinks, lowTable, sum, via, reportTable}
+use Rattle.model.specs.Hubs.{isHigh, isLow, hubs, closed}
+use Rattle.model.specs.Tables.{entry, fullTable, lowLinks, lowTable, sum, via, reportTable, least, reportEntry}
 use Rattle.model.specs.Demand.{Allowed}
 use Rattle.model.proofs.Tests.{and-i, passes}
 use Rattle.model.proofs.Lists.{of-cons, has-head, has-tail}
@@ -26,30 +26,25 @@ use Rattle.model.proofs.TableLaws.{full-is, full-joined, low-is, low-jo
 -- ---- the least of a list of candidates
 
 module _ (f : ℕ → ℕ) (base : ℕ) where
-  pub least : List ℕ → ℕ
-  least hs = foldr (λ h x. min (f h) x) base hs
-
-  least-base : (hs : List ℕ) → least hs ≤ base
-  unfolding least
+  pub least-base : (hs : List ℕ) → least f base hs ≤ base
   least-base [] = le-refl base
-  least-base (h ∷ hs) = le-trans (min-le-right (f h) (least hs)) (least-base hs)
+  least-base (h ∷ hs) = le-trans (min-le-right (f h) (least f base hs)) (least-base hs)
 
-  least-at : (hs : List ℕ) (h : ℕ) → T (has h hs) → least hs ≤ f h
-  unfolding least has
+  least-at : (hs : List ℕ) (h : ℕ) → T (has h hs) → least f base hs ≤ f h
+  unfolding has
   least-at [] h m = absurd m
   least-at (x ∷ xs) h m = go (of-cons h x xs m) (λ r. least-at xs h r)
     where
-      go : (h ≡ x) ⊎ T (has h xs) → (T (has h xs) → least xs ≤ f h) → min (f x) (least xs) ≤ f h
-      go (inl e) rec = subst (λ (z : ℕ). min (f x) (least xs) ≤ f z) (sym e) (min-le-left (f x) (least xs))
-      go (inr r) rec = le-trans (min-le-right (f x) (least xs)) (rec r)
+      go : (h ≡ x) ⊎ T (has h xs) → (T (has h xs) → least f base xs ≤ f h) → min (f x) (least f base xs) ≤ f h
+      go (inl e) rec = subst (λ (z : ℕ). min (f x) (least f base xs) ≤ f z) (sym e) (min-le-left (f x) (least f base xs))
+      go (inr r) rec = le-trans (min-le-right (f x) (least f base xs)) (rec r)
 
-  pub least-cases : (hs : List ℕ) → (least hs ≡ base) ⊎ ((h : ℕ) × T (has h hs) × (least hs ≡ f h))
-  unfolding least
+  pub least-cases : (hs : List ℕ) → (least f base hs ≡ base) ⊎ ((h : ℕ) × T (has h hs) × (least f base hs ≡ f h))
   least-cases [] = inl refl
-  least-cases (x ∷ xs) = go (decLe (f x) (least xs)) (least-cases xs)
+  least-cases (x ∷ xs) = go (decLe (f x) (least f base xs)) (least-cases xs)
     where
-      go : Dec (f x ≤ least xs) → (least xs ≡ base) ⊎ ((h : ℕ) × T (has h xs) × (least xs ≡ f h))
-          → (min (f x) (least xs) ≡ base) ⊎ ((h : ℕ) × T (has h (x ∷ xs)) × (min (f x) (least xs) ≡ f h))
+      go : Dec (f x ≤ least f base xs) → (least f base xs ≡ base) ⊎ ((h : ℕ) × T (has h xs) × (least f base xs ≡ f h))
+          → (min (f x) (least f base xs) ≡ base) ⊎ ((h : ℕ) × T (has h (x ∷ xs)) × (min (f x) (least f base xs) ≡ f h))
       go (yes l) r = inr (x, has-head x xs, omega arith)
       go (no l) (inl e) = inl (omega arith)
       go (no l) (inr r) = inr (r .0, has-tail (r .0) x xs (r .1), omega (arith, r .2))
@@ -75,7 +70,7 @@ sum-is x y = go (eqb x none) refl (eqb y none) refl
 -- ---- a chain goes through low nodes only, or through a high one
 
 data Split (E : Edges) (high : ℕ → Bool) (k a b : ℕ) : Type 0 where
-  lows : T (not (high a)) → T (not (high b)) → Chain (λ u v. not (high u) && not (high v) && E u v) k a b → Split E high k a b
+  lows : T (not (high a)) → T (not (high b)) → Chain (between (λ v. not (high v)) E) k a b → Split E high k a b
   through : (w i j : ℕ) → T (high w) → Chain E i a w → Chain E j w b → i + j ≡ k → Split E high k a b
 
 split : (E : Edges) (high : ℕ → Bool) {k a b : ℕ} → Chain E k a b → Split E high k a b
@@ -101,9 +96,9 @@ module _ (n s : ℕ) (G : Graph) (g : IsGraph n G) where
   routes a b = least (via n (fullTable n s G) a b) (entry n (lowTable n s G) a b) (hubs n s G)
 
   pub report-entry : (a b : ℕ) → a < n → b < n → entry n (reportTable n s G) a b ≡ (if eqb a b then 0 else routes a b)
-  unfolding reportTable routes least
+  unfolding reportTable routes
   report-entry a b ha hb =
-      entry-table n (λ a b. if eqb a b then 0 else foldr (λ h x. min (via n (fullTable n s G) a b h) x) (entry n (lowTable n s G) a b) (hubs n s G)) a b ha hb
+      entry-table n (reportEntry n (fullTable n s G) (lowTable n s G) (hubs n s G)) a b ha hb
 
   -- a chain of as many links as a route through a hub has
   via-chain : (a b h : ℕ) → a < n → b < n → h < n → (via n (fullTable n s G) a b h ≡ none → ⊥) → Chain (linked n G) (via n (fullTable n s G) a b h) a b
@@ -205,10 +200,10 @@ allowed n s G g size a b ha hb = record {
         d : ℕ
         d = fewest (linked n G) n a b
 
-        cases : ((d < n) × Fewest (linked n G) a b d) ⊎ ((d ≡ none) × ((k : ℕ) → Chain (linked n G) k a b → ⊥)) → ⊥
+        cases : ((d < n) × Fewest (linked n G) a b d) ⊎ ((d ≡ none) × Unjoined (linked n G) a b) → ⊥
         cases (inl p) = let l = report-near n s G g a b d size ha hb (p .1 .0) in omega arith
         cases (inr p) = p .1 k c
 
-    at : T (eqb r none) ⊎ (T (eqb r none) → ⊥) → ((k : ℕ) → Chain (linked n G) k a b → ⊥) → r ≡ none
+    at : T (eqb r none) ⊎ (T (eqb r none) → ⊥) → Unjoined (linked n G) a b → r ≡ none
     at (inl t) f = eqb→eq r none t
     at (inr t) f = absurd (f r (report-chain n s G g a b ha hb (λ e. t (subst (λ (z : ℕ). T (eqb r z)) e (eqb-refl r)))))

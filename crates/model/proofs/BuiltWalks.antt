@@ -4,10 +4,11 @@ use mathlib.Core.Path.{_≡_, refl, sym, ap, ap₂, _∙_, subst}
 use mathlib.Core.Logic.{_⊎_, inl, inr}
 use mathlib.Core.Bool.{Bool, true, false, not, _&&_}
 use mathlib.Core.List.{List, [], _∷_, _++_}
-use mathlib.Core.Option.{Option, none as missing, some}
+use mathlib.Core.Option.{Option, none as missing, some, IsSome}
 use Prim.Native.Nat.{ℕ, suc, _+_, _-_, _≤_, _<_, zero-le}
 use native.Mathlib.Nat.{le-of-suc-le-suc}
 use native.Mathlib.Omega.{arith}
+use borrow.Author.Tests.{eqb-true}
 use lib.Dec.{T, eqb, ltb, eqb→eq, ltb→lt, not-T}
 use lib.ListN.{length, replicate, take}
 use Rattle.model.specs.declared.Route.{Route}
@@ -22,7 +23,7 @@ use Rattle.model.specs.Tables.{entry, sum, via, fullTable, lowTable, low
 use Rattle.model.specs.Pair.{answer, taken, listed, attaining, choose, pairBy, pair}
 use Rattle.model.specs.Walk.{byLow, toHub, join, nodes}
 use Rattle.model.specs.Walking.{Walking, refuseWalk, fit, walkOf}
-use Rattle.model.proofs.Tests.{and-r, and-i, is, eq-T, T-true, same-test, eq-or}
+use Rattle.model.proofs.Tests.{and-r, and-i, eq-T, T-true, same-test, eq-or}
 use Rattle.model.proofs.Lists.{has-append, of-upTo, first-below, First, found, nothing, first-same}
 use Rattle.model.proofs.Acceptance.{linked-has, linked-sym, linked-ends}
 use Rattle.model.proofs.Chains.{snoc, split-last, chain-zero, inside}
@@ -30,26 +31,21 @@ use Rattle.model.proofs.Covering.{hubs-below}
 use Rattle.model.proofs.Entries.{entry-front}
 use Rattle.model.proofs.TableLaws.{full-is, full-joined, low-is, low-joined, low-ends, both-low, low-widen, fewest-unique}
 use Rattle.model.proofs.Allowance.{routes, report-entry, least-cases}
-use Rattle.model.proofs.Walks.{Chosen, to-itself, to-none, to-low, to-hub, bad-itself, bad-hub, chosen, Sound, Given, steps-given, join-given, attains, via-sum, route-sound}
-
-abbrev counted : Option (List ℕ) → ℕ
-counted missing = 0
-counted (some l) = length l
+use Rattle.model.proofs.Walks.{Chosen, to-itself, to-none, to-low, to-hub, bad-itself, bad-hub, chosen, Sound, steps-given, join-given, attains, via-sum, route-sound}
 
 -- nodes that fit are given out with the answer as it is
-fits : (w : ℕ) (x : Answer) (o : Option (List ℕ)) → Given o → counted o ≤ w → fit w x o .answer ≡ answered x
+fits : (w : ℕ) (x : Answer) (k : List ℕ) → length k ≤ w → fit w x (some k) .answer ≡ answered x
 unfolding fit refuseWalk
-fits w x missing m l = absurd m
-fits w x (some k) m l = pick (ltb w (length k)) refl
+fits w x k l = pick (ltb w (length k)) refl
   where
     pick : (c : Bool) → ltb w (length k) ≡ c
         → (if_then_else_ {A = Walking} c (record { answer = refused 8; walk = replicate w none }) (record { answer = answered x; walk = k ++ replicate (w - length k) none })) .answer ≡ answered x
     pick true e = absurd (omega (arith, ltb→lt w (length k) (subst T (sym e) tt)))
     pick false e = refl
 
-fits-sound : (E : Edges) (a b w : ℕ) (x : Answer) (o : Option (List ℕ)) → Sound E (x .report) a b o → Given o → x .report < w → fit w x o .answer ≡ answered x
+fits-sound : (E : Edges) (a b w : ℕ) (x : Answer) (o : Option (List ℕ)) → Sound E (x .report) a b o → IsSome o → x .report < w → fit w x o .answer ≡ answered x
 fits-sound E a b w x missing s m l = absurd m
-fits-sound E a b w x (some k) s m l = fits w x (some k) tt (subst (λ (j : ℕ). j ≤ w) (sym (s .1)) l)
+fits-sound E a b w x (some k) s m l = fits w x k (subst (λ (j : ℕ). j ≤ w) (sym (s .1)) l)
 
 module _ (n s : ℕ) (G : Graph) (g : IsGraph n G) (size : n ≤ 1024) (full low report : List ℕ) (built : AreBuilt n s G full low report) where
   -- the laws of the tables, for lists whose fronts they are
@@ -198,7 +194,7 @@ module _ (n s : ℕ) (G : Graph) (g : IsGraph n G) (size : n ≤ 1024) (full low
                 hit h l (and-i (isHub h) (eqb (via n full a b h) R) (right h l f v) (eq-T (via n full a b h) R v)) (first-below p none n) z
 
         at : (t : Bool) → eqb a b ≡ t → R ≡ (if t then 0 else routes n s G g a b) → ⊥
-        at true q e = x (is a b q)
+        at true q e = x (eqb-true a b q)
         at false q e = some-hub e
 
     -- asking: the report, with some route
@@ -227,14 +223,14 @@ module _ (n s : ℕ) (G : Graph) (g : IsGraph n G) (size : n ≤ 1024) (full low
             side (inl e) = absurd (f e)
             side (inr l) = l
 
-        low-given : (entry n low a b ≡ none → ⊥) → Given (byLow n s G low a b)
+        low-given : (entry n low a b ≡ none → ⊥) → IsSome (byLow n s G low a b)
         low-given f =
             let i = low-is′ a b ha hb f in
             let j = low-joined′ a b (entry n low a b) ha hb (i .0) (i .1) (i .2 .0) in
             steps-given n G g (isLow s G) (λ x. entry n low x b) b (omega arith)
             (λ v d. low-next b v d hb) (λ v. low-end b v hb) (entry n low a b) a ha (omega arith) refl
 
-        hub-given : (h v : ℕ) → h < n → v < n → (entry n full h v ≡ none → ⊥) → Given (toHub n G full h v)
+        hub-given : (h v : ℕ) → h < n → v < n → (entry n full h v ≡ none → ⊥) → IsSome (toHub n G full h v)
         hub-given h v hh hv f =
             let i = full-is′ h v hh hv f in
             let j = full-joined′ h v (entry n full h v) hh hv (i .0) (i .1 .0) in
@@ -242,11 +238,11 @@ module _ (n s : ℕ) (G : Graph) (g : IsGraph n G) (size : n ≤ 1024) (full low
             (λ v d. full-next h v d hh) (λ v. full-end h v hh) (entry n full h v) v hv (omega arith) refl
 
         at : {q : Outcome Answer} → Chosen a b r (entry n low a b) hub q → walkOf w n s G full low a b q .answer ≡ q
-        at (to-itself e z) = fits w (answer 0 Itself) (some (a ∷ [])) tt (subst (λ (k : ℕ). suc k ≤ w) z (roomy (λ q. clash (sym z ∙ q))))
+        at (to-itself e z) = fits w (answer 0 Itself) (a ∷ []) (subst (λ (k : ℕ). suc k ≤ w) z (roomy (λ q. clash (sym z ∙ q))))
           where
             clash : 0 ≡ none → ⊥
             clash q = omega arith
-        at (to-none x e) = fits w (answer none NoRoute) (some []) tt zero-le
+        at (to-none x e) = fits w (answer none NoRoute) [] zero-le
         at (to-low x f e) =
             fits-sound (linked n G) a b w (answer r Low) (byLow n s G low a b) (route-sound n s G g full low a b ha hb isHub report (answer r Low) (to-low x f e) f)
             (low-given (λ q. f (sym e ∙ q))) (roomy f)

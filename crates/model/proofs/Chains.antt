@@ -11,7 +11,7 @@ use native.Mathlib.Omega.{arith}
 use lib.Dec.{T}
 use lib.ListN.{length}
 use Rattle.model.specs.Basics.{none, upTo, has, any, keep, firstOf}
-use Rattle.model.specs.Graph.{Edges, Chain, here, link, Fewest, Walked, stop, go, reach, fewest}
+use Rattle.model.specs.Graph.{Edges, Chain, here, link, Fewest, Walked, stop, go, reach, fewest, Unjoined}
 use Rattle.model.proofs.Tests.{or-l, or-r, or-e}
 use Rattle.model.proofs.Lists.{has-head, of-single, any-of, of-any, has-keep, of-keep, has-upTo, of-upTo, First, found, nothing, first-below, keep-grows, keep-length, length-upTo, length-pos}
 
@@ -157,7 +157,7 @@ module _ (E : Edges) (n a : ℕ) where
         at (inr c) = absurd (omega (arith, keep-length (λ v. has v (reach E n a n)) (upTo n), length-upTo n))
 
     -- what the search for b finds, and what it misses
-    pub fewest-cases : (b : ℕ) → ((fewest E n a b < n) × Fewest E a b (fewest E n a b)) ⊎ ((fewest E n a b ≡ none) × ((k : ℕ) → Chain E k a b → ⊥))
+    pub fewest-cases : (b : ℕ) → ((fewest E n a b < n) × Fewest E a b (fewest E n a b)) ⊎ ((fewest E n a b ≡ none) × Unjoined E a b)
     unfolding fewest Stable
     fewest-cases b = at (first-below p none n)
       where
@@ -165,7 +165,7 @@ module _ (E : Edges) (n a : ℕ) where
         p k = has b (reach E n a k)
 
         at : First p none 0 n (firstOf p none (upTo n))
-            → ((firstOf p none (upTo n) < n) × Fewest E a b (firstOf p none (upTo n))) ⊎ ((firstOf p none (upTo n) ≡ none) × ((k : ℕ) → Chain E k a b → ⊥))
+            → ((firstOf p none (upTo n) < n) × Fewest E a b (firstOf p none (upTo n))) ⊎ ((firstOf p none (upTo n) ≡ none) × Unjoined E a b)
         at (found lo hi t least) =
             let r = firstOf p none (upTo n) in
             let s = sound r b t in
@@ -184,27 +184,27 @@ module _ (E : Edges) (n a : ℕ) (ends : (u v : ℕ) → u < n → T (E u v) →
   pub fewest-is : (b : ℕ) → (fewest E n a b ≡ none → ⊥) → Fewest E a b (fewest E n a b)
   fewest-is b h = at (fewest-cases E n a ends start b)
     where
-      at : ((fewest E n a b < n) × Fewest E a b (fewest E n a b)) ⊎ ((fewest E n a b ≡ none) × ((k : ℕ) → Chain E k a b → ⊥)) → Fewest E a b (fewest E n a b)
+      at : ((fewest E n a b < n) × Fewest E a b (fewest E n a b)) ⊎ ((fewest E n a b ≡ none) × Unjoined E a b) → Fewest E a b (fewest E n a b)
       at (inl s) = s .1
       at (inr s) = absurd (h (s .0))
 
-  pub fewest-none : n ≤ none → (b : ℕ) → fewest E n a b ≡ none → (k : ℕ) → Chain E k a b → ⊥
+  pub fewest-none : n ≤ none → (b : ℕ) → fewest E n a b ≡ none → Unjoined E a b
   fewest-none m b e = at (fewest-cases E n a ends start b)
     where
-      at : ((fewest E n a b < n) × Fewest E a b (fewest E n a b)) ⊎ ((fewest E n a b ≡ none) × ((k : ℕ) → Chain E k a b → ⊥)) → (k : ℕ) → Chain E k a b → ⊥
+      at : ((fewest E n a b < n) × Fewest E a b (fewest E n a b)) ⊎ ((fewest E n a b ≡ none) × Unjoined E a b) → Unjoined E a b
       at (inl s) = absurd (omega arith)
       at (inr s) = s .1
 
   pub fewest-of : (b d : ℕ) → Fewest E a b d → fewest E n a b ≡ d
   fewest-of b d f = at (fewest-cases E n a ends start b)
     where
-      at : ((fewest E n a b < n) × Fewest E a b (fewest E n a b)) ⊎ ((fewest E n a b ≡ none) × ((k : ℕ) → Chain E k a b → ⊥)) → fewest E n a b ≡ d
+      at : ((fewest E n a b < n) × Fewest E a b (fewest E n a b)) ⊎ ((fewest E n a b ≡ none) × Unjoined E a b) → fewest E n a b ≡ d
       at (inl s) = le-antisymm (s .1 .1 d (f .0)) (f .1 (fewest E n a b) (s .1 .0))
       at (inr s) = absurd (s .1 d (f .0))
 
-  pub fewest-missing : (b : ℕ) → ((k : ℕ) → Chain E k a b → ⊥) → fewest E n a b ≡ none
+  pub fewest-missing : (b : ℕ) → Unjoined E a b → fewest E n a b ≡ none
   fewest-missing b f = at (fewest-cases E n a ends start b)
     where
-      at : ((fewest E n a b < n) × Fewest E a b (fewest E n a b)) ⊎ ((fewest E n a b ≡ none) × ((k : ℕ) → Chain E k a b → ⊥)) → fewest E n a b ≡ none
+      at : ((fewest E n a b < n) × Fewest E a b (fewest E n a b)) ⊎ ((fewest E n a b ≡ none) × Unjoined E a b) → fewest E n a b ≡ none
       at (inl s) = absurd (f (fewest E n a b) (s .1 .0))
       at (inr s) = s .0

@@ -20,20 +20,20 @@ use Rattle.model.specs.Graph.{Edges, Chain, Walked}
 use Rattle.model.specs.Survey.{Graph, neighboursOf, linked, badSize, isSurvey, Accepted}
 use Rattle.model.specs.Threshold.{threshold}
 use Rattle.model.specs.Hubs.{hubs, hubList}
-use Rattle.model.specs.Tables.{entry, fullTable, lowTable, reportTable, AreBuilt, AreBuiltWith}
+use Rattle.model.specs.Tables.{entry, fullTable, lowTable, reportTable, AreBuilt, AreBuiltWith, shortTables}
 use Rattle.model.specs.Pair.{answer, taken, attaining, pairBy, pair}
 use Rattle.model.specs.Walk.{nodes}
 use Rattle.model.specs.TwoOrFour.{tested}
 use Rattle.model.specs.Building.{built, building}
 use Rattle.model.specs.Asking.{asking}
 use Rattle.model.specs.Walking.{Walking, refuseWalk, fit, walkOf, walking}
-use Rattle.model.specs.Testing.{testingOf, testing}
+use Rattle.model.specs.Testing.{testing}
 use Rattle.model.specs.Demand.{Allowed, AllowedAnswer, WalkSound, WalkAnswers, RightVerdict}
 use Rattle.model.proofs.Outcomes.{never}
 use Rattle.model.proofs.Tests.{true-T, or-false, of-or-false, picked, not-not}
 use Rattle.model.proofs.Chains.{walked-chain}
 use Rattle.model.proofs.Acceptance.{survey-test, survey-facts, good-size, accepting-answers}
-use Rattle.model.proofs.Entries.{front-length, length-table}
+use Rattle.model.proofs.Entries.{front-length, length-table, long-tables, of-long-tables}
 use Rattle.model.proofs.Covering.{hubs-length}
 use Rattle.model.proofs.Allowance.{allowed}
 use Rattle.model.proofs.Walks.{Chosen, chosen, Given-out, refusal, no-way, walked, found-longer, walk-given-out}
@@ -102,7 +102,7 @@ pub walking-sound : (n : ℕ) (starts neighbours full low report : List ℕ) (a 
 unfolding walking refuseWalk pair
 walking-sound n starts neighbours full low report a b w =
     picked P (badSize n) _ _ (λ _. refuses) (λ size.
-    picked P (ltb (length starts) (n + 1) || ltb (length full) (n * n) || ltb (length low) (n * n) || ltb (length report) (n * n)) _ _ (λ _. refuses) (λ room.
+    picked P (ltb (length starts) (n + 1) || shortTables n (length full) (length low) (length report)) _ _ (λ _. refuses) (λ room.
     picked P (not (isSurvey n starts neighbours)) _ _ (λ _. refuses) (λ lists.
     picked P (leb n a || leb n b) _ _ (λ _. refuses) (λ below.
     let h = of-or-false (leb n a) (leb n b) below in
@@ -126,25 +126,15 @@ asking-passed : (n : ℕ) (full low report : List ℕ) (a b : ℕ) (x : Answer) 
 unfolding asking
 asking-passed n full low report a b x =
     picked P (badSize n) _ _ (λ _ e. never e) (λ _.
-    picked P (B || C || D) _ _ (λ _ e. never e) (λ room.
+    picked P (shortTables n (length full) (length low) (length report)) _ _ (λ _ e. never e) (λ room.
     picked P (leb n a || leb n b) _ _ (λ _ e. never e) (λ below e.
-    let r = of-or-false (B || C) D room in
-    let q = of-or-false B C (r .0) in
+    let r = of-long-tables n (length full) (length low) (length report) room in
     let h = of-or-false (leb n a) (leb n b) below in
-    (ltb-false (length full) (n * n) (q .0), ltb-false (length low) (n * n) (q .1), ltb-false (length report) (n * n) (r .1), leb-false n a (h .0), leb-false n b (h .1), e))))
+    (r .0, r .1, r .2, leb-false n a (h .0), leb-false n b (h .1), e))))
   where
     P : Outcome Answer → Type 0
     P o = o ≡ answered x
         → (n * n ≤ length full) × (n * n ≤ length low) × (n * n ≤ length report) × (a < n) × (b < n) × (pair n full low report a b ≡ answered x)
-
-    B : Bool
-    B = ltb (length full) (n * n)
-
-    C : Bool
-    C = ltb (length low) (n * n)
-
-    D : Bool
-    D = ltb (length report) (n * n)
 
 fit-short : (w : ℕ) (x : Answer) (l : List ℕ) → (fit w x (some l) .answer ≡ refused 8) ↔ (w < length l)
 unfolding fit refuseWalk
@@ -166,7 +156,7 @@ module _ (n : ℕ) (starts neighbours : List ℕ) (acc : Accepted n starts neigh
 
   -- the test is not refused, and its verdict is right
   pub testing-answers : testing n starts neighbours ≡ answered (tested n (threshold n) G)
-  unfolding testing testingOf
+  unfolding testing
   testing-answers = rw (accepting-answers n starts neighbours acc) refl
 
   pub testing-right : RightVerdict n (linked n G) (testing n starts neighbours)
@@ -181,17 +171,11 @@ module _ (n : ℕ) (starts neighbours : List ℕ) (acc : Accepted n starts neigh
       → building n starts neighbours full low report list ≡ built n (threshold n) G full low report list
   unfolding building
   building-answers full low report list hf hl hr hh =
-      let A = ltb (length starts) (n + 1) in
-      let B = ltb (length full) (n * n) in
-      let C = ltb (length low) (n * n) in
-      let D = ltb (length report) (n * n) in
       rw (
         good-size n (acc .some-node) (acc .size),
-        or-false (A || B || C || D) (ltb (length list) n)
-            (or-false (A || B || C) D
-            (or-false (A || B) C (or-false A B (le-ltb (length starts) (n + 1) (acc .room)) (le-ltb (length full) (n * n) hf)) (le-ltb (length low) (n * n) hl))
-            (le-ltb (length report) (n * n) hr))
-            (le-ltb (length list) n hh),
+        le-ltb (length starts) (n + 1) (acc .room),
+        long-tables n (length full) (length low) (length report) hf hl hr,
+        le-ltb (length list) n hh,
         is-survey,
       ) refl
 
@@ -200,33 +184,16 @@ module _ (n : ℕ) (starts neighbours : List ℕ) (acc : Accepted n starts neigh
     below : (leb n a || leb n b) ≡ false
     below = or-false (leb n a) (leb n b) (lt-leb n a ha) (lt-leb n b hb)
 
+    fits : shortTables n (length full) (length low) (length report) ≡ false
+    fits = long-tables n (length full) (length low) (length report) hf hl hr
+
     asks : asking n full low report a b ≡ pair n full low report a b
     unfolding asking
-    asks =
-        let B = ltb (length full) (n * n) in
-        let C = ltb (length low) (n * n) in
-        let D = ltb (length report) (n * n) in
-        rw (
-          good-size n (acc .some-node) (acc .size),
-          or-false (B || C) D (or-false B C (le-ltb (length full) (n * n) hf) (le-ltb (length low) (n * n) hl)) (le-ltb (length report) (n * n) hr),
-          below,
-        ) refl
+    asks = rw (good-size n (acc .some-node) (acc .size), fits, below) refl
 
     walks : (w : ℕ) → walking n starts neighbours full low report a b w ≡ walkOf w n (threshold n) G full low a b (pair n full low report a b)
     unfolding walking
-    walks w =
-        let A = ltb (length starts) (n + 1) in
-        let B = ltb (length full) (n * n) in
-        let C = ltb (length low) (n * n) in
-        let D = ltb (length report) (n * n) in
-        rw (
-          good-size n (acc .some-node) (acc .size),
-          or-false (A || B || C) D
-              (or-false (A || B) C (or-false A B (le-ltb (length starts) (n + 1) (acc .room)) (le-ltb (length full) (n * n) hf)) (le-ltb (length low) (n * n) hl))
-              (le-ltb (length report) (n * n) hr),
-          is-survey,
-          below,
-        ) refl
+    walks w = rw (good-size n (acc .some-node) (acc .size), le-ltb (length starts) (n + 1) (acc .room), fits, is-survey, below) refl
 
   -- for any tables: where asking answers x and the walk's nodes are found, the walk is refused 8 exactly where there is a route and
   -- the walk list has fewer than report + 1 entries

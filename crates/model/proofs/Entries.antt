@@ -1,14 +1,18 @@
 -- A table has n * n entries, and entry (a, b) of `table n f` is f a b.
 -- Assumes nothing.
 use mathlib.Core.Path.{_≡_, refl, sym, ap, _∙_}
+use mathlib.Core.Bool.{false, _||_}
 use mathlib.Core.List.{List, _++_, map}
 use Prim.Native.Nat.{ℕ, zero, suc, _+_, _*_, _≤_, _<_}
 use native.Mathlib.Nat.{add-zero, zero-add, add-suc, suc-add, suc-mul, zero-mul, mul-le-mul, mul-le-mul-right, le-of-suc-le-suc, not-suc-le-zero}
 use native.Mathlib.Omega.{arith}
 use lib.ListN.{length, getD, take, replicate, length-take, length-append, length-map, List·getD-append}
+use borrow.Author.Tests.{le-ltb, ltb-false}
+use lib.Dec.{ltb}
 use lib.Seq.{getD-append-add, getD-take, take-all}
 use Rattle.model.specs.Basics.{from, upTo, gather}
-use Rattle.model.specs.Tables.{table, entry}
+use Rattle.model.specs.Tables.{table, entry, shortTables}
+use Rattle.model.proofs.Tests.{of-or-false}
 use Rattle.model.proofs.Lists.{length-upTo}
 
 getD-numbers : (k m i d : ℕ) → i < m → getD (from k m) i d ≡ k + i
@@ -96,3 +100,13 @@ front-length k t u e l = omega (arith, length-take k t, ap length e, l)
 
 pub table-front : (n : ℕ) (f : ℕ → ℕ → ℕ) → take (n * n) (table n f) ≡ table n f
 table-front n f = take-all (n * n) (table n f) (omega (arith, length-table n f))
+
+-- the test of the three lengths fails exactly where each table has room
+pub long-tables : (n f l r : ℕ) → n * n ≤ f → n * n ≤ l → n * n ≤ r → shortTables n f l r ≡ false
+long-tables n f l r hf hl hr = rw (le-ltb f (n * n) hf, le-ltb l (n * n) hl, le-ltb r (n * n) hr) refl
+
+pub of-long-tables : (n f l r : ℕ) → shortTables n f l r ≡ false → (n * n ≤ f) × (n * n ≤ l) × (n * n ≤ r)
+of-long-tables n f l r e =
+    let p = of-or-false (ltb f (n * n) || ltb l (n * n)) (ltb r (n * n)) e in
+    let q = of-or-false (ltb f (n * n)) (ltb l (n * n)) (p .0) in
+    (ltb-false f (n * n) (q .0), ltb-false l (n * n) (q .1), ltb-false r (n * n) (p .1))

@@ -14,8 +14,9 @@ use lib.Seq.{take-append-add}
 use Rattle.model.specs.Answers.{Outcome, refused, answered}
 use Rattle.model.specs.Basics.{if_then_else_}
 use Rattle.model.specs.SurveyText.{line, lineOf}
+use Rattle.model.specs.Survey.{outside}
 use Rattle.model.specs.Reading.{named, onLinks, linkOf, readOn, readLinks, parsed, countsOf, parseLinks, parse}
-use Rattle.model.specs.Listing.{listed, listing}
+use Rattle.model.specs.Listing.{listingText, listing}
 use Rattle.model.proofs.Numbers.{length-le}
 use Rattle.model.proofs.Lines.{length-line, line-complete, line-sound}
 
@@ -91,7 +92,7 @@ links-front n (suc m) done (c ∷ text) (suc k) h =
 counts-same : (N M p q x y : ℕ) (r r′ : List ℕ) → (y ≤ M → readLinks x y [] r ≡ readLinks x y [] r′)
     → parseLinks (countsOf N M p q (some (x, y, r))) ≡ parseLinks (countsOf N M p q (some (x, y, r′)))
 unfolding countsOf parseLinks
-counts-same N M p q x y r r′ e = at (ltb x 1 || ltb N x) (ltb M y) refl (ltb p (x + 1) || ltb q (2 * y))
+counts-same N M p q x y r r′ e = at (outside N x) (ltb M y) refl (ltb p (x + 1) || ltb q (2 * y))
   where
     at : (a b : Bool) → ltb M y ≡ b → (c : Bool)
         → parseLinks (if a then refused 2 else if b then refused 3 else if c then refused 8 else answered (x, y, r))
@@ -116,4 +117,4 @@ parse-front N M p q text k h = at (line-front 83 (omega arith) text k (omega ari
 -- the listing of a text is that of its first 49,177 bytes
 pub listing-front : (text : List ℕ) (k : ℕ) → 24 * (2048 + 1) < k → listing (take k text) ≡ listing text
 unfolding listing
-listing-front text k h = ap listed (parse-front 128 2048 (128 + 1) (2 * 2048) text k h)
+listing-front text k h = ap listingText (parse-front 128 2048 (128 + 1) (2 * 2048) text k h)

@@ -13,9 +13,11 @@ use lib.Dec.{eqb, ltb, leb}
 use Rattle.model.specs.Answers.{Outcome, refused, answered}
 use Rattle.model.specs.Basics.{if_then_else_, gather}
 use Rattle.model.specs.SurveyText.{line, lineOf, linkLines, surveyText}
+use Rattle.model.specs.Survey.{outside}
 use Rattle.model.specs.Reading.{named, onLinks, linkOf, readOn, readLinks, Parsed, parsed, countsOf, parseLinks, parse}
 use Rattle.model.proofs.Outcomes.{never}
 use Rattle.model.proofs.Tests.{or-false, of-or-false}
+use Rattle.model.proofs.Acceptance.{in-range, of-in-range}
 use Rattle.model.proofs.Lines.{line-complete, IsLine, line-sound}
 
 -- a link that can be given after those of `given`
@@ -134,7 +136,7 @@ module _ (N M p q : ℕ) where
       let n = f .0 in
       let m = f .1 in
       rw (
-        or-false (ltb n 1) (ltb N n) (le-ltb n 1 (w .some-node)) (le-ltb N n (w .size)),
+        in-range N n (w .some-node) (w .size),
         le-ltb M m (w .few),
         or-false (ltb p (n + 1)) (ltb q (2 * m)) (le-ltb p (n + 1) (w .room)) (le-ltb q (2 * m) (w .list-room)),
       ) refl
@@ -142,7 +144,7 @@ module _ (N M p q : ℕ) where
   pub of-first-taken : (o : Option (ℕ × ℕ × List ℕ)) (x : ℕ × ℕ × List ℕ) → countsOf N M p q o ≡ answered x → (o ≡ some x) × Within N M p q (x .0) (x .1)
   unfolding countsOf
   of-first-taken missing x e = never e
-  of-first-taken (some f) x e = two (ltb n 1 || ltb N n) refl e
+  of-first-taken (some f) x e = two (outside N n) refl e
     where
       n : ℕ
       n = f .0
@@ -174,11 +176,11 @@ module _ (N M p q : ℕ) where
       three s true k e = never e
       three s false k e = eight s (ltb-false M m k) (ltb p (n + 1) || ltb q (2 * m)) refl e
 
-      two : (t : Bool) → (ltb n 1 || ltb N n) ≡ t
+      two : (t : Bool) → outside N n ≡ t
           → if_then_else_ {A = Outcome (ℕ × ℕ × List ℕ)} t (refused 2) (if ltb M m then refused 3 else if ltb p (n + 1) || ltb q (2 * m) then refused 8 else answered f) ≡ answered x
           → Taken
       two true k e = never e
-      two false k e = let s = of-or-false (ltb n 1) (ltb N n) k in three (ltb-false n 1 (s .0), ltb-false N n (s .1)) (ltb M m) refl e
+      two false k e = three (of-in-range N n k) (ltb M m) refl e
 
 -- what a text says that is taken, with lists of p and q entries: it is the text of its links, which are within the limits
 pub record TextRead (mostNodes mostLinks p q : ℕ) (text : List ℕ) (x : Parsed) : Type 0 where

@@ -17,7 +17,7 @@ use Rattle.model.specs.Hubs.{hubs}
 use Rattle.model.specs.Tables.{entry, fullTable, lowTable, reportTable, AreBuilt}
 use Rattle.model.specs.Pair.{answer, taken, pair}
 use Rattle.model.specs.Reading.{named, Parsed, parse, graphOf}
-use Rattle.model.specs.Listing.{pairLine, pairsBelow, pairLines, listingOf, listed, listing}
+use Rattle.model.specs.Listing.{pairLine, pairsBelow, pairLines, listingOf, listingText, listing}
 use Rattle.model.specs.Demand.{Allowed}
 use Rattle.model.proofs.Lists.{has-keep, of-keep, has-upTo, of-upTo, gather-same, gather-gather, gather-map}
 use Rattle.model.proofs.Entries.{table-front}
@@ -83,10 +83,10 @@ module _ (text : List ℕ) (x : Parsed) (e : parse 128 2048 (128 + 1) (2 * 2048)
       × (listing text ≡ lineOf 82 (x .nodes) (length (hubs (x .nodes) (threshold (x .nodes)) (graphOf (x .nodes) (x .links))))
       ++ gather (λ p. pairLine p (answered (f (p .0) (p .1)))) (pairsBelow (x .nodes)))
       × ((a b : ℕ) → a < x .nodes → b < x .nodes → Allowed (linked (x .nodes) (graphOf (x .nodes) (x .links))) a b (f a b .report))
-  unfolding listing listed listingOf pairLines reply
+  unfolding listing listingText listingOf pairLines reply
   listing-lines = (
     λ a b. valueIn (reply a b),
-    ap listed e ∙ ap (λ (l : List ℕ). lineOf 82 n (length (hubs n s G)) ++ l) (
+    ap listingText e ∙ ap (λ (l : List ℕ). lineOf 82 n (length (hubs n s G)) ++ l) (
         by-pairs (λ p. pairLine p (reply (p .0) (p .1))) n
         ∙ gather-same _ _ (upTo n) (λ a ma. gather-same _ _ (keep (λ b. ltb a b) (upTo n)) (λ b mb.
         ap (pairLine (a, b)) (reply-is a b (of-upTo n a ma) (of-upTo n b (of-keep (λ b. ltb a b) (upTo n) b mb .0)) .0)))

@@ -26,7 +26,7 @@ use Rattle.model.specs.Reading.{named, onLinks, linkOf, readOn, readLink
 use Rattle.model.specs.Building.{Building, built, building}
 use Rattle.model.specs.Asking.{asking}
 use Rattle.model.specs.Walking.{refuseWalk, fit, walkOf, walking}
-use Rattle.model.specs.Testing.{testingOf, testing}
+use Rattle.model.specs.Testing.{testing}
 
 -- a survey of n nodes with these links, which its text names
 pub record Example : Type 0 where
@@ -135,5 +135,5 @@ unfolding starred allHold holds graph longAtAll shortAfter isLong isShort report
     bitLength threshold isHigh isLow closed gain best greedy hubs hubList reach fewest table entry fullTable lowLinks lowTable sum via reportTable
     taken attaining choose pairBy pair before next steps byLow toHub join nodes sources verdictOf tested
     named onLinks linkOf readOn readLinks parsed countsOf parseLinks parse graphOf startsOf neighboursFrom readingOf reading
-    built building asking refuseWalk fit walkOf walking testingOf testing
+    built building asking refuseWalk fit walkOf walking testing
 starred-cases = tt

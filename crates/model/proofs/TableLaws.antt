@@ -8,7 +8,7 @@ use native.Mathlib.Nat.{le-antisymm}
 use borrow.Author.Tests.{lt-ltb}
 use lib.Dec.{T, ltb}
 use Rattle.model.specs.Basics.{none, if_then_else_, has}
-use Rattle.model.specs.Graph.{Edges, between, Chain, Fewest, fewest}
+use Rattle.model.specs.Graph.{Edges, between, Chain, Unjoined, Fewest, fewest}
 use Rattle.model.specs.Survey.{Graph, linked, IsGraph}
 use Rattle.model.specs.Hubs.{isLow, hubs}
 use Rattle.model.specs.Tables.{table, entry, fullTable, lowLinks, lowTable}
@@ -54,7 +54,7 @@ module _ (n : ℕ) (t : ℕ → ℕ → Bool) (E : Edges) (ends : (u v : ℕ) �
   unfolding guarded
   guarded-joined a b k ha hb m c = at (t a b) m (entry-table n (λ a b. if t a b then fewest E n a b else none) a b ha hb)
     where
-      cases : ((fewest E n a b < n) × Fewest E a b (fewest E n a b)) ⊎ ((fewest E n a b ≡ none) × ((k : ℕ) → Chain E k a b → ⊥))
+      cases : ((fewest E n a b < n) × Fewest E a b (fewest E n a b)) ⊎ ((fewest E n a b ≡ none) × Unjoined E a b)
           → (fewest E n a b < n) × Fewest E a b (fewest E n a b)
       cases (inl p) = p
       cases (inr p) = absurd (p .1 k c)

@@ -83,12 +83,6 @@ not-and false b = refl
 pub eq-T : (x y : ℕ) → x ≡ y → T (eqb x y)
 eq-T x y e = subst (λ (z : ℕ). T (eqb x z)) e (eqb-refl x)
 
-pub is : (x y : ℕ) → eqb x y ≡ true → x ≡ y
-is x y e = eqb-true x y e
-
-pub isnt : (x y : ℕ) → eqb x y ≡ false → x ≡ y → ⊥
-isnt x y e q = eqb-false x y e q
-
 pub eq-or : (x y : ℕ) → (x ≡ y) ⊎ (x ≡ y → ⊥)
 eq-or x y = go (eqb x y) refl
   where

@@ -5,11 +5,11 @@ use mathlib.Core.Path.{_≡_, refl, sym, ap, ap₂, _∙_, subst}
 use mathlib.Core.Logic.{_⊎_, inl, inr, _↔_}
 use mathlib.Core.Bool.{Bool, true, false, _&&_}
 use mathlib.Core.List.{List, [], _∷_, _++_, reverse, tail, reverse-cons}
-use mathlib.Core.Option.{Option, none as missing, some}
+use mathlib.Core.Option.{Option, none as missing, some, IsSome}
 use Prim.Native.Nat.{ℕ, zero, suc, _+_, _-_, _≤_, _<_, zero-le}
 use native.Mathlib.Nat.{sub-zero}
 use native.Mathlib.Omega.{arith}
-use borrow.Author.Tests.{ltb-false}
+use borrow.Author.Tests.{eqb-true, eqb-false, ltb-false}
 use lib.Dec.{T, eqb, ltb, eqb→eq, ltb→lt, lt→ltb}
 use lib.ListN.{length, replicate, length-append, length-reverse}
 use Rattle.model.specs.declared.Route.the-variants.{Itself, Low, Through, NoRoute}
@@ -23,7 +23,7 @@ use Rattle.model.specs.Tables.{entry, via}
 use Rattle.model.specs.Pair.{answer, attaining, choose, pairBy}
 use Rattle.model.specs.Walk.{before, next, steps, byLow, toHub, join, nodes}
 use Rattle.model.specs.Walking.{Walking, refuseWalk, fit, walkOf}
-use Rattle.model.proofs.Tests.{and-l, and-r, and-i, is, isnt, eq-T, eq-or}
+use Rattle.model.proofs.Tests.{and-l, and-r, and-i, eq-T, eq-or}
 use Rattle.model.proofs.Lists.{has-upTo, first-in, first-below, first-same, First, found, nothing, keep-grows, keep-length, length-upTo}
 use Rattle.model.proofs.Acceptance.{linked-of, linked-sym}
 use Rattle.model.proofs.Allowance.{Sum, whole, part, sum-is}
@@ -43,27 +43,27 @@ unfolding choose
 chosen a b r l h = one (eqb a b) refl
   where
     four : (a ≡ b → ⊥) → (r ≡ none → ⊥) → (l ≡ r → ⊥) → (t : Bool) → eqb h none ≡ t → Chosen a b r l h (if t then refused 11 else answered (answer r (Through h)))
-    four x y z true e = bad-hub x y z (is h none e)
-    four x y z false e = to-hub x y z (isnt h none e)
+    four x y z true e = bad-hub x y z (eqb-true h none e)
+    four x y z false e = to-hub x y z (eqb-false h none e)
 
     three : (a ≡ b → ⊥) → (r ≡ none → ⊥) → (t : Bool) → eqb l r ≡ t → Chosen a b r l h (if t then answered (answer r Low) else if eqb h none then refused 11 else answered (answer r (Through h)))
-    three x y true e = to-low x y (is l r e)
-    three x y false e = four x y (isnt l r e) (eqb h none) refl
+    three x y true e = to-low x y (eqb-true l r e)
+    three x y false e = four x y (eqb-false l r e) (eqb h none) refl
 
     two : (a ≡ b → ⊥) → (t : Bool) → eqb r none ≡ t
         → Chosen a b r l h (if t then answered (answer none NoRoute) else if eqb l r then answered (answer r Low) else if eqb h none then refused 11 else answered (answer r (Through h)))
-    two x true e = to-none x (is r none e)
-    two x false e = three x (isnt r none e) (eqb l r) refl
+    two x true e = to-none x (eqb-true r none e)
+    two x false e = three x (eqb-false r none e) (eqb l r) refl
 
     zeroed : a ≡ b → (t : Bool) → eqb r 0 ≡ t → Chosen a b r l h (if t then answered (answer 0 Itself) else refused 11)
-    zeroed x true e = to-itself x (is r 0 e)
-    zeroed x false e = bad-itself x (isnt r 0 e)
+    zeroed x true e = to-itself x (eqb-true r 0 e)
+    zeroed x false e = bad-itself x (eqb-false r 0 e)
 
     one : (t : Bool) → eqb a b ≡ t
         → Chosen a b r l h (if t then (if eqb r 0 then answered (answer 0 Itself) else refused 11)
         else if eqb r none then answered (answer none NoRoute) else if eqb l r then answered (answer r Low) else if eqb h none then refused 11 else answered (answer r (Through h)))
-    one true e = zeroed (is a b e) (eqb r 0) refl
-    one false e = two (isnt a b e) (eqb r none) refl
+    one true e = zeroed (eqb-true a b e) (eqb r 0) refl
+    one false e = two (eqb-false a b e) (eqb r none) refl
 
 -- ---- one part of a walk
 
@@ -72,17 +72,13 @@ abbrev pub Sound : Edges → ℕ → ℕ → ℕ → Option (List ℕ) → Type 
 Sound E d v goal missing = Unit {0}
 Sound E d v goal (some l) = Walked E l v goal × (length l ≡ suc d)
 
-abbrev pub Given : Option (List ℕ) → Type 0
-Given missing = ⊥
-Given (some l) = Unit {0}
-
 module _ (n : ℕ) (G : Graph) (g : IsGraph n G) (may : ℕ → Bool) (left : ℕ → ℕ) (goal : ℕ) where
   pub steps-sound : (d v : ℕ) → v < n → Sound (linked n G) d v goal (steps G may left goal d v)
   unfolding steps next before
   steps-sound zero v h = at (eqb v goal) refl
     where
       at : (t : Bool) → eqb v goal ≡ t → Sound (linked n G) 0 v goal (if t then some (v ∷ []) else missing)
-      at true e = (subst (λ (z : ℕ). Walked (linked n G) (v ∷ []) v z) (is v goal e) stop, refl)
+      at true e = (subst (λ (z : ℕ). Walked (linked n G) (v ∷ []) v z) (eqb-true v goal e) stop, refl)
       at false e = tt
   steps-sound (suc d) v h = at (eqb x none) refl (first-in p none (G v)) (λ b. steps-sound d x b)
     where
@@ -101,15 +97,15 @@ module _ (n : ℕ) (G : Graph) (g : IsGraph n G) (may : ℕ → Bool) (left : �
           → Sound (linked n G) (suc d) v goal (if t then missing else before v (steps G may left goal d x))
       at true e r rec = tt
       at false e (inl r) rec = add (steps G may left goal d x) (linked-of n G g v x h (r .0)) (rec (g .below v x h (r .0)))
-      at false e (inr r) rec = absurd (isnt x none e (r .0))
+      at false e (inr r) rec = absurd (eqb-false x none e (r .0))
 
   -- where each node has a next one, one link nearer, the steps lead to the goal
   pub steps-given : n ≤ none → ((v d : ℕ) → v < n → suc d < none → left v ≡ suc d → (u : ℕ) × T (has u (G v)) × T (may u) × (left u ≡ d))
-      → ((v : ℕ) → v < n → left v ≡ 0 → v ≡ goal) → (d v : ℕ) → v < n → d < none → left v ≡ d → Given (steps G may left goal d v)
+      → ((v : ℕ) → v < n → left v ≡ 0 → v ≡ goal) → (d v : ℕ) → v < n → d < none → left v ≡ d → IsSome (steps G may left goal d v)
   unfolding steps next before
   steps-given size next end zero v h z q = at (eqb v goal) (eq-T v goal (end v h q))
     where
-      at : (t : Bool) → T t → Given (if t then some (v ∷ []) else missing)
+      at : (t : Bool) → T t → IsSome (if t then some (v ∷ []) else missing)
       at true t = tt
       at false t = t
   steps-given size next end (suc d) v h z q = at (first-in p none (G v)) (λ b e. steps-given size next end d x b (omega arith) e)
@@ -120,16 +116,16 @@ module _ (n : ℕ) (G : Graph) (g : IsGraph n G) (may : ℕ → Bool) (left : �
       x : ℕ
       x = firstOf p none (G v)
 
-      add : (o : Option (List ℕ)) → Given o → Given (before v o)
+      add : (o : Option (List ℕ)) → IsSome o → IsSome (before v o)
       add missing t = t
       add (some l) t = tt
 
-      away : (t : Bool) → eqb x none ≡ t → x < n → Given (steps G may left goal d x) → Given (if t then missing else before v (steps G may left goal d x))
-      away true e b s = let w : x ≡ none = is x none e in absurd (omega arith)
+      away : (t : Bool) → eqb x none ≡ t → x < n → IsSome (steps G may left goal d x) → IsSome (if t then missing else before v (steps G may left goal d x))
+      away true e b s = let w : x ≡ none = eqb-true x none e in absurd (omega arith)
       away false e b s = add (steps G may left goal d x) s
 
       at : (T (has x (G v)) × T (p x)) ⊎ ((x ≡ none) × ((y : ℕ) → T (has y (G v)) → T (p y) → ⊥))
-          → (x < n → left x ≡ d → Given (steps G may left goal d x)) → Given (if eqb x none then missing else before v (steps G may left goal d x))
+          → (x < n → left x ≡ d → IsSome (steps G may left goal d x)) → IsSome (if eqb x none then missing else before v (steps G may left goal d x))
       at (inl r) rec =
           let b = g .below v x h (r .0) in
           away (eqb x none) refl b (rec b (eqb→eq (left x) d (and-r (may x) (eqb (left x) d) (r .1))))
@@ -173,7 +169,7 @@ module _ (n : ℕ) (G : Graph) (g : IsGraph n G) (may may′ : ℕ → Bool) (le
       at : (t : Bool) → eqb x none ≡ t → (x < n → steps G may left goal d x ≡ steps G may′ left′ goal d x)
           → (if t then missing else before v (steps G may left goal d x)) ≡ (if t then missing else before v (steps G may′ left′ goal d x))
       at true e rec = refl
-      at false e rec = ap (before v) (rec (next-below n G g may left d v h (isnt x none e)))
+      at false e rec = ap (before v) (rec (next-below n G g may left d v h (eqb-false x none e)))
 
 -- ---- two parts joined
 
@@ -205,7 +201,7 @@ join-sound E f i j a b h (some p) (some q) s t =
       length-append p (tail (reverse q)) ∙ omega (arith, s .1, t .1, ap length (walked-head w), length-reverse q),
     )
 
-pub join-given : (p q : Option (List ℕ)) → Given p → Given q → Given (join p q)
+pub join-given : (p q : Option (List ℕ)) → IsSome p → IsSome q → IsSome (join p q)
 unfolding join
 join-given missing q s t = s
 join-given (some p) missing s t = t
@@ -255,14 +251,14 @@ module _ (n : ℕ) (G : Graph) (g : IsGraph n G) (may : ℕ → Bool) (left : �
           let l = rec b in
           let m = more b (eqb→eq (left x) d (and-r (may x) (eqb (left x) d) (r .1))) in
           omega arith
-      at false e (inr r) rec = absurd (isnt x none e (r .0))
+      at false e (inr r) rec = absurd (eqb-false x none e (r .0))
 
   pub depth-bounded : (d v : ℕ) → v < n → depth G may left d v ≤ n
   unfolding under
   depth-bounded d v h = omega (arith, depth-under d v h, keep-length (λ x. ltb (left x) d) (upTo n), length-upTo n)
 
   -- a part that is given out takes all its steps; so none of n links or more is, from a node that has as many left
-  depth-all : (goal d v : ℕ) → Given (steps G may left goal d v) → depth G may left d v ≡ d
+  depth-all : (goal d v : ℕ) → IsSome (steps G may left goal d v) → depth G may left d v ≡ d
   unfolding steps depth before
   depth-all goal zero v m = refl
   depth-all goal (suc d) v m = at (eqb x none) m (λ r. depth-all goal d x r)
@@ -270,12 +266,12 @@ module _ (n : ℕ) (G : Graph) (g : IsGraph n G) (may : ℕ → Bool) (left : �
       x : ℕ
       x = next G may left d v
 
-      rest : (o : Option (List ℕ)) → Given (before v o) → Given o
+      rest : (o : Option (List ℕ)) → IsSome (before v o) → IsSome o
       rest missing r = r
       rest (some l) r = tt
 
-      at : (t : Bool) → Given (if t then missing else before v (steps G may left goal d x))
-          → (Given (steps G may left goal d x) → depth G may left d x ≡ d) → (if t then 0 else suc (depth G may left d x)) ≡ suc d
+      at : (t : Bool) → IsSome (if t then missing else before v (steps G may left goal d x))
+          → (IsSome (steps G may left goal d x) → depth G may left d x ≡ d) → (if t then 0 else suc (depth G may left d x)) ≡ suc d
       at true r rec = absurd r
       at false r rec = ap suc (rec (rest (steps G may left goal d x) r))
 
@@ -293,7 +289,7 @@ module _ (n : ℕ) (G : Graph) (g : IsGraph n G) (may : ℕ → Bool) (left : �
     where
       at : (o : Option (List ℕ)) → steps G may left goal d v ≡ o → o ≡ missing
       at missing e = refl
-      at (some p) e = absurd (omega (arith, depth-all goal d v (subst Given (sym e) tt), depth-under d v h, under-all d v h l))
+      at (some p) e = absurd (omega (arith, depth-all goal d v (subst IsSome (sym e) tt), depth-under d v h, under-all d v h l))
 
 -- ---- the whole walk, whatever the tables hold
 

@@ -23,6 +23,16 @@ pub data Outcome (A : Type 0) : Type 0 where
   refused : ℕ → Outcome A
   answered : A → Outcome A
 
+-- the value replaced by f of it, a refusal kept
+abbrev pub mapAnswer : {A B : Type 0} → (A → B) → Outcome A → Outcome B
+mapAnswer f (refused k) = refused k
+mapAnswer f (answered x) = answered (f x)
+
+-- what follows an answer, f of its value; a refusal kept
+abbrev pub andThen : {A B : Type 0} → Outcome A → (A → Outcome B) → Outcome B
+andThen (refused k) f = refused k
+andThen (answered x) f = f x
+
 abbrev pub isAnswered : {A : Type 0} → Outcome A → Bool
 isAnswered (refused k) = false
 isAnswered (answered x) = true

@@ -2,19 +2,20 @@
 -- Assumes nothing.
 use mathlib.Core.Bool.{_||_}
 use mathlib.Core.List.{List}
-use Prim.Native.Nat.{ℕ, _*_}
-use lib.Dec.{ltb, leb}
+use Prim.Native.Nat.{ℕ}
+use lib.Dec.{leb}
 use lib.ListN.{length}
 use Rattle.model.specs.declared.Answer.{Answer}
 use Rattle.model.specs.Answers.{Outcome, refused}
 use Rattle.model.specs.Basics.{if_then_else_}
 use Rattle.model.specs.Survey.{badSize}
+use Rattle.model.specs.Tables.{shortTables}
 use Rattle.model.specs.Pair.{pair}
 
 -- "2; 8 a table shorter than n × n; 10 a node of n or more; 11 .."
 unfoldable pub asking : (n : ℕ) (full low report : List ℕ) (a b : ℕ) → Outcome Answer
 asking n full low report a b =
     if badSize n then refused 2
-    else if ltb (length full) (n * n) || ltb (length low) (n * n) || ltb (length report) (n * n) then refused 8
+    else if shortTables n (length full) (length low) (length report) then refused 8
     else if leb n a || leb n b then refused 10
     else pair n full low report a b

@@ -1,8 +1,8 @@
 -- Building: the answer, and what the three tables and the hub list hold at return.
 -- Assumes nothing.
-use mathlib.Core.Bool.{not, _||_}
+use mathlib.Core.Bool.{Bool, not, _||_}
 use mathlib.Core.List.{List}
-use Prim.Native.Nat.{ℕ, _+_, _*_}
+use Prim.Native.Nat.{ℕ, _+_}
 use lib.Dec.{ltb}
 use lib.ListN.{length}
 use Rattle.model.specs.declared.Counting.{Counting}
@@ -11,7 +11,7 @@ use Rattle.model.specs.Basics.{if_then_else_, over}
 use Rattle.model.specs.Survey.{Graph, neighboursOf, badSize, isSurvey}
 use Rattle.model.specs.Threshold.{threshold}
 use Rattle.model.specs.Hubs.{hubs, hubList}
-use Rattle.model.specs.Tables.{fullTable, lowTable, reportTable}
+use Rattle.model.specs.Tables.{shortTables, fullTable, lowTable, reportTable}
 
 pub record Building : Type 0 where
   pub answer : Outcome ℕ
@@ -34,13 +34,15 @@ built n s G full low report list = record {
   hubs = over (hubList n s G) list;
 }
 
--- "2 as above; 8 `starts` shorter than n + 1, a table shorter than n × n, or a hub list shorter than n; 9 the lists are not a
--- survey's as described .. Refused, nothing is altered"
+-- "`starts` shorter than n + 1, a table shorter than n × n, or a hub list shorter than n", by the lengths
+abbrev pub shortLists : (n starts full low report list : ℕ) → Bool
+shortLists n starts full low report list = ltb starts (n + 1) || shortTables n full low report || ltb list n
+
+-- "2 as above; 8 ..; 9 the lists are not a survey's as described .. Refused, nothing is altered"
 unfoldable pub building : (n : ℕ) (starts neighbours full low report list : List ℕ) → Building
 building n starts neighbours full low report list =
     let refuse : ℕ → Building = λ r. record { answer = refused r; full = full; low = low; report = report; hubs = list } in
     if badSize n then refuse 2
-    else if ltb (length starts) (n + 1) || ltb (length full) (n * n) || ltb (length low) (n * n)
-    || ltb (length report) (n * n) || ltb (length list) n then refuse 8
+    else if shortLists n (length starts) (length full) (length low) (length report) (length list) then refuse 8
     else if not (isSurvey n starts neighbours) then refuse 9
     else built n (threshold n) (neighboursOf starts neighbours) full low report list

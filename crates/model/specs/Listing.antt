@@ -49,10 +49,10 @@ listingOf n G =
     lineOf 82 n (length (hubs n s G)) ++ pairLines n (fullTable n s G) (lowTable n s G) (reportTable n s G)
 
 -- "otherwise prints one line only, `X,` and the refusal's number"
-unfoldable pub listed : Outcome Parsed → List ℕ
-listed (refused k) = 88 ∷ 44 ∷ (digits k ++ 10 ∷ [])
-listed (answered x) = listingOf (x .nodes) (graphOf (x .nodes) (x .links))
+unfoldable pub listingText : Outcome Parsed → List ℕ
+listingText (refused k) = 88 ∷ 44 ∷ (digits k ++ 10 ∷ [])
+listingText (answered x) = listingOf (x .nodes) (graphOf (x .nodes) (x .links))
 
 -- "It takes up to 128 nodes and 2,048 links", for which it has lists that are long enough
 unfoldable pub listing : List ℕ → List ℕ
-listing text = listed (parse 128 2048 (128 + 1) (2 * 2048) text)
+listing text = listingText (parse 128 2048 (128 + 1) (2 * 2048) text)

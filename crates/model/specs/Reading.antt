@@ -8,10 +8,10 @@ use lib.Dec.{eqb, ltb, leb}
 use lib.ListN.{length, replicate}
 use Rattle.model.specs.declared.Size.{Size}
 use Rattle.model.specs.declared.Reading as read
-use Rattle.model.specs.Answers.{Outcome, refused, answered, readAnswer}
+use Rattle.model.specs.Answers.{Outcome, refused, answered, mapAnswer, andThen, readAnswer}
 use Rattle.model.specs.Basics.{if_then_else_, upTo, keep, gather, over}
 use Rattle.model.specs.SurveyText.{line}
-use Rattle.model.specs.Survey.{Graph}
+use Rattle.model.specs.Survey.{Graph, outside}
 
 -- "Links may come in any order, ends either way round.": the link is one of these
 unfoldable pub named : List (ℕ × ℕ) → ℕ → ℕ → Bool
@@ -20,8 +20,7 @@ named (l ∷ ls) a b = eqb (l .0) a && eqb (l .1) b || eqb (l .0) b && eqb (l .1
 
 -- a link in front of those that the later lines name
 unfoldable pub onLinks : ℕ × ℕ → Outcome (List (ℕ × ℕ)) → Outcome (List (ℕ × ℕ))
-onLinks l (refused k) = refused k
-onLinks l (answered ls) = answered (l ∷ ls)
+onLinks l o = mapAnswer (λ ls. l ∷ ls) o
 
 -- "Then line by line: 1 wrong form or text ending inside a line; 4 a node of n or more; 5 both ends equal; 6 a link already given,
 -- either way round.": the link that a line names after the links `given`, and the text behind the line
@@ -35,8 +34,7 @@ linkOf n given (some l) =
 
 -- the link that a line names, in front of those that `next` reads behind it
 unfoldable pub readOn : (next : ℕ → ℕ → List ℕ → Outcome (List (ℕ × ℕ))) → Outcome (ℕ × ℕ × List ℕ) → Outcome (List (ℕ × ℕ))
-readOn next (refused k) = refused k
-readOn next (answered l) = onLinks (l .0, l .1) (next (l .0) (l .1) (l .2))
+readOn next o = andThen o (λ l. onLinks (l .0, l .1) (next (l .0) (l .1) (l .2)))
 
 -- "7 the text ends at a line's end before m links, or a byte follows the m-th.": the links that m lines name after those of `done`
 unfoldable pub readLinks : ℕ → ℕ → List (ℕ × ℕ) → List ℕ → Outcome (List (ℕ × ℕ))
@@ -51,22 +49,20 @@ pub record Parsed : Type 0 where
   pub links : List (ℕ × ℕ)
 
 unfoldable pub parsed : ℕ → Outcome (List (ℕ × ℕ)) → Outcome Parsed
-parsed n (refused k) = refused k
-parsed n (answered ls) = answered (record { nodes = n; links = ls })
+parsed n o = mapAnswer (λ ls. record { nodes = n; links = ls }) o
 
 -- "First line: 1 not in the stated form; 2 n outside 1 to 1,024; 3 m above 16,384; 8 `starts` shorter than n + 1 or `neighbours`
 -- shorter than 2m.": n, m and the text behind the line. The limits, and the lengths p and q of the two lists, are parameters
 unfoldable pub countsOf : (mostNodes mostLinks p q : ℕ) → Option (ℕ × ℕ × List ℕ) → Outcome (ℕ × ℕ × List ℕ)
 countsOf mostNodes mostLinks p q missing = refused 1
 countsOf mostNodes mostLinks p q (some f) =
-    if ltb (f .0) 1 || ltb mostNodes (f .0) then refused 2
+    if outside mostNodes (f .0) then refused 2
     else if ltb mostLinks (f .1) then refused 3
     else if ltb p (f .0 + 1) || ltb q (2 * f .1) then refused 8
     else answered f
 
 unfoldable pub parseLinks : Outcome (ℕ × ℕ × List ℕ) → Outcome Parsed
-parseLinks (refused k) = refused k
-parseLinks (answered f) = parsed (f .0) (readLinks (f .0) (f .1) [] (f .2))
+parseLinks o = andThen o (λ f. parsed (f .0) (readLinks (f .0) (f .1) [] (f .2)))
 
 unfoldable pub parse : (mostNodes mostLinks p q : ℕ) → List ℕ → Outcome Parsed
 parse mostNodes mostLinks p q text = parseLinks (countsOf mostNodes mostLinks p q (line 83 text))

@@ -41,9 +41,12 @@ isSurvey n starts neighbours =
     && all (λ v. ascending (G v)) (upTo n)
     && all (λ v. all (λ x. ltb x n && not (eqb x v) && has v (G x)) (G v)) (upTo n)
 
--- refusal 2: n outside 1 to 1,024
+-- refusal 2: "n outside 1 to 1,024"; and with another limit
+abbrev pub outside : (most n : ℕ) → Bool
+outside most n = ltb n 1 || ltb most n
+
 unfoldable pub badSize : ℕ → Bool
-badSize n = ltb n 1 || ltb 1024 n
+badSize n = outside 1024 n
 
 -- the refusals that all calls over a survey share, in their order: 2, 8 for `starts`, 9
 unfoldable pub accepting : ℕ → List ℕ → List ℕ → Outcome (Unit {0})

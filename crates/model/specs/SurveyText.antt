@@ -2,7 +2,7 @@
 -- Assumes nothing.
 use mathlib.Core.Bool.{_&&_}
 use mathlib.Core.List.{List, [], _∷_, _++_, map}
-use mathlib.Core.Option.{Option, none as missing, some}
+use mathlib.Core.Option.{Option, none as missing, some, Option·map}
 use Prim.Native.Nat.{ℕ}
 use lib.Dec.{eqb, ltb}
 use Rattle.model.specs.Basics.{if_then_else_, upTo, keep, gather, same}
@@ -20,8 +20,7 @@ split c (x ∷ xs) = let r = split c xs in if eqb x c then [] ∷ r else onFirst
 
 -- x in front of the first of two lists
 unfoldable pub onFront : ℕ → Option (List ℕ × List ℕ) → Option (List ℕ × List ℕ)
-onFront x missing = missing
-onFront x (some p) = some (x ∷ p .0, p .1)
+onFront x o = Option·map (λ p. (x ∷ p .0, p .1)) o
 
 -- "Every line ends in one line feed": the bytes before the first byte c and those after it; missing where there is no c
 unfoldable pub cut : ℕ → List ℕ → Option (List ℕ × List ℕ)
@@ -39,8 +38,7 @@ twoNumbers letter (l ∷ x ∷ y ∷ z ∷ more) = missing
 
 -- the line `letter,x,y` that a text begins with: x, y and the text after it. Missing where the line has another form or has no end
 unfoldable pub withRest : List ℕ → Option (ℕ × ℕ) → Option (ℕ × ℕ × List ℕ)
-withRest rest missing = missing
-withRest rest (some xy) = some (xy .0, xy .1, rest)
+withRest rest o = Option·map (λ xy. (xy .0, xy .1, rest)) o
 
 unfoldable pub lineIn : ℕ → Option (List ℕ × List ℕ) → Option (ℕ × ℕ × List ℕ)
 lineIn letter missing = missing

@@ -2,10 +2,10 @@
 -- nodes, Report the estimated distances.
 -- Assumes nothing.
 use mathlib.Core.Path.{_≡_}
-use mathlib.Core.Bool.{_&&_, _||_}
+use mathlib.Core.Bool.{Bool, _&&_, _||_}
 use mathlib.Core.List.{List, map, foldr}
 use Prim.Native.Nat.{ℕ, _+_, _*_, min}
-use lib.Dec.{eqb}
+use lib.Dec.{eqb, ltb}
 use lib.ListN.{getD, take}
 use Rattle.model.specs.Basics.{none, if_then_else_, upTo, has, gather}
 use Rattle.model.specs.Graph.{Edges, between, fewest}
@@ -19,9 +19,16 @@ table n f = gather (λ a. map (f a) (upTo n)) (upTo n)
 unfoldable pub entry : ℕ → List ℕ → ℕ → ℕ → ℕ
 entry n t a b = getD t (a * n + b) 0
 
+-- "a table shorter than n × n", by the three lengths
+abbrev pub shortTables : ℕ → (full low report : ℕ) → Bool
+shortTables n full low report = ltb full (n * n) || ltb low (n * n) || ltb report (n * n)
+
 -- "row h is the fewest links from h to each node if h is a hub; every other row is all none"
+abbrev pub fullEntry : ℕ → Graph → (hs : List ℕ) → ℕ → ℕ → ℕ
+fullEntry n G hs h b = if has h hs then fewest (linked n G) n h b else none
+
 abbrev pub fullOf : ℕ → Graph → (hs : List ℕ) → List ℕ
-fullOf n G hs = table n (λ h b. if has h hs then fewest (linked n G) n h b else none)
+fullOf n G hs = table n (fullEntry n G hs)
 
 unfoldable pub fullTable : ℕ → ℕ → Graph → List ℕ
 fullTable n s G = fullOf n G (hubs n s G)
@@ -31,8 +38,11 @@ unfoldable pub lowLinks : ℕ → ℕ → Graph → Edges
 lowLinks n s G = between (isLow s G) (linked n G)
 
 -- "entry (a, b) is the fewest links using low nodes only, if both are low and so joined; else none"
+abbrev pub lowEntry : ℕ → ℕ → Graph → ℕ → ℕ → ℕ
+lowEntry n s G a b = if isLow s G a && isLow s G b then fewest (lowLinks n s G) n a b else none
+
 unfoldable pub lowTable : ℕ → ℕ → Graph → List ℕ
-lowTable n s G = table n (λ a b. if isLow s G a && isLow s G b then fewest (lowLinks n s G) n a b else none)
+lowTable n s G = table n (lowEntry n s G)
 
 -- two entries' sum, or none if one of them is none
 unfoldable pub sum : ℕ → ℕ → ℕ
@@ -42,10 +52,17 @@ sum x y = if eqb x none || eqb y none then none else x + y
 unfoldable pub via : ℕ → List ℕ → ℕ → ℕ → ℕ → ℕ
 via n full a b h = sum (entry n full h a) (entry n full h b)
 
+-- the least of x and of f h, over all h of a list
+abbrev pub least : (ℕ → ℕ) → ℕ → List ℕ → ℕ
+least f x hs = foldr (λ h y. min (f h) y) x hs
+
 -- "0 where a = b. Otherwise the least of Low(a, b) and, over all hubs h, Full(h, a) + Full(h, b), leaving out candidates with a
 -- none; none if nothing is left." "Linked nodes get no special case." (None is above every sum.)
+abbrev pub reportEntry : ℕ → (full low hs : List ℕ) → ℕ → ℕ → ℕ
+reportEntry n full low hs a b = if eqb a b then 0 else least (via n full a b) (entry n low a b) hs
+
 abbrev pub reportOf : ℕ → (full low hs : List ℕ) → List ℕ
-reportOf n full low hs = table n (λ a b. if eqb a b then 0 else foldr (λ h x. min (via n full a b h) x) (entry n low a b) hs)
+reportOf n full low hs = table n (reportEntry n full low hs)
 
 unfoldable pub reportTable : ℕ → ℕ → Graph → List ℕ
 reportTable n s G = reportOf n (fullTable n s G) (lowTable n s G) (hubs n s G)

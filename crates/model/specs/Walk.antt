@@ -2,7 +2,7 @@
 -- Assumes nothing.
 use mathlib.Core.Bool.{Bool, true, _&&_}
 use mathlib.Core.List.{List, [], _∷_, _++_, reverse, tail}
-use mathlib.Core.Option.{Option, none as missing, some}
+use mathlib.Core.Option.{Option, none as missing, some, Option·map}
 use Prim.Native.Nat.{ℕ, zero, suc}
 use lib.Dec.{eqb}
 use Rattle.model.specs.declared.Route.{Route}
@@ -14,8 +14,7 @@ use Rattle.model.specs.Tables.{entry}
 
 -- v, and then the rest of a walk if there is one
 unfoldable pub before : ℕ → Option (List ℕ) → Option (List ℕ)
-before v missing = missing
-before v (some l) = some (v ∷ l)
+before v o = Option·map (λ l. v ∷ l) o
 
 -- the way on from v: the first neighbour (neighbours ascend, so the smallest) that may be entered and is d links from the goal;
 -- none where there is no such

@@ -3,7 +3,7 @@
 use mathlib.Core.Bool.{not, _||_}
 use mathlib.Core.List.{List, _++_}
 use mathlib.Core.Option.{Option, none as missing, some}
-use Prim.Native.Nat.{ℕ, _+_, _-_, _*_}
+use Prim.Native.Nat.{ℕ, _+_, _-_}
 use lib.Dec.{ltb, leb}
 use lib.ListN.{length, replicate}
 use Rattle.model.specs.declared.Answer.{Answer}
@@ -12,6 +12,7 @@ use Rattle.model.specs.Answers.{Outcome, refused, answered, pairAnswer}
 use Rattle.model.specs.Basics.{none, if_then_else_}
 use Rattle.model.specs.Survey.{Graph, neighboursOf, badSize, isSurvey}
 use Rattle.model.specs.Threshold.{threshold}
+use Rattle.model.specs.Tables.{shortTables}
 use Rattle.model.specs.Pair.{pair}
 use Rattle.model.specs.Walk.{nodes}
 
@@ -44,8 +45,7 @@ walkOf w n s G full low a b (answered x) = fit w x (nodes n s G full low a b (x 
 unfoldable pub walking : (n : ℕ) (starts neighbours full low report : List ℕ) (a b w : ℕ) → Walking
 walking n starts neighbours full low report a b w =
     if badSize n then refuseWalk w 2
-    else if ltb (length starts) (n + 1) || ltb (length full) (n * n) || ltb (length low) (n * n)
-    || ltb (length report) (n * n) then refuseWalk w 8
+    else if ltb (length starts) (n + 1) || shortTables n (length full) (length low) (length report) then refuseWalk w 8
     else if not (isSurvey n starts neighbours) then refuseWalk w 9
     else if leb n a || leb n b then refuseWalk w 10
     else walkOf w n (threshold n) (neighboursOf starts neighbours) full low a b (pair n full low report a b)

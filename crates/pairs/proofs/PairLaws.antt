@@ -3,36 +3,22 @@
 use mathlib.Core.Path.{_≡_, sym, subst}
 use mathlib.Core.Bool.{Bool, true, false, _||_}
 use mathlib.Core.List.{List}
-use Prim.Native.Nat.{ℕ, _*_, _≤_, _<_}
-use borrow.Author.Tests.{ltb-false}
-use lib.Dec.{ltb, leb}
+use Prim.Native.Nat.{ℕ, _<_}
+use lib.Dec.{leb}
 use lib.ListN.{length}
 use Rattle.model.specs.declared.Answer.{Answer}
 use Rattle.model.specs.Answers.{Outcome, refused}
 use Rattle.model.specs.Survey.{neighboursOf, linked, badSize, Accepted}
 use Rattle.model.specs.Threshold.{threshold}
-use Rattle.model.specs.Tables.{AreBuilt}
+use Rattle.model.specs.Tables.{shortTables, AreBuilt}
 use Rattle.model.specs.Pair.{pair}
 use Rattle.model.specs.Asking.{asking}
 use Rattle.model.specs.Demand.{AllowedAnswer}
-use Rattle.model.proofs.Tests.{of-or-false}
 use Rattle.model.proofs.Demand.{asking-right}
 
 module _ (n : ℕ) (full low report : List ℕ) where
-  -- a table is shorter than n * n
-  abbrev pub short : Bool
-  short = ltb (length full) (n * n) || ltb (length low) (n * n) || ltb (length report) (n * n)
-
-  pub record Room : Type 0 where
-    pub in-full : n * n ≤ length full
-    pub in-low : n * n ≤ length low
-    pub in-report : n * n ≤ length report
-
-  pub room : short ≡ false → Room
-  room e =
-      let p = of-or-false (ltb (length full) (n * n) || ltb (length low) (n * n)) (ltb (length report) (n * n)) e in
-      let q = of-or-false (ltb (length full) (n * n)) (ltb (length low) (n * n)) (p .0) in
-      record { in-full = ltb-false (length full) (n * n) (q .0); in-low = ltb-false (length low) (n * n) (q .1); in-report = ltb-false (length report) (n * n) (p .1) }
+  abbrev short : Bool
+  short = shortTables n (length full) (length low) (length report)
 
   module _ (a b : ℕ) where
     -- what asking promises of its answer

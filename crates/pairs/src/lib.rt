@@ -5,15 +5,15 @@ use model::NONE;
 use model::Refusal;
 use model::Route;
 ghost use mathlib.Core.Path.{_≡_};
-ghost use mathlib.Core.Bool.{_&&_, _||_};
+ghost use mathlib.Core.Bool.{_&&_};
 ghost use mathlib.Core.List.{List};
 ghost use Prim.Native.Nat.{ℕ, _*_, _≤_, _<_};
-ghost use lib.Dec.{eqb, ltb};
+ghost use lib.Dec.{eqb};
 ghost use lib.ListN.{length};
 ghost use Rattle.model.specs.Answers.{answered, pairAnswer};
 ghost use Rattle.model.specs.Survey.{neighboursOf, linked, Accepted};
 ghost use Rattle.model.specs.Threshold.{threshold};
-ghost use Rattle.model.specs.Tables.{entry, via, AreBuilt};
+ghost use Rattle.model.specs.Tables.{entry, via, shortTables, AreBuilt};
 ghost use Rattle.model.specs.Pair.{answer, taken, attaining, pair};
 ghost use Rattle.model.specs.Asking.{asking};
 ghost use Rattle.model.specs.Demand.{AllowedAnswer};
@@ -100,7 +100,7 @@ pub fn pair_answer(
 // Whether one of the three tables is shorter than n * n.
 pub fn tables_short(n: usize, full: &[u16], low: &[u16], report: &[u16]) -> bool
     requires { ⌜ n ≤ 1024 ⌝ }
-    ensures { λ r. ⌜ r ≡ (ltb (length (now (full .entry))) (n * n) || ltb (length (now (low .entry))) (n * n) || ltb (length (now (report .entry))) (n * n)) ⌝ }
+    ensures { λ r. ⌜ r ≡ shortTables n (length (now (full .entry))) (length (now (low .entry))) (length (now (report .entry))) ⌝ }
 {
     let size = n * n;
     if full.len() < size {

@@ -1,7 +1,8 @@
 -- What reading a link line tests, and how the lines that are left say the whole.
 -- Assumes nothing.
 use mathlib.Core.Path.{_≡_, refl, sym, ap, ap₂, _∙_, subst}
-use mathlib.Core.Bool.{Bool, true, false, not, _&&_, _||_, and-comm, or-false}
+use mathlib.Core.Bool.{Bool, true, false, not, _&&_, _||_, and-comm, or-false, or-comm, or-assoc}
+use mathlib.Core.Logic.{_⊎_, inl, inr}
 use mathlib.Core.List.{List, [], _∷_}
 use mathlib.Core.Option.{Option, none as missing, some}
 use Prim.Native.Nat.{ℕ, suc, _+_, _-_, _*_, _≤_, _<_}
@@ -9,7 +10,7 @@ use native.Mathlib.Omega.{arith}
 use borrow.Author.Tests.{leb-false, eq-eqb, ne-eqb}
 use lib.Dec.{eqb, ltb, leb, ltb→lt}
 use lib.ListN.{length, drop, replicate, length-replicate, drop-of-length-le}
-use Rattle.model.specs.Answers.{Outcome, refused, answered, number}
+use Rattle.model.specs.Answers.{Outcome, refused, answered, mapAnswer, number}
 use Rattle.model.specs.declared.Refusal.{Refusal}
 use Rattle.model.specs.Basics.{if_then_else_}
 use Rattle.model.specs.Graph.{Edges}
@@ -115,8 +116,7 @@ behind [] ls = ls
 behind (l ∷ done) ls = behind done (l ∷ ls)
 
 unfoldable pub after : List (ℕ × ℕ) → Outcome (List (ℕ × ℕ)) → Outcome (List (ℕ × ℕ))
-after done (refused k) = refused k
-after done (answered ls) = answered (behind done ls)
+after done o = mapAnswer (behind done) o
 
 after-on : (done : List (ℕ × ℕ)) (l : ℕ × ℕ) (o : Outcome (List (ℕ × ℕ))) → after done (onLinks l o) ≡ after (l ∷ done) o
 unfolding after behind onLinks

@@ -22,8 +22,8 @@ use Rattle.nodeset.proofs.Matrix.{edge-bit}
 use Rattle.reading.specs.Links.{rowsIn}
 
 -- what is kept of the numbers below u is no more than of those below n
-keep-mono : (f : ℕ → Bool) (u n : ℕ) → u ≤ n → length (keep f (upTo u)) ≤ length (keep f (upTo n))
-keep-mono f u n h =
+kept-below : (f : ℕ → Bool) (u n : ℕ) → u ≤ n → length (keep f (upTo u)) ≤ length (keep f (upTo n))
+kept-below f u n h =
     let e : upTo n ≡ upTo u ++ from u (n - u) = upTo-add u (n - u) n (omega arith) in
     subst (λ (l : List ℕ). length (keep f (upTo u)) ≤ length (keep f l)) (sym e)
     (omega (arith, ap length (keep-append f (upTo u) (from u (n - u))) ∙ length-append (keep f (upTo u)) (keep f (from u (n - u)))))
@@ -46,7 +46,7 @@ module _ (ws : List ℕ) (v w : ℕ) (hw : w < 16) where
 
   row-part : length (rowTo ws v (w + 1)) ≤ length (rowsIn ws v)
   unfolding rowTo rowsIn
-  row-part = keep-mono (edgesIn ws v) (64 * (w + 1)) 1024 (omega arith)
+  row-part = kept-below (edgesIn ws v) (64 * (w + 1)) 1024 (omega arith)
 
   module _ (x₀ x : List ℕ) (at pos : ℕ) (room : at + length (rowsIn ws v) ≤ length x₀) (l : Wrote x₀ x at pos (rowTo ws v w)) where
     word-room : at + length (rowTo ws v w) + length (membersFrom 64 (64 * w) (getD ws (v * 16 + w) 0)) ≤ length x₀
@@ -65,7 +65,7 @@ module _ (ws : List ℕ) (v : ℕ) (x₀ : List ℕ) (at : ℕ) where
 
   pub row-long : (w : ℕ) (x : List ℕ) (pos : ℕ) → w ≤ 16 → at + length (rowsIn ws v) ≤ length x₀ → Wrote x₀ x at pos (rowTo ws v w) → length x ≡ length x₀
   unfolding rowTo rowsIn
-  row-long w x pos h room l = wrote-length (omega (arith, keep-mono (edgesIn ws v) (64 * w) 1024 (omega arith))) l
+  row-long w x pos h room l = wrote-length (omega (arith, kept-below (edgesIn ws v) (64 * w) 1024 (omega arith))) l
 
   pub row-whole : (w : ℕ) (x : List ℕ) (pos : ℕ) → w ≤ 16 → 16 ≤ w → Wrote x₀ x at pos (rowTo ws v w) → Wrote x₀ x at pos (rowsIn ws v)
   unfolding rowTo rowsIn

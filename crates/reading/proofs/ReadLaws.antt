@@ -1,7 +1,7 @@
 -- The first line's tests, and how the matrix gives the two lists that reading states.
 -- Assumes nothing.
 use mathlib.Core.Path.{_≡_, refl, sym, ap, ap₂, _∙_, subst}
-use mathlib.Core.Bool.{false, _||_, or-true}
+use mathlib.Core.Bool.{false, or-true}
 use mathlib.Core.List.{List, []}
 use mathlib.Core.Option.{none as missing, some}
 use Prim.Native.Nat.{ℕ, _+_, _*_, _≤_, _<_}
@@ -15,13 +15,14 @@ use Rattle.model.specs.declared.Refusal.{Refusal}
 use Rattle.model.specs.declared.Reading.the-variants as read
 use Rattle.model.specs.Basics.{upTo, has, over}
 use Rattle.model.specs.SurveyText.{line}
+use Rattle.model.specs.Survey.{outside}
 use Rattle.model.specs.Reading.{named, readLinks, parsed, countsOf, parseLinks, parse, graphOf, startsOf, neighboursFrom, Reading, returned, readingOf, reading}
 use Rattle.model.proofs.Lists.{keep-same, keep-below, of-upTo}
 use Rattle.model.proofs.Links.{Within, AllFresh, first-taken, of-first-taken, links-sound}
 use Rattle.model.specs.Demand.{ReadRight}
 use Rattle.model.proofs.ReadBack.{named-below, reading-right}
 use Rattle.model.proofs.SurveyLists.{neighbours-length, starts-same, neighbours-same}
-use Rattle.model.proofs.Tests.{or-false as neither}
+use Rattle.model.proofs.Acceptance.{in-range}
 use Rattle.model.proofs.Totals.{links-total}
 use Rattle.nodeset.specs.Matrix.{edgesIn}
 use Rattle.reading.specs.Links.{Holds, Told, rowsIn}
@@ -44,8 +45,8 @@ module _ (N M p q : ℕ) (s : List ℕ) where
     many-nodes k = ap (countsOf N M p q) l ∙ rw (lt-ltb N n k, or-true (ltb n 1)) refl
 
     module _ (h : 1 ≤ n) (k : n ≤ N) where
-      sized : (ltb n 1 || ltb N n) ≡ false
-      sized = neither (ltb n 1) (ltb N n) (le-ltb n 1 h) (le-ltb N n k)
+      sized : outside N n ≡ false
+      sized = in-range N n h k
 
       pub many-links : M < m → countsOf N M p q (line 83 s) ≡ refused 3
       unfolding countsOf

@@ -6,15 +6,15 @@ use Prim.Native.Nat.{ℕ, _+_, _*_, _%_, _≤_, _<_}
 use borrow.Author.Tests.{lt-ltb, le-ltb}
 use lib.ListN.{length, getD, drop, set, drop-of-length-le}
 use Rattle.model.proofs.Loops.{drop-next}
-use Rattle.script.specs.Sums.{sumFrom, sum, replaced}
+use Rattle.script.specs.Sums.{sumFrom, checksum, replaced}
 
 -- one entry more
-pub sum-turn : (l : List ℕ) (i s : ℕ) → i < length l → sumFrom s (drop i l) ≡ sum l → sumFrom ((s * 31 + getD l i 0) % 1000000007) (drop (i + 1) l) ≡ sum l
+pub sum-turn : (l : List ℕ) (i s : ℕ) → i < length l → sumFrom s (drop i l) ≡ checksum l → sumFrom ((s * 31 + getD l i 0) % 1000000007) (drop (i + 1) l) ≡ checksum l
 unfolding sumFrom
 sum-turn l i s h e = sym (ap (sumFrom s) (drop-next l i h)) ∙ e
 
 -- no entry left
-pub sum-end : (l : List ℕ) (i s : ℕ) → length l ≤ i → sumFrom s (drop i l) ≡ sum l → s ≡ sum l
+pub sum-end : (l : List ℕ) (i s : ℕ) → length l ≤ i → sumFrom s (drop i l) ≡ checksum l → s ≡ checksum l
 unfolding sumFrom
 sum-end l i s h e = sym (ap (sumFrom s) (drop-of-length-le l h)) ∙ e
 

@@ -11,8 +11,8 @@ unfoldable pub sumFrom : ℕ → List ℕ → ℕ
 sumFrom s [] = s
 sumFrom s (x ∷ l) = sumFrom ((s * 31 + x) % 1000000007) l
 
-abbrev pub sum : List ℕ → ℕ
-sum l = sumFrom 0 l
+abbrev pub checksum : List ℕ → ℕ
+checksum l = sumFrom 0 l
 
 -- entry i becomes x, if there is an entry i
 unfoldable pub replaced : List ℕ → ℕ → ℕ → List ℕ

@@ -11,8 +11,8 @@ use refusals::refusal_number;
 use text::Line;
 ghost use mathlib.Core.Path.{_≡_};
 ghost use Prim.Native.Nat.{_%_, min};
-ghost use Rattle.script.specs.Commands.{lineAt, lineOf};
-ghost use Rattle.script.specs.Sums.{sum, replaced};
+ghost use Rattle.script.specs.Commands.{lineAt, commandLine};
+ghost use Rattle.script.specs.Sums.{checksum, replaced};
 
 // A line of the script: its letter, its numbers and the place after it.
 pub struct Command {
@@ -24,7 +24,7 @@ pub struct Command {
 
 // The line at a place; letter 0 where there is none.
 pub fn read_command(script: &[u8], at: usize) -> Command
-    ensures { λ r. ⌜ lineOf (now (script .entry)) r ≡ lineAt (now (script .entry)) at ⌝ }
+    ensures { λ r. ⌜ commandLine (now (script .entry)) r ≡ lineAt (now (script .entry)) at ⌝ }
 {
     if at < script.len() {
         let letter = script[at];
@@ -52,7 +52,7 @@ pub fn at_most(x: u64, limit: usize) -> usize
 
 // Sums that tell where in the list an entry stands.
 pub fn sum8(list: &[u8]) -> u64
-    ensures { λ r. ⌜ r ≡ sum (now (list .entry)) ⌝ }
+    ensures { λ r. ⌜ r ≡ checksum (now (list .entry)) ⌝ }
 {
     let mut sum: u64 = 0;
     let mut i = 0;
@@ -64,7 +64,7 @@ pub fn sum8(list: &[u8]) -> u64
 }
 
 pub fn sum16(list: &[u16]) -> u64
-    ensures { λ r. ⌜ r ≡ sum (now (list .entry)) ⌝ }
+    ensures { λ r. ⌜ r ≡ checksum (now (list .entry)) ⌝ }
 {
     let mut sum: u64 = 0;
     let mut i = 0;
@@ -76,7 +76,7 @@ pub fn sum16(list: &[u16]) -> u64
 }
 
 pub fn sum32(list: &[u32]) -> u64
-    ensures { λ r. ⌜ r ≡ sum (now (list .entry)) ⌝ }
+    ensures { λ r. ⌜ r ≡ checksum (now (list .entry)) ⌝ }
 {
     let mut sum: u64 = 0;
     let mut i = 0;

@@ -12,10 +12,10 @@ use lib.ListN.{length, getD, take, drop, replicate, length-append, length-drop, 
 use lib.Seq.{take-suc, take-all, drop-at, length-take-le}
 use Rattle.lists.specs.Writing.{written}
 use Rattle.model.specs.Basics.{none, if_then_else_, upTo, has, over}
-use Rattle.model.specs.Graph.{Edges, between, Chain, fewest}
+use Rattle.model.specs.Graph.{Edges, between, Unjoined, fewest}
 use Rattle.model.specs.Survey.{Graph, linked, IsGraph}
 use Rattle.model.specs.Hubs.{isLow}
-use Rattle.model.specs.Tables.{table, fullOf, lowLinks, lowTable}
+use Rattle.model.specs.Tables.{fullEntry, fullOf, lowLinks, lowEntry}
 use Rattle.model.proofs.Chains.{split-last, chain-zero, fewest-missing}
 use Rattle.model.proofs.Lists.{has-append, has-later, has-head, of-append, of-single}
 use Rattle.model.proofs.TableLaws.{between-same, all-allowed, both-low, low-ends}
@@ -45,7 +45,7 @@ module _ (n : ℕ) (G : Graph) (hs : List ℕ) where
         ∙ over-same n (λ a b. none) t (front ++ drop (n * n) t) (sym same-rest)
 
     pub full-all : over (fullOf n G hs) (front ++ drop (n * n) t) ≡ over (fullOf n G hs) t
-    full-all = over-same n (λ h b. if has h hs then fewest (linked n G) n h b else none) (front ++ drop (n * n) t) t same-rest
+    full-all = over-same n (fullEntry n G hs) (front ++ drop (n * n) t) t same-rest
 
     pub full-room : length (front ++ drop (n * n) t) ≡ length t
     full-room =
@@ -75,17 +75,17 @@ module _ (n : ℕ) (G : Graph) (hs : List ℕ) where
     unfolding fullTo
     full-next t k p e =
         let u = getD hs i 0 in
-        let g : ℕ → ℕ → ℕ = λ a b. if has a (take (i + 1) hs) then fewest (linked n G) n a b else none in
+        let g : ℕ → ℕ → ℕ = fullEntry n G (take (i + 1) hs) in
         ap (λ (x : List ℕ). written (fullTo i t) (u * n) x) (
         ap (λ (E : Edges). map (fewest E n u) (upTo n)) (all-allowed p n G e)
         ∙ row-same n (fewest (linked n G) n u) (g u) (λ b q. rw (T-true (has u (take (i + 1) hs)) taken) refl)
         )
-        ∙ put-row n u k (λ a b. if has a (take i hs) then fewest (linked n G) n a b else none) g t (λ a b ha hb d.
+        ∙ put-row n u k (fullEntry n G (take i hs)) g t (λ a b ha hb d.
         ap (λ (x : Bool). if x then fewest (linked n G) n a b else none) (others a d))
 
   pub full-length : (i : ℕ) (t : List ℕ) → n * n ≤ length t → length (fullTo i t) ≡ length t
   unfolding fullTo
-  full-length i t h = over-length n (λ h b. if has h (take i hs) then fewest (linked n G) n h b else none) t h
+  full-length i t h = over-length n (fullEntry n G (take i hs)) t h
 
   pub full-done : (i : ℕ) (t : List ℕ) → length hs ≤ i → fullTo i t ≡ over (fullOf n G hs) t
   unfolding fullTo
@@ -93,20 +93,12 @@ module _ (n : ℕ) (G : Graph) (hs : List ℕ) where
 
 -- ---- Low, row by row
 
--- the entry (a, b) of Low
-unfoldable pub lowEntry : (n s : ℕ) → Graph → ℕ → ℕ → ℕ
-lowEntry n s G a b = if isLow s G a && isLow s G b then fewest (lowLinks n s G) n a b else none
-
-pub low-whole : (n s : ℕ) (G : Graph) → table n (lowEntry n s G) ≡ lowTable n s G
-unfolding lowEntry lowTable
-low-whole n s G = refl
-
 module _ (n s : ℕ) (G : Graph) (g : IsGraph n G) where
   -- a search from a low node does not reach a high one
   high-missed : (a b : ℕ) → a < n → T (isLow s G a) → (T (isLow s G b) → ⊥) → fewest (lowLinks n s G) n a b ≡ none
   high-missed a b ha la nb = fewest-missing (lowLinks n s G) n a (low-ends n s G g) ha b (λ k c. at k c)
     where
-      at : (k : ℕ) → Chain (lowLinks n s G) k a b → ⊥
+      at : Unjoined (lowLinks n s G) a b
       at zero c = nb (subst (λ (x : ℕ). T (isLow s G x)) (chain-zero c) la)
       at (suc k) c = let l = split-last c in nb (both-low n s G g (l .0) b (l .2) .1)
 
@@ -114,7 +106,7 @@ module _ (n s : ℕ) (G : Graph) (g : IsGraph n G) where
   module _ (p : ℕ → Bool) (is : (v : ℕ) → v < n → p v ≡ isLow s G v) where
     pub low-row-is : (a : ℕ) → a < n
         → map (λ b. if p a then fewest (between p (linked n G)) n a b else none) (upTo n) ≡ map (lowEntry n s G a) (upTo n)
-    unfolding lowEntry lowLinks
+    unfolding lowLinks
     low-row-is a ha =
         row-same n (λ b. if p a then fewest (between p (linked n G)) n a b else none) (lowEntry n s G a) (λ b hb.
         ap₂ (λ (x : Bool) (E : Edges). if x then fewest E n a b else none) (is a ha) (between-same p (isLow s G) n G is)

@@ -15,12 +15,13 @@ use Rattle.model.specs.Basics.{over}
 use Rattle.model.specs.Survey.{Graph, neighboursOf, badSize, isSurvey, Accepted}
 use Rattle.model.specs.Threshold.{threshold}
 use Rattle.model.specs.Hubs.{hubs, hubList}
-use Rattle.model.specs.Tables.{fullOf, fullTable, lowTable, reportOf, reportTable}
-use Rattle.model.specs.Building.{built, building, returned}
+use Rattle.model.specs.Tables.{shortTables, fullOf, fullTable, lowTable, reportOf, reportTable}
+use Rattle.model.specs.Building.{shortLists, built, building, returned}
 use Rattle.model.proofs.Acceptance.{good-size, survey-facts}
 use Rattle.model.proofs.Covering.{hubs-below}
 use Rattle.model.proofs.Demand.{building-answers}
-use Rattle.model.proofs.Tests.{of-or-false, true-T, not-and, not-leb, not-ltb}
+use Rattle.model.proofs.Tests.{of-or-false, true-T, not-and, not-leb, not-ltb, lt-or}
+use Rattle.model.proofs.Entries.{of-long-tables}
 use Rattle.hubs.proofs.Greedy.{hubs-front}
 use Rattle.tables.proofs.Reports.{report-same}
 
@@ -28,8 +29,12 @@ use Rattle.tables.proofs.Reports.{report-same}
 not-above : (x n : ℕ) → not (ltb n x) ≡ ltb x (n + 1)
 not-above x n = not-ltb n x ∙ sym (leb·suc-suc x n) ∙ ap (ltb x) (sym (add-one n))
 
+or-group : (a b c d : Bool) → (a || b || c || d) ≡ (a || (b || c || d))
+or-group true b c d = refl
+or-group false b c d = refl
+
 pub room-is : (n s f l r h : ℕ)
-    → not (ltb n s && leb (n * n) f && leb (n * n) l && leb (n * n) r && leb n h) ≡ (ltb s (n + 1) || ltb f (n * n) || ltb l (n * n) || ltb r (n * n) || ltb h n)
+    → not (ltb n s && leb (n * n) f && leb (n * n) l && leb (n * n) r && leb n h) ≡ shortLists n s f l r h
 room-is n s f l r h =
     not-and (ltb n s && leb (n * n) f && leb (n * n) l && leb (n * n) r) (leb n h)
     ∙ ap₂ _||_ (
@@ -38,6 +43,7 @@ room-is n s f l r h =
     not-and (ltb n s && leb (n * n) f) (leb (n * n) l)
     ∙ ap₂ _||_ (not-and (ltb n s) (leb (n * n) f) ∙ ap₂ _||_ (not-above s n) (not-leb f (n * n))) (not-leb l (n * n))
     ) (not-leb r (n * n))
+    ∙ or-group (ltb s (n + 1)) (ltb f (n * n)) (ltb l (n * n)) (ltb r (n * n))
     ) (not-leb h n)
 
 -- ---- what was built
@@ -60,7 +66,7 @@ tables-built n s G full low report list full′ low′ report′ list′ count c
 
 module _ (n : ℕ) (starts neighbours full low report list : List ℕ) where
   abbrev short : Bool
-  short = ltb (length starts) (n + 1) || ltb (length full) (n * n) || ltb (length low) (n * n) || ltb (length report) (n * n) || ltb (length list) n
+  short = shortLists n (length starts) (length full) (length low) (length report) (length list)
 
   pub build-size : badSize n ≡ true → returned (counting.Refused NodeCount) full low report list ≡ building n starts neighbours full low report list
   unfolding building
@@ -78,20 +84,11 @@ module _ (n : ℕ) (starts neighbours full low report list : List ℕ) where
     pub build-room : short ≡ false → (n + 1 ≤ length starts) × (n * n ≤ length full) × (n * n ≤ length low) × (n * n ≤ length report) × (n ≤ length list)
     build-room h =
         let A = ltb (length starts) (n + 1) in
-        let B = ltb (length full) (n * n) in
-        let C = ltb (length low) (n * n) in
-        let D = ltb (length report) (n * n) in
-        let E = ltb (length list) n in
-        let d = of-or-false (A || B || C || D) E h in
-        let c = of-or-false (A || B || C) D (d .0) in
-        let b = of-or-false (A || B) C (c .0) in
-        let a = of-or-false A B (b .0) in (
-          ltb-false (length starts) (n + 1) (a .0),
-          ltb-false (length full) (n * n) (a .1),
-          ltb-false (length low) (n * n) (b .1),
-          ltb-false (length report) (n * n) (c .1),
-          ltb-false (length list) n (d .1),
-        )
+        let B = shortTables n (length full) (length low) (length report) in
+        let d = of-or-false (A || B) (ltb (length list) n) h in
+        let a = of-or-false A B (d .0) in
+        let t = of-long-tables n (length full) (length low) (length report) (a .1) in
+        (ltb-false (length starts) (n + 1) (a .0), t .0, t .1, t .2, ltb-false (length list) n (d .1))
 
     pub build-accepted : short ≡ false → isSurvey n starts neighbours ≡ true → Accepted n starts neighbours
     build-accepted h i = record {

@@ -3,9 +3,8 @@
 use mathlib.Core.Path.{_≡_, refl, sym, ap, ap₂, _∙_}
 use mathlib.Core.Logic.{_⊎_, inl, inr}
 use mathlib.Core.Bool.{_||_}
-use mathlib.Core.List.{List, [], _∷_, _++_, map, foldr}
+use mathlib.Core.List.{List, [], _∷_, _++_, map, foldr, append-nil}
 use Prim.Native.Nat.{ℕ, _+_, _-_, _*_, _≤_, _<_, min}
-use native.Mathlib.Nat.{le-refl}
 use native.Mathlib.Numerals.{add-one}
 use native.Mathlib.Omega.{arith}
 use borrow.Author.Tests.{eq-eqb, ne-eqb}
@@ -16,17 +15,14 @@ use lib.Seq.{take-at, ext-getD, getD-take, getD-drop, take-suc, take-all, getD-s
 use Rattle.lists.specs.Writing.{Wrote}
 use Rattle.lists.proofs.Writing.{wrote-over, over-whole}
 use Rattle.model.specs.Basics.{none, if_then_else_, upTo, has, over}
-use Rattle.model.specs.Tables.{table, entry, sum, via, reportOf}
+use Rattle.model.specs.Tables.{table, entry, sum, via, least, reportEntry, reportOf}
+use Rattle.model.proofs.Allowance.{least-base}
 use Rattle.model.proofs.Entries.{length-row, getD-row, length-table, entry-front}
 use Rattle.model.proofs.Lists.{has-head, has-tail}
 use Rattle.model.proofs.Tests.{eq-or}
 use Rattle.search.proofs.TableRow.{part-length}
 use Rattle.tables.specs.Rows.{relaxed}
 use Rattle.tables.proofs.TableRows.{row-same, table-same}
-
--- the entry (a, b) of Report
-abbrev pub reportEntry : ℕ → (full low hs : List ℕ) → ℕ → ℕ → ℕ
-reportEntry n full low hs a b = if eqb a b then 0 else foldr (λ h x. min (via n full a b h) x) (entry n low a b) hs
 
 -- a list of n entries is a row if its entries are
 pub is-row : (n : ℕ) (f : ℕ → ℕ) (l : List ℕ) → length l ≡ n → ((b : ℕ) → b < n → getD l b 0 ≡ f b) → l ≡ map f (upTo n)
@@ -58,23 +54,19 @@ lesser-sum x y e h = at (eq-or x none) (eq-or y none)
 
 module _ (n : ℕ) (full low : List ℕ) (hs : List ℕ) (a : ℕ) where
   unfoldable pub leastTo : ℕ → ℕ → ℕ
-  leastTo i b = foldr (λ h x. min (via n full a b h) x) (entry n low a b) (take i hs)
+  leastTo i b = least (via n full a b) (entry n low a b) (take i hs)
 
   pub least-none : map (entry n low a) (upTo n) ≡ map (leastTo 0) (upTo n)
   unfolding leastTo
   least-none = refl
 
-  least-front : (b v : ℕ) (l : List ℕ) → foldr (λ h x. min (via n full a b h) x) (min v (entry n low a b)) l ≡ min v (foldr (λ h x. min (via n full a b h) x) (entry n low a b) l)
+  least-front : (b v : ℕ) (l : List ℕ) → least (via n full a b) (min v (entry n low a b)) l ≡ min v (least (via n full a b) (entry n low a b) l)
   least-front b v [] = refl
   least-front b v (h ∷ l) = omega (arith, least-front b v l)
 
-  least-snoc : (b u : ℕ) (l : List ℕ) → foldr (λ h x. min (via n full a b h) x) (entry n low a b) (l ++ u ∷ []) ≡ min (via n full a b u) (foldr (λ h x. min (via n full a b h) x) (entry n low a b) l)
+  least-snoc : (b u : ℕ) (l : List ℕ) → least (via n full a b) (entry n low a b) (l ++ u ∷ []) ≡ min (via n full a b u) (least (via n full a b) (entry n low a b) l)
   least-snoc b u [] = refl
   least-snoc b u (h ∷ l) = omega (arith, least-snoc b u l)
-
-  least-low : (b : ℕ) (l : List ℕ) → foldr (λ h x. min (via n full a b h) x) (entry n low a b) l ≤ entry n low a b
-  least-low b [] = le-refl (entry n low a b)
-  least-low b (h ∷ l) = omega (arith, least-low b l)
 
   module _ (small : (b : ℕ) → b < n → entry n low a b ≤ none) where
     pub least-next : (i : ℕ) → i < length hs
@@ -84,20 +76,20 @@ module _ (n : ℕ) (full low : List ℕ) (hs : List ℕ) (a : ℕ) where
         let u = getD hs i 0 in
         relaxed-row (entry n full u a) (entry n full u) (leastTo i) (upTo n)
         ∙ row-same n (λ b. min (entry n full u a + entry n full u b) (leastTo i b)) (leastTo (i + 1)) (λ b k.
-        lesser-sum (entry n full u a) (entry n full u b) (leastTo i b) (omega (arith, small b k, least-low b (take i hs)))
+        lesser-sum (entry n full u a) (entry n full u b) (leastTo i b) (omega (arith, small b k, least-base (via n full a b) (entry n low a b) (take i hs)))
         ∙ sym (least-snoc b u (take i hs))
-        ∙ ap (λ (l : List ℕ). foldr (λ h x. min (via n full a b h) x) (entry n low a b) l) (sym (ap (λ (k : ℕ). take k hs) (add-one i) ∙ take-suc hs i 0 h)))
+        ∙ ap (λ (l : List ℕ). least (via n full a b) (entry n low a b) l) (sym (ap (λ (k : ℕ). take k hs) (add-one i) ∙ take-suc hs i 0 h)))
 
   -- all hubs, and 0 at a itself
   pub least-done : (i : ℕ) → length hs ≤ i → a < n
-      → set (map (leastTo i) (upTo n)) a 0 ≡ map (λ b. if eqb a b then 0 else foldr (λ h x. min (via n full a b h) x) (entry n low a b) hs) (upTo n)
+      → set (map (leastTo i) (upTo n)) a 0 ≡ map (reportEntry n full low hs a) (upTo n)
   unfolding leastTo
   least-done i h k =
-      is-row n (λ b. if eqb a b then 0 else foldr (λ h x. min (via n full a b h) x) (entry n low a b) hs) (set (map (leastTo i) (upTo n)) a 0)
+      is-row n (reportEntry n full low hs a) (set (map (leastTo i) (upTo n)) a 0)
       (length-set (map (leastTo i) (upTo n)) a 0 ∙ length-row (leastTo i) n) (λ b j. at b j (eq-or a b))
     where
       at : (b : ℕ) → b < n → (a ≡ b) ⊎ (a ≡ b → ⊥)
-          → getD (set (map (leastTo i) (upTo n)) a 0) b 0 ≡ (if eqb a b then 0 else foldr (λ h x. min (via n full a b h) x) (entry n low a b) hs)
+          → getD (set (map (leastTo i) (upTo n)) a 0) b 0 ≡ reportEntry n full low hs a b
       at b j (inl e) =
           rw (eq-eqb a b e) (
           ap (λ (c : ℕ). getD (set (map (leastTo i) (upTo n)) a 0) c 0) (sym e)
@@ -107,7 +99,7 @@ module _ (n : ℕ) (full low : List ℕ) (hs : List ℕ) (a : ℕ) where
           rw (ne-eqb a b d) (
           getD-set-other (map (leastTo i) (upTo n)) a b 0 0 (λ e. d (sym e))
           ∙ getD-row (leastTo i) n b 0 j
-          ∙ ap (λ (l : List ℕ). foldr (λ h x. min (via n full a b h) x) (entry n low a b) l) (take-all i hs h)
+          ∙ ap (λ (l : List ℕ). least (via n full a b) (entry n low a b) l) (take-all i hs h)
           )
 
 -- a list that becomes another of its length
@@ -129,7 +121,7 @@ report-same n f g full low hs below =
     ap (λ (x : ℕ). if eqb a b then 0 else x) (at a b ha hb hs below))
   where
     at : (a b : ℕ) → a < n → b < n → (l : List ℕ) → ((h : ℕ) → T (has h l) → h < n)
-        → foldr (λ h x. min (via n (over (table n f) full) a b h) x) (entry n (over (table n g) low) a b) l ≡ foldr (λ h x. min (via n (table n f) a b h) x) (entry n (table n g) a b) l
+        → least (via n (over (table n f) full) a b) (entry n (over (table n g) low) a b) l ≡ least (via n (table n f) a b) (entry n (table n g) a b) l
     at a b ha hb [] below = entry-over n g low a b ha hb
     at a b ha hb (h ∷ l) below =
         let k = below h (has-head h l) in

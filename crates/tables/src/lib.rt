@@ -3,18 +3,18 @@ use model::Counting;
 use model::NONE;
 use model::Refusal;
 ghost use mathlib.Core.Path.{_≡_};
-ghost use mathlib.Core.Bool.{not, _||_};
-ghost use mathlib.Core.List.{map, foldr};
+ghost use mathlib.Core.Bool.{not};
+ghost use mathlib.Core.List.{map};
 ghost use Prim.Native.Nat.{ℕ, _+_, _*_, _<_, _≤_, min};
-ghost use lib.Dec.{T, eqb, ltb};
-ghost use lib.ListN.{length, getD};
+ghost use lib.Dec.{T};
+ghost use lib.ListN.{length};
 ghost use Rattle.lists.specs.Writing.{written};
 ghost use Rattle.model.specs.Basics.{none, if_then_else_, upTo, has, over};
 ghost use Rattle.model.specs.Graph.{fewest};
 ghost use Rattle.model.specs.Survey.{neighboursOf, Accepted};
-ghost use Rattle.model.specs.Tables.{entry, via, fullOf, lowTable, reportOf};
+ghost use Rattle.model.specs.Tables.{fullOf, lowTable, reportEntry, reportOf};
 ghost use Rattle.model.specs.Answers.{answered};
-ghost use Rattle.model.specs.Building.{Building, built, returned, building};
+ghost use Rattle.model.specs.Building.{shortLists, built, returned, building};
 ghost use Rattle.nodeset.specs.NodeSet.{member};
 ghost use Rattle.nodeset.specs.Matrix.{edgesIn};
 ghost use Rattle.tables.specs.Rows.{relaxed};
@@ -105,7 +105,7 @@ fn fill_low(n: usize, s: usize, starts: &[u32], neighbours: &[u16], low: &mut [u
 fn report_row(n: usize, full: &[u16], low: &[u16], hubs: &[u16], a: usize, row: &mut [u16])
     requires { ⌜ (n ≤ 1024) × (n * n ≤ length (now full)) × (n * n ≤ length (now low)) × (a < n) × (length (now row) ≡ n) ⌝ }
     requires { ⌜ ((h : ℕ) → T (has h (now hubs)) → h < n) ⌝ }
-    ensures { λ _. ⌜ now (row .exit) ≡ map (λ b. if eqb a b then 0 else foldr (λ h x. min (via n (now (full .entry)) a b h) x) (entry n (now (low .entry)) a b) (now (hubs .entry))) (upTo n) ⌝ }
+    ensures { λ _. ⌜ now (row .exit) ≡ map (reportEntry n (now (full .entry)) (now (low .entry)) (now (hubs .entry)) a) (upTo n) ⌝ }
 {
     let start = a * n;
     let end = start + n;
@@ -161,7 +161,7 @@ pub fn build_tables(
 // Whether lists of these lengths have room for n nodes.
 fn has_room(n: usize, starts: usize, full: usize, low: usize, report: usize, hubs: usize) -> bool
     requires { ⌜ n ≤ 1024 ⌝ }
-    ensures { λ r. ⌜ not r ≡ (ltb starts (n + 1) || ltb full (n * n) || ltb low (n * n) || ltb report (n * n) || ltb hubs n) ⌝ }
+    ensures { λ r. ⌜ not r ≡ shortLists n starts full low report hubs ⌝ }
 {
     let entries = n * n;
     (n < starts) & (entries <= full) & (entries <= low) & (entries <= report) & (n <= hubs)

@@ -17,10 +17,10 @@ use Rattle.model.specs.declared.Verdict.the-variants.{Parted, Long, Short}
 use Rattle.model.specs.Graph.{Edges, between, fewest}
 use Rattle.model.specs.declared.Refusal.{Refusal}
 use Rattle.model.specs.declared.Tested.{Tested}
-use Rattle.model.specs.Answers.{Outcome, refused, answered, number}
-use Rattle.model.specs.Survey.{Graph, neighboursOf, linked, accepting, Accepted}
+use Rattle.model.specs.Answers.{Outcome, refused, answered, number, mapAnswer}
+use Rattle.model.specs.Survey.{Graph, neighboursOf, linked, accepting, Accepted, IsGraph}
 use Rattle.model.specs.Threshold.{threshold}
-use Rattle.model.specs.Testing.{testingOf, testing}
+use Rattle.model.specs.Testing.{testing}
 use Rattle.model.specs.Demand.{RightVerdict}
 use Rattle.model.specs.Hubs.{isLow, closed, hubs}
 use Rattle.model.specs.TwoOrFour.{sources, verdictOf, tested}
@@ -220,12 +220,12 @@ module _ (n : ℕ) (starts neighbours : List ℕ) where
   right o e = (e, λ acc. subst (λ (x : Outcome Tested). RightVerdict n (linked n (neighboursOf starts neighbours)) x) (sym e) (testing-right n starts neighbours acc))
 
   pub test-refused : (r : Refusal) → refused (number r) ≡ accepting n starts neighbours → Right (refused (number r))
-  unfolding testing testingOf
+  unfolding testing
   test-refused r e =
-      right (refused (number r)) (ap (λ (o : Outcome (Unit {0})). testingOf o (tested n (threshold n) (neighboursOf starts neighbours))) e)
+      right (refused (number r)) (ap (mapAnswer (λ _. tested n (threshold n) (neighboursOf starts neighbours))) e)
 
   pub test-done : answered tt ≡ accepting n starts neighbours → (x : Tested) (s : ℕ) → s ≡ threshold n → x ≡ tested n s (neighboursOf starts neighbours) → Right (answered x)
-  unfolding testing testingOf
+  unfolding testing
   test-done e x s h q =
       right (answered x) (ap answered (q ∙ ap (λ (k : ℕ). tested n k (neighboursOf starts neighbours)) h)
-      ∙ ap (λ (o : Outcome (Unit {0})). testingOf o (tested n (threshold n) (neighboursOf starts neighbours))) e)
+      ∙ ap (mapAnswer (λ _. tested n (threshold n) (neighboursOf starts neighbours))) e)

@@ -13,14 +13,14 @@ use Rattle.model.specs.declared.Answer.{Answer}
 use Rattle.model.specs.Answers.{Outcome, refused, answered}
 use Rattle.model.specs.Survey.{neighboursOf, badSize, isSurvey}
 use Rattle.model.specs.Threshold.{threshold}
-use Rattle.model.specs.Tables.{entry}
+use Rattle.model.specs.Tables.{entry, shortTables}
 use Rattle.model.specs.Pair.{taken, attaining, pairBy, pair}
 use Rattle.model.specs.Walking.{walkOf, walking}
 use Rattle.model.proofs.Tests.{true-T, or-false}
 use Rattle.model.proofs.Outcomes.{never}
 use Rattle.model.proofs.Acceptance.{survey-facts, size-bounds}
+use Rattle.model.proofs.Entries.{of-long-tables}
 use Rattle.model.proofs.Walks.{Chosen, to-itself, to-none, to-low, to-hub, bad-itself, bad-hub, chosen, attains}
-use Rattle.pairs.proofs.PairLaws.{short, room}
 use Rattle.walks.specs.Parts.{Ready}
 
 -- the hub of a route is a node
@@ -58,11 +58,11 @@ module _ (n : ℕ) (starts neighbours full low report : List ℕ) (a b : ℕ) wh
     starts-short h = (λ w. rw (size, lt-ltb (length starts) (n + 1) h), λ x q. never q)
 
     module _ (starts-room : n + 1 ≤ length starts) where
-      pub tables-short : short n full low report ≡ true → Judged (refused 8)
+      pub tables-short : shortTables n (length full) (length low) (length report) ≡ true → Judged (refused 8)
       unfolding walking walkOf
       tables-short e = (λ w. rw (size, le-ltb (length starts) (n + 1) starts-room, e), λ x q. never q)
 
-      module _ (fits : short n full low report ≡ false) where
+      module _ (fits : shortTables n (length full) (length low) (length report) ≡ false) where
         pub not-survey : isSurvey n starts neighbours ≡ false → Judged (refused 9)
         unfolding walking walkOf
         not-survey e = (λ w. rw (size, le-ltb (length starts) (n + 1) starts-room, fits, e), λ x q. never q)
@@ -76,15 +76,15 @@ module _ (n : ℕ) (starts neighbours full low report : List ℕ) (a b : ℕ) wh
           unfolding walking
           pair-judged ha hb e = (
             λ w. rw (e, size, le-ltb (length starts) (n + 1) starts-room, fits, survey, or-false (leb n a) (leb n b) (lt-leb n a ha) (lt-leb n b hb)),
-            λ x q. let bounds = size-bounds n size in let rooms = room n full low report fits in record {
+            λ x q. let bounds = size-bounds n size in let rooms = of-long-tables n (length full) (length low) (length report) fits in record {
               survey = record {
                 some-node = bounds .0;
                 size = bounds .1;
                 room = starts-room;
                 lists = survey-facts n starts neighbours (true-T (isSurvey n starts neighbours) survey);
               };
-              in-full = rooms .in-full;
-              in-low = rooms .in-low;
+              in-full = rooms .0;
+              in-low = rooms .1;
               first = ha;
               last = hb;
               hub = hub-below n full low report a b x (sym e ∙ q);

@@ -7,7 +7,7 @@ use Rattle.lists.specs.Writing.{Wrote}
 use Rattle.lists.proofs.Writing.{left-all, left-fits, left-more, left-none}
 use Rattle.model.specs.Answers.{refused}
 use Rattle.model.specs.Numbers.{digits}
-use Rattle.model.specs.Listing.{listed}
+use Rattle.model.specs.Listing.{listingText}
 use Rattle.listing.proofs.Texts.{refusal-room}
 use borrow.Author.Needs.{needs}
 use Rattle.listing.proofs.write_refusal.Statement.{statement}
@@ -28,13 +28,13 @@ refusal-number-requires c κs = search needs
 
 -- src/lib.rt:186:9
 write-field-requires : tie.Need-write-field-requires
-unfolding listed
-write-field-requires c κs = left-fits _ _ _ (refusal-room (c .before .before .before .before .before .before .before .args .refusal) (c .refusal-number .result) (c .refusal-number .ensures) (c .before .before .before .before .before .before .before .args .buffer .now) (c .before .before .before .before .before .before .before .pre)) _ _ (44 ∷ digits (c .refusal-number .result)) ((10 ∷ []) ++ []) (left-more (c .before .before .before .before .before .before .before .args .buffer .now) 0 (listed (refused (c .refusal-number .result))) (refusal-room (c .before .before .before .before .before .before .before .args .refusal) (c .refusal-number .result) (c .refusal-number .ensures) (c .before .before .before .before .before .before .before .args .buffer .now) (c .before .before .before .before .before .before .before .pre)) _ _ (88 ∷ []) ((44 ∷ digits (c .refusal-number .result)) ++ ((10 ∷ []) ++ [])) (left-all _ _ _) _ _ (c .before .before .before .before .write-byte .ensures))
+unfolding listingText
+write-field-requires c κs = left-fits _ _ _ (refusal-room (c .before .before .before .before .before .before .before .args .refusal) (c .refusal-number .result) (c .refusal-number .ensures) (c .before .before .before .before .before .before .before .args .buffer .now) (c .before .before .before .before .before .before .before .pre)) _ _ (44 ∷ digits (c .refusal-number .result)) ((10 ∷ []) ++ []) (left-more (c .before .before .before .before .before .before .before .args .buffer .now) 0 (listingText (refused (c .refusal-number .result))) (refusal-room (c .before .before .before .before .before .before .before .args .refusal) (c .refusal-number .result) (c .refusal-number .ensures) (c .before .before .before .before .before .before .before .args .buffer .now) (c .before .before .before .before .before .before .before .pre)) _ _ (88 ∷ []) ((44 ∷ digits (c .refusal-number .result)) ++ ((10 ∷ []) ++ [])) (left-all _ _ _) _ _ (c .before .before .before .before .write-byte .ensures))
 
 -- src/lib.rt:187:5
 write-byte-requires-2 : tie.Need-write-byte-requires-2
-unfolding listed
-write-byte-requires-2 c κs = left-fits _ _ _ (refusal-room (c .before .before .before .before .before .before .before .before .before .before .before .args .refusal) (c .before .before .before .before .refusal-number .result) (c .before .before .before .before .refusal-number .ensures) (c .before .before .before .before .before .before .before .before .before .before .before .args .buffer .now) (c .before .before .before .before .before .before .before .before .before .before .before .pre)) _ _ (10 ∷ []) [] (left-more _ _ _ (refusal-room (c .before .before .before .before .before .before .before .before .before .before .before .args .refusal) (c .before .before .before .before .refusal-number .result) (c .before .before .before .before .refusal-number .ensures) (c .before .before .before .before .before .before .before .before .before .before .before .args .buffer .now) (c .before .before .before .before .before .before .before .before .before .before .before .pre)) _ _ (44 ∷ digits (c .before .before .before .before .refusal-number .result)) ((10 ∷ []) ++ []) (left-more (c .before .before .before .before .before .before .before .before .before .before .before .args .buffer .now) 0 (listed (refused (c .before .before .before .before .refusal-number .result))) (refusal-room (c .before .before .before .before .before .before .before .before .before .before .before .args .refusal) (c .before .before .before .before .refusal-number .result) (c .before .before .before .before .refusal-number .ensures) (c .before .before .before .before .before .before .before .before .before .before .before .args .buffer .now) (c .before .before .before .before .before .before .before .before .before .before .before .pre)) _ _ (88 ∷ []) ((44 ∷ digits (c .before .before .before .before .refusal-number .result)) ++ ((10 ∷ []) ++ [])) (left-all _ _ _) _ _ (c .before .before .before .before .before .before .before .before .write-byte .ensures)) _ _ (c .before .before .before .write-field .ensures))
+unfolding listingText
+write-byte-requires-2 c κs = left-fits _ _ _ (refusal-room (c .before .before .before .before .before .before .before .before .before .before .before .args .refusal) (c .before .before .before .before .refusal-number .result) (c .before .before .before .before .refusal-number .ensures) (c .before .before .before .before .before .before .before .before .before .before .before .args .buffer .now) (c .before .before .before .before .before .before .before .before .before .before .before .pre)) _ _ (10 ∷ []) [] (left-more _ _ _ (refusal-room (c .before .before .before .before .before .before .before .before .before .before .before .args .refusal) (c .before .before .before .before .refusal-number .result) (c .before .before .before .before .refusal-number .ensures) (c .before .before .before .before .before .before .before .before .before .before .before .args .buffer .now) (c .before .before .before .before .before .before .before .before .before .before .before .pre)) _ _ (44 ∷ digits (c .before .before .before .before .refusal-number .result)) ((10 ∷ []) ++ []) (left-more (c .before .before .before .before .before .before .before .before .before .before .before .args .buffer .now) 0 (listingText (refused (c .before .before .before .before .refusal-number .result))) (refusal-room (c .before .before .before .before .before .before .before .before .before .before .before .args .refusal) (c .before .before .before .before .refusal-number .result) (c .before .before .before .before .refusal-number .ensures) (c .before .before .before .before .before .before .before .before .before .before .before .args .buffer .now) (c .before .before .before .before .before .before .before .before .before .before .before .pre)) _ _ (88 ∷ []) ((44 ∷ digits (c .before .before .before .before .refusal-number .result)) ++ ((10 ∷ []) ++ [])) (left-all _ _ _) _ _ (c .before .before .before .before .before .before .before .before .write-byte .ensures)) _ _ (c .before .before .before .write-field .ensures))
 
 -- src/lib.rt:181:1
 same-length : tie.Need-same-length
@@ -42,8 +42,8 @@ same-length c = search needs
 
 -- src/lib.rt:181:1
 returns : tie.Need-returns
-unfolding listed
-returns c = subst (λ (k : ℕ). Wrote (c .before .before .before .before .before .before .before .before .before .before .before .before .before .before .args .buffer .now) (c .before .before .write-byte2 .last .0) 0 (c .before .before .write-byte2 .result) (listed (refused k))) (c .before .before .before .before .before .before .before .refusal-number .ensures) (left-none _ _ _ (refusal-room (c .before .before .before .before .before .before .before .before .before .before .before .before .before .before .args .refusal) (c .before .before .before .before .before .before .before .refusal-number .result) (c .before .before .before .before .before .before .before .refusal-number .ensures) (c .before .before .before .before .before .before .before .before .before .before .before .before .before .before .args .buffer .now) (c .before .before .before .before .before .before .before .before .before .before .before .before .before .before .pre)) _ _ (left-more _ _ _ (refusal-room (c .before .before .before .before .before .before .before .before .before .before .before .before .before .before .args .refusal) (c .before .before .before .before .before .before .before .refusal-number .result) (c .before .before .before .before .before .before .before .refusal-number .ensures) (c .before .before .before .before .before .before .before .before .before .before .before .before .before .before .args .buffer .now) (c .before .before .before .before .before .before .before .before .before .before .before .before .before .before .pre)) _ _ (10 ∷ []) [] (left-more _ _ _ (refusal-room (c .before .before .before .before .before .before .before .before .before .before .before .before .before .before .args .refusal) (c .before .before .before .before .before .before .before .refusal-number .result) (c .before .before .before .before .before .before .before .refusal-number .ensures) (c .before .before .before .before .before .before .before .before .before .before .before .before .before .before .args .buffer .now) (c .before .before .before .before .before .before .before .before .before .before .before .before .before .before .pre)) _ _ (44 ∷ digits (c .before .before .before .before .before .before .before .refusal-number .result)) ((10 ∷ []) ++ []) (left-more (c .before .before .before .before .before .before .before .before .before .before .before .before .before .before .args .buffer .now) 0 (listed (refused (c .before .before .before .before .before .before .before .refusal-number .result))) (refusal-room (c .before .before .before .before .before .before .before .before .before .before .before .before .before .before .args .refusal) (c .before .before .before .before .before .before .before .refusal-number .result) (c .before .before .before .before .before .before .before .refusal-number .ensures) (c .before .before .before .before .before .before .before .before .before .before .before .before .before .before .args .buffer .now) (c .before .before .before .before .before .before .before .before .before .before .before .before .before .before .pre)) _ _ (88 ∷ []) ((44 ∷ digits (c .before .before .before .before .before .before .before .refusal-number .result)) ++ ((10 ∷ []) ++ [])) (left-all _ _ _) _ _ (c .before .before .before .before .before .before .before .before .before .before .before .write-byte .ensures)) _ _ (c .before .before .before .before .before .before .write-field .ensures)) _ _ (c .before .before .write-byte2 .ensures)))
+unfolding listingText
+returns c = subst (λ (k : ℕ). Wrote (c .before .before .before .before .before .before .before .before .before .before .before .before .before .before .args .buffer .now) (c .before .before .write-byte2 .last .0) 0 (c .before .before .write-byte2 .result) (listingText (refused k))) (c .before .before .before .before .before .before .before .refusal-number .ensures) (left-none _ _ _ (refusal-room (c .before .before .before .before .before .before .before .before .before .before .before .before .before .before .args .refusal) (c .before .before .before .before .before .before .before .refusal-number .result) (c .before .before .before .before .before .before .before .refusal-number .ensures) (c .before .before .before .before .before .before .before .before .before .before .before .before .before .before .args .buffer .now) (c .before .before .before .before .before .before .before .before .before .before .before .before .before .before .pre)) _ _ (left-more _ _ _ (refusal-room (c .before .before .before .before .before .before .before .before .before .before .before .before .before .before .args .refusal) (c .before .before .before .before .before .before .before .refusal-number .result) (c .before .before .before .before .before .before .before .refusal-number .ensures) (c .before .before .before .before .before .before .before .before .before .before .before .before .before .before .args .buffer .now) (c .before .before .before .before .before .before .before .before .before .before .before .before .before .before .pre)) _ _ (10 ∷ []) [] (left-more _ _ _ (refusal-room (c .before .before .before .before .before .before .before .before .before .before .before .before .before .before .args .refusal) (c .before .before .before .before .before .before .before .refusal-number .result) (c .before .before .before .before .before .before .before .refusal-number .ensures) (c .before .before .before .before .before .before .before .before .before .before .before .before .before .before .args .buffer .now) (c .before .before .before .before .before .before .before .before .before .before .before .before .before .before .pre)) _ _ (44 ∷ digits (c .before .before .before .before .before .before .before .refusal-number .result)) ((10 ∷ []) ++ []) (left-more (c .before .before .before .before .before .before .before .before .before .before .before .before .before .before .args .buffer .now) 0 (listingText (refused (c .before .before .before .before .before .before .before .refusal-number .result))) (refusal-room (c .before .before .before .before .before .before .before .before .before .before .before .before .before .before .args .refusal) (c .before .before .before .before .before .before .before .refusal-number .result) (c .before .before .before .before .before .before .before .refusal-number .ensures) (c .before .before .before .before .before .before .before .before .before .before .before .before .before .before .args .buffer .now) (c .before .before .before .before .before .before .before .before .before .before .before .before .before .before .pre)) _ _ (88 ∷ []) ((44 ∷ digits (c .before .before .before .before .before .before .before .refusal-number .result)) ++ ((10 ∷ []) ++ [])) (left-all _ _ _) _ _ (c .before .before .before .before .before .before .before .before .before .before .before .write-byte .ensures)) _ _ (c .before .before .before .before .before .before .write-field .ensures)) _ _ (c .before .before .write-byte2 .ensures)))
 
 pub write-refusal-spec : {M : Type 1} → statement M
 write-refusal-spec =

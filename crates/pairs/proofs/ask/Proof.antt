@@ -4,7 +4,8 @@ use mathlib.Core.Path.{sym, _∙_}
 use native.Mathlib.Omega.{arith}
 use borrow.Author.Tests.{le-leb, lt-leb}
 use Rattle.model.proofs.Acceptance.{good-size, small-size, large-size}
-use Rattle.pairs.proofs.PairLaws.{room, bad-size, too-short, no-node, pair-asked}
+use Rattle.model.proofs.Entries.{of-long-tables}
+use Rattle.pairs.proofs.PairLaws.{bad-size, too-short, no-node, pair-asked}
 use borrow.Author.Needs.{needs}
 use Rattle.pairs.proofs.ask.Statement.{statement}
 use Rattle.pairs.proofs.ask.Tie as tie
@@ -28,7 +29,7 @@ returns-5 : tie.Need-returns-5
 returns-5 c = no-node (c .before .before .before .before .before .before .before .before .before .args .n) (c .before .before .before .before .before .before .before .before .before .args .full .now) (c .before .before .before .before .before .before .before .before .before .args .low .now) (c .before .before .before .before .before .before .before .before .before .args .report .now) (c .before .before .before .before .before .before .before .before .before .args .a) (c .before .before .before .before .before .before .before .before .before .args .b) (good-size (c .before .before .before .before .before .before .before .before .before .args .n) (omega arith) (omega arith)) (sym (c .before .before .before .tables-short .ensures) ∙ (c .before .before .if3 .left)) (rw (lt-leb _ _ (c .before .if4 .left), le-leb (c .before .before .before .before .before .before .before .before .before .args .n) (c .before .before .before .before .before .before .before .before .before .args .b) (omega arith)))
 
 pair-answer-requires : tie.Need-pair-answer-requires
-pair-answer-requires c κs = let r = room (c .before .before .before .before .before .before .before .before .before .args .n) (c .before .before .before .before .before .before .before .before .before .args .full .now) (c .before .before .before .before .before .before .before .before .before .args .low .now) (c .before .before .before .before .before .before .before .before .before .args .report .now) (sym (c .before .before .before .tables-short .ensures) ∙ (c .before .before .if3 .left)) in ((c .before .before .before .before .if2 .left), r .in-full, r .in-low, r .in-report, (c .before .if4 .left), (c .if5 .left))
+pair-answer-requires c κs = let r = of-long-tables _ _ _ _ (sym (c .before .before .before .tables-short .ensures) ∙ (c .before .before .if3 .left)) in ((c .before .before .before .before .if2 .left), r .0, r .1, r .2, (c .before .if4 .left), (c .if5 .left))
 
 returns-6 : tie.Need-returns-6
 returns-6 c = pair-asked (c .before .before .before .before .before .before .before .before .before .before .args .n) (c .before .before .before .before .before .before .before .before .before .before .args .full .now) (c .before .before .before .before .before .before .before .before .before .before .args .low .now) (c .before .before .before .before .before .before .before .before .before .before .args .report .now) (c .before .before .before .before .before .before .before .before .before .before .args .a) (c .before .before .before .before .before .before .before .before .before .before .args .b) (good-size (c .before .before .before .before .before .before .before .before .before .before .args .n) (omega arith) (omega arith)) (sym (c .before .before .before .before .tables-short .ensures) ∙ (c .before .before .before .if3 .left)) (rw (lt-leb _ _ (c .before .before .if4 .left), lt-leb _ _ (c .before .if5 .left))) (c .pair-answer .ensures)

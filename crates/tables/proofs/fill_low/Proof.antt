@@ -7,12 +7,13 @@ use native.Mathlib.Omega.{arith}
 use lib.ListN.{length, length-replicate}
 use Rattle.hubs.proofs.Sets.{low-are}
 use Rattle.lists.specs.Writing.{written}
-use Rattle.model.specs.Basics.{none, if_then_else_, upTo, over}
+use Rattle.model.specs.Basics.{none, if_then_else_, upTo}
 use Rattle.model.specs.Graph.{Edges, fewest}
 use Rattle.model.specs.Survey.{neighboursOf}
+use Rattle.model.specs.Tables.{lowEntry, lowTable}
 use Rattle.nodeset.specs.NodeSet.{member}
 use Rattle.tables.proofs.TableRows.{rowsTo, rows-none, rows-next, rows-done, rows-length}
-use Rattle.tables.proofs.Distances.{lowEntry, low-whole, low-row-is}
+use Rattle.tables.proofs.Distances.{lowEntry, low-whole, low-row-is, low-are}
 use borrow.Author.Needs.{needs}
 use Rattle.tables.proofs.fill_low.Statement.{statement}
 use Rattle.tables.proofs.fill_low.Tie as tie
@@ -68,7 +69,8 @@ same-length : tie.Need-same-length Inv-loop μ-loop
 same-length c = (ap length (c .before .loop .inv .1) ∙ rows-length (c .before .before .before .before .before .before .before .before .before .before .before .before .args .n) (lowEntry (c .before .before .before .before .before .before .before .before .before .before .before .before .args .n) (c .before .before .before .before .before .before .before .before .before .before .before .before .args .s) (neighboursOf (c .before .before .before .before .before .before .before .before .before .before .before .before .args .starts .now) (c .before .before .before .before .before .before .before .before .before .before .before .before .args .neighbours .now))) (c .before .before .before .before .before .before .before .before .before .before .before .before .args .low .now) (c .before .loop .a) (c .before .before .before .before .before .before .before .before .before .before .before .before .pre .1))
 
 returns : tie.Need-returns Inv-loop μ-loop
-returns c = (c .before .loop .inv .1) ∙ rows-done (c .before .before .before .before .before .before .before .before .before .before .before .before .args .n) (lowEntry (c .before .before .before .before .before .before .before .before .before .before .before .before .args .n) (c .before .before .before .before .before .before .before .before .before .before .before .before .args .s) (neighboursOf (c .before .before .before .before .before .before .before .before .before .before .before .before .args .starts .now) (c .before .before .before .before .before .before .before .before .before .before .before .before .args .neighbours .now))) (c .before .before .before .before .before .before .before .before .before .before .before .before .args .low .now) (c .before .loop .a) (c .loop-test .left) ∙ ap (λ (t : List ℕ). over t (c .before .before .before .before .before .before .before .before .before .before .before .before .args .low .now)) (low-whole (c .before .before .before .before .before .before .before .before .before .before .before .before .args .n) (c .before .before .before .before .before .before .before .before .before .before .before .before .args .s) (neighboursOf (c .before .before .before .before .before .before .before .before .before .before .before .before .args .starts .now) (c .before .before .before .before .before .before .before .before .before .before .before .before .args .neighbours .now)))
+unfolding lowTable
+returns c = (c .before .loop .inv .1) ∙ rows-done (c .before .before .before .before .before .before .before .before .before .before .before .before .args .n) (lowEntry (c .before .before .before .before .before .before .before .before .before .before .before .before .args .n) (c .before .before .before .before .before .before .before .before .before .before .before .before .args .s) (neighboursOf (c .before .before .before .before .before .before .before .before .before .before .before .before .args .starts .now) (c .before .before .before .before .before .before .before .before .before .before .before .before .args .neighbours .now))) (c .before .before .before .before .before .before .before .before .before .before .before .before .args .low .now) (c .before .loop .a) (c .loop-test .left)
 
 pub fill-low-spec : {M : Type 1} → statement M
 fill-low-spec =

@@ -7,10 +7,10 @@ use native.Mathlib.Omega.{arith}
 use lib.ListN.{length}
 use Rattle.lists.specs.Writing.{written}
 use Rattle.model.specs.Basics.{upTo}
+use Rattle.model.specs.Tables.{reportEntry}
 use Rattle.model.proofs.Entries.{square-small}
 use Rattle.search.proofs.TableRow.{row-ends, part-length, row-put}
 use Rattle.tables.proofs.TableRows.{row-within, rowsTo, rows-none, rows-next, rows-done, rows-length}
-use Rattle.tables.proofs.Reports.{reportEntry}
 use borrow.Author.Needs.{needs}
 use Rattle.tables.proofs.fill_report.Statement.{statement}
 use Rattle.tables.proofs.fill_report.Tie as tie

@@ -4,7 +4,7 @@ use mathlib.Core.Path.{sym, _∙_}
 use native.Mathlib.Omega.{arith}
 use borrow.Author.Tests.{not-true, not-false, le-leb, lt-leb}
 use Rattle.model.proofs.Acceptance.{good-size, small-size, large-size}
-use Rattle.pairs.proofs.PairLaws.{room}
+use Rattle.model.proofs.Entries.{of-long-tables}
 use Rattle.walks.proofs.JudgeLaws.{bad-size, starts-short, tables-short, not-survey, no-node, pair-judged}
 use borrow.Author.Needs.{needs}
 use Rattle.walks.proofs.judge.Statement.{statement}
@@ -41,7 +41,7 @@ returns-7 : tie.Need-returns-7
 returns-7 c = no-node (c .before .before .before .before .before .before .before .before .before .before .before .before .before .before .args .n) (c .before .before .before .before .before .before .before .before .before .before .before .before .before .before .args .starts .now) (c .before .before .before .before .before .before .before .before .before .before .before .before .before .before .args .neighbours .now) (c .before .before .before .before .before .before .before .before .before .before .before .before .before .before .args .full .now) (c .before .before .before .before .before .before .before .before .before .before .before .before .before .before .args .low .now) (c .before .before .before .before .before .before .before .before .before .before .before .before .before .before .args .report .now) (c .before .before .before .before .before .before .before .before .before .before .before .before .before .before .args .a) (c .before .before .before .before .before .before .before .before .before .before .before .before .before .before .args .b) (good-size (c .before .before .before .before .before .before .before .before .before .before .before .before .before .before .args .n) (omega arith) (omega arith)) (c .before .before .before .before .before .before .if3 .left) (sym (c .before .before .before .before .before .tables-short .ensures) ∙ (c .before .before .before .before .if4 .left)) (sym (c .before .before .before .is-survey .ensures) ∙ not-false _ (c .before .before .if5 .left)) (rw (lt-leb _ _ (c .before .if6 .left), le-leb _ _ (c .if7 .taken)))
 
 pair-answer-requires : tie.Need-pair-answer-requires
-pair-answer-requires c κs = let r = room (c .before .before .before .before .before .before .before .before .before .before .before .before .before .before .args .n) (c .before .before .before .before .before .before .before .before .before .before .before .before .before .before .args .full .now) (c .before .before .before .before .before .before .before .before .before .before .before .before .before .before .args .low .now) (c .before .before .before .before .before .before .before .before .before .before .before .before .before .before .args .report .now) (sym (c .before .before .before .before .before .tables-short .ensures) ∙ (c .before .before .before .before .if4 .left)) in ((c .before .before .before .before .before .before .before .if2 .left), r .in-full, r .in-low, r .in-report, (c .before .if6 .left), (c .if7 .left))
+pair-answer-requires c κs = let r = of-long-tables _ _ _ _ (sym (c .before .before .before .before .before .tables-short .ensures) ∙ (c .before .before .before .before .if4 .left)) in ((c .before .before .before .before .before .before .before .if2 .left), r .0, r .1, r .2, (c .before .if6 .left), (c .if7 .left))
 
 returns-8 : tie.Need-returns-8
 returns-8 c = pair-judged (c .before .before .before .before .before .before .before .before .before .before .before .before .before .before .before .args .n) (c .before .before .before .before .before .before .before .before .before .before .before .before .before .before .before .args .starts .now) (c .before .before .before .before .before .before .before .before .before .before .before .before .before .before .before .args .neighbours .now) (c .before .before .before .before .before .before .before .before .before .before .before .before .before .before .before .args .full .now) (c .before .before .before .before .before .before .before .before .before .before .before .before .before .before .before .args .low .now) (c .before .before .before .before .before .before .before .before .before .before .before .before .before .before .before .args .report .now) (c .before .before .before .before .before .before .before .before .before .before .before .before .before .before .before .args .a) (c .before .before .before .before .before .before .before .before .before .before .before .before .before .before .before .args .b) (good-size (c .before .before .before .before .before .before .before .before .before .before .before .before .before .before .before .args .n) (omega arith) (omega arith)) (c .before .before .before .before .before .before .before .if3 .left) (sym (c .before .before .before .before .before .before .tables-short .ensures) ∙ (c .before .before .before .before .before .if4 .left)) (sym (c .before .before .before .before .is-survey .ensures) ∙ not-false _ (c .before .before .before .if5 .left)) (c .before .before .if6 .left) (c .before .if7 .left) (c .pair-answer .ensures)
