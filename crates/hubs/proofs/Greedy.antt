@@ -14,7 +14,8 @@ use Rattle.lists.specs.Writing.{Wrote}
 use Rattle.lists.proofs.Writing.{wrote-one, wrote-then, wrote-over, wrote-part, Left, left-all, left-length, left-more, left-none}
 use Rattle.model.specs.Basics.{none, upTo, has, keep, over, firstOf}
 use Rattle.model.specs.Survey.{Graph}
-use Rattle.model.specs.Hubs.{isHigh, closed, gain, best, greedy, hubs, hubList}
+use Rattle.model.specs.Hubs.{isHigh, closed, gain, best, greedy, hubs}
+use Rattle.model.specs.Tables.{hubList}
 use Rattle.model.proofs.Covering.{best-is, best-of, best-gains, hubs-length}
 use Rattle.model.proofs.Lists.{has-head, of-keep, of-upTo, keep-split, length-pos}
 use Rattle.model.proofs.Loops.{below-next}

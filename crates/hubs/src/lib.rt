@@ -7,7 +7,8 @@ ghost use lib.Dec.{T, ltb};
 ghost use lib.ListN.{length, replicate};
 ghost use Rattle.model.specs.Basics.{upTo, has, keep, over};
 ghost use Rattle.model.specs.Survey.{neighboursOf, Accepted};
-ghost use Rattle.model.specs.Hubs.{isHigh, isLow, closed, gain, best, hubs, hubList};
+ghost use Rattle.model.specs.Hubs.{isHigh, isLow, closed, gain, best, hubs};
+ghost use Rattle.model.specs.Tables.{hubList};
 ghost use Rattle.nodeset.specs.NodeSet.{member, without};
 
 // The nodes with at least s neighbours, put into the empty set. A node's degree is known from two starts.

@@ -12,8 +12,8 @@ use lib.Dec.{T, eqb, ltb}
 use lib.ListN.{length, getD, set, drop, replicate, length-set, drop-of-length-le}
 use lib.Seq.{getD-set-same, getD-set-other}
 use Rattle.model.specs.Basics.{has}
-use Rattle.model.specs.Graph.{Edges, between}
-use Rattle.model.specs.Survey.{Graph, linked, IsGraph}
+use Rattle.model.specs.Graph.{Edges, between, linked}
+use Rattle.model.specs.Survey.{Graph, IsGraph}
 use Rattle.model.proofs.Acceptance.{linked-is, linked-has, linked-of}
 use Rattle.model.proofs.Loops.{drop-next, below-next}
 use Rattle.model.proofs.Tests.{and-l, and-r, and-i, true-T, same-test, eq-or, lt-or}

@@ -13,8 +13,8 @@ ghost use lib.ListN.{length};
 ghost use Rattle.lists.specs.Writing.{Wrote};
 ghost use Rattle.model.specs.Answers.{number, refused, answered, countAnswer};
 ghost use Rattle.model.specs.Survey.{neighboursOf, Accepted};
-ghost use Rattle.model.specs.Listing.{reportText, routeText, pairLine, pairLines, listingOf, listingText, listing};
-ghost use Rattle.model.specs.Writing.{writingOf, returned};
+ghost use Rattle.model.specs.Listing.{reportText, routeText, pairLine, pairLines, listingOf, listingText, listing, writingListing};
+ghost use Rattle.model.specs.Writing.{returned};
 ghost use Rattle.listing.specs.Rows.{most, answerText, rowText};
 
 // Writes two bytes at a place, and returns the place after them.
@@ -200,7 +200,7 @@ fn write_text(text: &[u8], buffer: &mut [u8]) -> usize
 // Writes the listing of a text into a buffer. Refused where the buffer is too short, which is then not altered; 393,240 bytes are
 // always enough.
 pub fn write_listing(text: &[u8], buffer: &mut [u8]) -> Counting
-    ensures { λ r. ⌜ returned r (now (buffer .exit)) ≡ writingOf (answered tt) (listing (now (text .entry))) (now (buffer .entry)) ⌝ }
+    ensures { λ r. ⌜ returned r (now (buffer .exit)) ≡ writingListing (now (text .entry)) (now (buffer .entry)) ⌝ }
     ensures { λ r. ⌜ (most ≤ length (now (buffer .entry)) → countAnswer r ≡ answered (length (listing (now (text .entry))))) ⌝ }
 {
     let mut lines = [0u8; 393240];

@@ -11,7 +11,8 @@ use lib.Dec.{T, eqb, ltb, leb, eqb→eq, leb→le, le→leb, ltb→lt, lt→ltb,
 use lib.ListN.{length, getD}
 use Rattle.model.specs.Answers.{Outcome, answered, isAnswered}
 use Rattle.model.specs.Basics.{upTo, has, all, keep}
-use Rattle.model.specs.Survey.{Graph, neighboursOf, linked, ascending, isSurvey, outside, badSize, accepting, accepted, IsSurvey, IsGraph, Accepted}
+use Rattle.model.specs.Survey.{Graph, neighboursOf, ascending, isSurvey, outside, badSize, accepting, accepted, IsSurvey, IsGraph, Accepted}
+use Rattle.model.specs.Graph.{linked}
 use Rattle.model.proofs.Tests.{picked, not-not, and-l, and-r, and-i, or-r, or-false, of-or-false, T-true, eq-T}
 use Rattle.model.proofs.Lists.{of-all, all-of, has-upTo, of-upTo, keep-same, keep-grows, keep-length, length-upTo}
 use Rattle.model.proofs.Ascending.{ascending-keep}
@@ -48,7 +49,7 @@ module _ (n : ℕ) (starts neighbours : List ℕ) where
         links = leb→le (last / 2) 16384 (and-r (A && B && C) D t4);
         within = leb→le last (length neighbours) (and-r (A && B && C && D) E t5);
         sorted = λ v h. of-all (λ v. ascending (G v)) (upTo n) (and-r (A && B && C && D && E) F t6) v (has-upTo n v h);
-        apart = λ v x h m e. T-not (eqb x v) (and-r (ltb x n) (not (eqb x v)) (and-l (ltb x n && not (eqb x v)) (has v (G x)) (entry v x h m))) (eq-T x v e);
+        loopless = λ v x h m e. T-not (eqb x v) (and-r (ltb x n) (not (eqb x v)) (and-l (ltb x n && not (eqb x v)) (has v (G x)) (entry v x h m))) (eq-T x v e);
         graph = record {
           below = λ v x h m. ltb→lt x n (and-l (ltb x n) (not (eqb x v)) (and-l (ltb x n && not (eqb x v)) (has v (G x)) (entry v x h m)));
           symmetric = λ v x h m. and-r (ltb x n && not (eqb x v)) (has v (G x)) (entry v x h m);
@@ -83,7 +84,7 @@ module _ (n : ℕ) (starts neighbours : List ℕ) where
       all-of (λ x. own v x) (G v) (λ x m.
       let b = of-upTo n v h in
       and-i (ltb x n && not (eqb x v)) (has v (G x))
-      (and-i (ltb x n) (not (eqb x v)) (lt→ltb x n (s .graph .below v x b m)) (not-T (eqb x v) (λ e. s .apart v x b m (eqb→eq x v e))))
+      (and-i (ltb x n) (not (eqb x v)) (lt→ltb x n (s .graph .below v x b m)) (not-T (eqb x v) (λ e. s .loopless v x b m (eqb→eq x v e))))
       (s .graph .symmetric v x b m))))
 
 -- ---- the same for acceptance
@@ -194,7 +195,7 @@ module _ (n : ℕ) (starts neighbours : List ℕ) (acc : Accepted n starts neigh
   graph = neighboursOf starts neighbours
 
   pub no-loop : (a : ℕ) → T (linked n (neighboursOf starts neighbours) a a) → ⊥
-  no-loop a t = let l = linked-is n (neighboursOf starts neighbours) a a t in acc .lists .apart a a (l .first) (l .there) refl
+  no-loop a t = let l = linked-is n (neighboursOf starts neighbours) a a t in acc .lists .loopless a a (l .first) (l .there) refl
 
   -- the neighbour count is the number of linked nodes
   pub degree : (v : ℕ) → v < n → length (keep (linked n (neighboursOf starts neighbours) v) (upTo n)) ≡ length (neighboursOf starts neighbours v)

@@ -16,10 +16,10 @@ use Rattle.model.specs.declared.Route.the-variants.{Itself, Low, Through
 use Rattle.model.specs.declared.Answer.{Answer}
 use Rattle.model.specs.Answers.{Outcome, refused, answered}
 use Rattle.model.specs.Basics.{none, if_then_else_, has, upTo, firstOf}
-use Rattle.model.specs.Graph.{Edges, Chain, link, Fewest}
-use Rattle.model.specs.Survey.{Graph, linked, IsGraph}
-use Rattle.model.specs.Hubs.{isLow, hubs, hubList}
-use Rattle.model.specs.Tables.{entry, sum, via, fullTable, lowTable, lowLinks, reportTable, AreBuilt}
+use Rattle.model.specs.Graph.{Edges, Chain, link, Fewest, linked}
+use Rattle.model.specs.Survey.{Graph, IsGraph}
+use Rattle.model.specs.Hubs.{isLow, hubs}
+use Rattle.model.specs.Tables.{entry, sum, via, fullTable, lowTable, lowLinks, reportTable, AreBuilt, hubList}
 use Rattle.model.specs.Pair.{answer, taken, listed, attaining, choose, pairBy, pair}
 use Rattle.model.specs.Walk.{byLow, toHub, join, nodes}
 use Rattle.model.specs.Walking.{Walking, refuseWalk, fit, walkOf}

@@ -11,7 +11,8 @@ use native.Mathlib.Omega.{arith}
 use lib.Dec.{T, leb, leb→le, le→leb, not-T, T-not}
 use lib.ListN.{length}
 use Rattle.model.specs.Basics.{none, upTo, has, all, keep}
-use Rattle.model.specs.Survey.{Graph, linked, ascending, IsGraph}
+use Rattle.model.specs.Survey.{Graph, ascending, IsGraph}
+use Rattle.model.specs.Graph.{linked}
 use Rattle.model.specs.Hubs.{isHigh, closed, gain, best, greedy, hubs}
 use Rattle.model.proofs.Tests.{passes}
 use Rattle.model.proofs.Lists.{has-head, has-tail, of-cons, all-of, of-all, has-keep, of-keep, has-upTo, of-upTo, First, found, nothing, first-below, first-is, keep-split, keep-length, length-upTo, length-pos}

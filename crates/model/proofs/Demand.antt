@@ -16,11 +16,11 @@ use Rattle.model.specs.declared.Route.the-variants.{NoRoute}
 use Rattle.model.specs.declared.Answer.{Answer}
 use Rattle.model.specs.Answers.{Outcome, refused, answered}
 use Rattle.model.specs.Basics.{none, if_then_else_, over}
-use Rattle.model.specs.Graph.{Edges, Chain, Walked}
-use Rattle.model.specs.Survey.{Graph, neighboursOf, linked, badSize, isSurvey, Accepted}
+use Rattle.model.specs.Graph.{Edges, Chain, Walked, linked}
+use Rattle.model.specs.Survey.{Graph, neighboursOf, badSize, isSurvey, Accepted}
 use Rattle.model.specs.Threshold.{threshold}
-use Rattle.model.specs.Hubs.{hubs, hubList}
-use Rattle.model.specs.Tables.{entry, fullTable, lowTable, reportTable, AreBuilt, AreBuiltWith, shortTables}
+use Rattle.model.specs.Hubs.{hubs}
+use Rattle.model.specs.Tables.{entry, fullTable, lowTable, reportTable, AreBuilt, AreBuiltWith, shortTables, hubList}
 use Rattle.model.specs.Pair.{answer, taken, attaining, pairBy, pair}
 use Rattle.model.specs.Walk.{nodes}
 use Rattle.model.specs.TwoOrFour.{tested}

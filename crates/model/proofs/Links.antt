@@ -24,7 +24,7 @@ use Rattle.model.proofs.Lines.{line-complete, IsLine, line-sound}
 pub record Fresh (n : ℕ) (given : ℕ → ℕ → Bool) (a b : ℕ) : Type 0 where
   pub below-a : a < n
   pub below-b : b < n
-  pub apart : a ≡ b → ⊥
+  pub different : a ≡ b → ⊥
   pub new : given a b ≡ false
 
 -- each of the links can be given after those before it
@@ -38,7 +38,7 @@ module _ (n : ℕ) (given : ℕ → ℕ → Bool) where
   pub link-taken : (l : ℕ × ℕ × List ℕ) → Fresh n given (l .0) (l .1) → linkOf n given (some l) ≡ answered l
   unfolding linkOf
   link-taken l f =
-      rw (or-false (leb n (l .0)) (leb n (l .1)) (lt-leb n (l .0) (f .below-a)) (lt-leb n (l .1) (f .below-b)), ne-eqb (l .0) (l .1) (f .apart), f .new) refl
+      rw (or-false (leb n (l .0)) (leb n (l .1)) (lt-leb n (l .0) (f .below-a)) (lt-leb n (l .1) (f .below-b)), ne-eqb (l .0) (l .1) (f .different), f .new) refl
 
   pub of-link-taken : (o : Option (ℕ × ℕ × List ℕ)) (x : ℕ × ℕ × List ℕ) → linkOf n given o ≡ answered x → (o ≡ some x) × Fresh n given (x .0) (x .1)
   unfolding linkOf
@@ -53,7 +53,7 @@ module _ (n : ℕ) (given : ℕ → ℕ → Bool) where
       six b d true q e = never e
       six b d false q e =
           let i : l ≡ x = cc in
-          (ap some i, subst (λ (y : ℕ × ℕ × List ℕ). Fresh n given (y .0) (y .1)) i (record { below-a = b .0; below-b = b .1; apart = d; new = q }))
+          (ap some i, subst (λ (y : ℕ × ℕ × List ℕ). Fresh n given (y .0) (y .1)) i (record { below-a = b .0; below-b = b .1; different = d; new = q }))
 
       five : (l .0 < n) × (l .1 < n) → (t : Bool) → eqb (l .0) (l .1) ≡ t
           → if_then_else_ {A = Outcome (ℕ × ℕ × List ℕ)} t (refused 5) (if given (l .0) (l .1) then refused 6 else answered l) ≡ answered x → Taken

@@ -11,7 +11,8 @@ use Rattle.model.specs.declared.Answer.{Answer}
 use Rattle.model.specs.Answers.{Outcome, refused, answered}
 use Rattle.model.specs.Basics.{none, upTo, keep, gather}
 use Rattle.model.specs.SurveyText.{lineOf, ordered}
-use Rattle.model.specs.Survey.{Graph, linked, IsGraph}
+use Rattle.model.specs.Survey.{Graph, IsGraph}
+use Rattle.model.specs.Graph.{linked}
 use Rattle.model.specs.Threshold.{threshold}
 use Rattle.model.specs.Hubs.{hubs}
 use Rattle.model.specs.Tables.{entry, fullTable, lowTable, reportTable, AreBuilt}

@@ -17,7 +17,8 @@ use Rattle.model.specs.declared.Size.{Size}
 use Rattle.model.specs.Answers.{Outcome, refused, answered}
 use Rattle.model.specs.Basics.{from, upTo, has, keep, gather, over}
 use Rattle.model.specs.SurveyText.{surveyText, ordered}
-use Rattle.model.specs.Survey.{Graph, neighboursOf, linked, ascending, Accepted}
+use Rattle.model.specs.Survey.{Graph, neighboursOf, ascending, Accepted}
+use Rattle.model.specs.Graph.{linked}
 use Rattle.model.specs.Reading.{named, Parsed, parse, graphOf, startsOf, neighboursFrom, readingOf, reading}
 use Rattle.model.specs.Writing.{textOf, Writing, writingOf, writing}
 use Rattle.model.specs.Demand.{IsRead, ReadRight}
@@ -51,7 +52,7 @@ named-below n (l ∷ ls) done f a b t = at (or-e (X || Y) (named ls a b) t) (λ 
     this u v s =
         let eu = eqb→eq (l .0) u (and-l (eqb (l .0) u) (eqb (l .1) v) s) in
         let ev = eqb→eq (l .1) v (and-r (eqb (l .0) u) (eqb (l .1) v) s) in
-        (subst (λ (k : ℕ). k < n) eu (g .below-a), subst (λ (k : ℕ). k < n) ev (g .below-b), λ e. g .apart (eu ∙ e ∙ sym ev))
+        (subst (λ (k : ℕ). k < n) eu (g .below-a), subst (λ (k : ℕ). k < n) ev (g .below-b), λ e. g .different (eu ∙ e ∙ sym ev))
 
     at : T (X || Y) ⊎ T (named ls a b) → (T (named ls a b) → (a < n) × (b < n) × (a ≡ b → ⊥)) → (a < n) × (b < n) × (a ≡ b → ⊥)
     at (inl s) rec = ⊎-elim (λ x. this a b x) (λ y. let r = this b a y in (r .1, r .0, λ e. r .2 (sym e))) (or-e X Y s)
@@ -101,7 +102,7 @@ module _ (n : ℕ) (ls : List (ℕ × ℕ)) (some-node : 1 ≤ n) (size : n ≤ 
       links = omega (arith, last);
       within = omega (arith, start n (omega arith), neighbours-length n (graphOf n ls), length-append (neighboursFrom n (graphOf n ls)) others);
       sorted = λ v h. subst (λ (l : List ℕ). T (ascending l)) (sym (own v h)) (keep-ascending (named ls v) n);
-      apart = λ v x h m e. named-below n ls [] f v x (own-named v x h m) .2 (sym e);
+      loopless = λ v x h m e. named-below n ls [] f v x (own-named v x h m) .2 (sym e);
       graph = record {
         below = λ v x h m. named-below n ls [] f v x (own-named v x h m) .1;
         symmetric = λ v x h m. named-own x v (subst T (named-sym ls v x) (own-named v x h m));
@@ -288,7 +289,7 @@ row-fresh n a k (y ∷ l) done ks ha asc b less next =
       record {
         below-a = ha;
         below-b = c .1;
-        apart = λ e. omega (arith, c .0);
+        different = λ e. omega (arith, c .0);
         new = no-false (named done a y) (λ t. ⊎-elim (λ x. omega arith) (λ x. omega (arith, x .1, c .2)) (less a y t (c .0)));
       },
       row-fresh n a (suc y) l ((a, y) ∷ done) ks ha (ascending-tail y l asc)
@@ -364,7 +365,7 @@ module _ (n : ℕ) (starts′ neighbours′ : List ℕ) (acc : Accepted n starts
       ⊎-elim
       (λ l. up-named v x hv l m)
       (λ l.
-      let d : x ≡ v → ⊥ = acc .lists .apart v x hv m in
+      let d : x ≡ v → ⊥ = acc .lists .loopless v x hv m in
       subst T (named-sym ls x v) (up-named x v (acc .lists .graph .below v x hv m) (omega arith) (acc .lists .graph .symmetric v x hv m)))
       (lt-or v x)
 

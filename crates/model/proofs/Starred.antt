@@ -14,11 +14,11 @@ use Rattle.model.specs.Answers.{Outcome, refused, answered}
 use Rattle.model.specs.Basics.{none, from, upTo, has, any, all, keep, firstOf, gather, same, over}
 use Rattle.model.specs.Numbers.{isDigit, isNumber, valueFrom, valueOf, digitsWithin, digits}
 use Rattle.model.specs.SurveyText.{onFirst, split, onFront, cut, twoNumbers, withRest, lineIn, line, lineOf, linkLines, surveyText}
-use Rattle.model.specs.Survey.{Graph, neighboursOf, linked, ascending, badSize, isSurvey, accepting}
+use Rattle.model.specs.Survey.{Graph, neighboursOf, ascending, badSize, isSurvey, accepting}
 use Rattle.model.specs.Threshold.{bitLength, threshold}
-use Rattle.model.specs.Hubs.{isHigh, isLow, closed, gain, best, greedy, hubs, hubList}
-use Rattle.model.specs.Graph.{reach, fewest}
-use Rattle.model.specs.Tables.{table, entry, fullTable, lowLinks, lowTable, sum, via, reportTable}
+use Rattle.model.specs.Hubs.{isHigh, isLow, closed, gain, best, greedy, hubs}
+use Rattle.model.specs.Graph.{reach, fewest, linked}
+use Rattle.model.specs.Tables.{table, entry, fullTable, lowLinks, lowTable, sum, via, reportTable, hubList}
 use Rattle.model.specs.Pair.{taken, attaining, choose, pairBy, pair}
 use Rattle.model.specs.Walk.{before, next, steps, byLow, toHub, join, nodes}
 use Rattle.model.specs.TwoOrFour.{sources, verdictOf, tested}

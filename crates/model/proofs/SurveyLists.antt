@@ -13,7 +13,8 @@ use lib.ListN.{length, getD, take, drop, length-append, length-take, List·getD-
 use lib.Seq.{take-nil, take-at, drop-at, take-take, take-add, getD-take, ext-getD}
 use Rattle.model.specs.Answers.{refused, answered}
 use Rattle.model.specs.Basics.{if_then_else_, from, upTo, has, gather}
-use Rattle.model.specs.Survey.{Graph, neighboursOf, linked, ascending, isSurvey, badSize, accepting, IsSurvey, Accepted}
+use Rattle.model.specs.Survey.{Graph, neighboursOf, ascending, isSurvey, badSize, accepting, IsSurvey, Accepted}
+use Rattle.model.specs.Graph.{linked}
 use Rattle.model.specs.Reading.{startsOf, neighboursFrom}
 use Rattle.model.proofs.Tests.{same-test}
 use Rattle.model.proofs.Lists.{gather-append, gather-same, gather-suc, from-split, of-upTo}
@@ -184,7 +185,7 @@ module _ (n : ℕ) (starts neighbours starts′ neighbours′ : List ℕ) (e : A
         links = subst (λ (k : ℕ). k / 2 ≤ 16384) last (s .links);
         within = omega (arith, last, s .within, length-take (getD starts n 0) neighbours, length-take (getD starts n 0) neighbours′, ap length (e .neighbours-used));
         sorted = λ v h. subst (λ (l : List ℕ). T (ascending l)) (past-own′ s v h) (s .sorted v h);
-        apart = λ v x h m. s .apart v x h (there v x h m);
+        loopless = λ v x h m. s .loopless v x h (there v x h m);
         graph = record {
           below = λ v x h m. s .graph .below v x h (there v x h m);
           symmetric = λ v x h m. let t = there v x h m in subst (λ (l : List ℕ). T (has v l)) (past-own′ s x (s .graph .below v x h t)) (s .graph .symmetric v x h t);

@@ -133,7 +133,7 @@ module _ (n : ℕ) (done : List (ℕ × ℕ)) (l : ℕ × ℕ) (f : Fresh n (nam
 
   not-both : (u v : ℕ) → T (there u v) → T (back u v) → ⊥
   unfolding there back
-  not-both u v s t = let e = ends u v s in let g = ends v u t in f .apart (e .0 ∙ sym (g .1))
+  not-both u v s t = let e = ends u v s in let g = ends v u t in f .different (e .0 ∙ sym (g .1))
 
   -- a new link makes two pairs more
   count-more : count (named (l ∷ done)) n ≡ count (named done) n + 2

@@ -14,8 +14,8 @@ use lib.ListN.{length}
 use Rattle.model.specs.declared.Verdict.{Verdict}
 use Rattle.model.specs.declared.Verdict.the-variants.{Parted, Long, Short}
 use Rattle.model.specs.Basics.{none, if_then_else_, has, any, upTo}
-use Rattle.model.specs.Graph.{Edges, Chain, Unjoined, link, Fewest, fewest}
-use Rattle.model.specs.Survey.{Graph, neighboursOf, linked, IsGraph, Accepted}
+use Rattle.model.specs.Graph.{Edges, Chain, Unjoined, link, Fewest, fewest, linked}
+use Rattle.model.specs.Survey.{Graph, neighboursOf, IsGraph, Accepted}
 use Rattle.model.specs.Hubs.{isHigh, isLow, closed, hubs}
 use Rattle.model.specs.TwoOrFour.{sources, verdictOf, tested}
 use Rattle.model.specs.Demand.{VerdictRight}
@@ -216,5 +216,5 @@ unfolding closed
 sources-distinct n s starts neighbours acc = at (source-cases n s (neighboursOf starts neighbours) (acc .lists .graph) (acc .size))
   where
     at : {hs : List ℕ} → Sources n s (neighboursOf starts neighbours) (acc .lists .graph) (acc .size) hs → distinct hs
-    at (round v b t l) = (λ m. acc .lists .apart v v b m refl, ascending-distinct (neighboursOf starts neighbours v) (acc .lists .sorted v b))
+    at (round v b t l) = (λ m. acc .lists .loopless v v b m refl, ascending-distinct (neighboursOf starts neighbours v) (acc .lists .sorted v b))
     at (covers f) = hubs-distinct n (neighboursOf starts neighbours) s

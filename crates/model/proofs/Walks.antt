@@ -16,8 +16,8 @@ use Rattle.model.specs.declared.Route.the-variants.{Itself, Low, Through
 use Rattle.model.specs.declared.Answer.{Answer}
 use Rattle.model.specs.Answers.{Outcome, refused, answered}
 use Rattle.model.specs.Basics.{none, if_then_else_, has, keep, upTo, firstOf}
-use Rattle.model.specs.Graph.{Edges, Walked, stop, go}
-use Rattle.model.specs.Survey.{Graph, linked, IsGraph}
+use Rattle.model.specs.Graph.{Edges, Walked, stop, go, linked}
+use Rattle.model.specs.Survey.{Graph, IsGraph}
 use Rattle.model.specs.Hubs.{isLow}
 use Rattle.model.specs.Tables.{entry, via}
 use Rattle.model.specs.Pair.{answer, attaining, choose, pairBy}

@@ -10,8 +10,8 @@ use Rattle.model.specs.Answers.{Outcome, refused, answered, countAnswer}
 use Rattle.model.specs.Basics.{if_then_else_, over}
 use Rattle.model.specs.Survey.{Graph, neighboursOf, badSize, isSurvey}
 use Rattle.model.specs.Threshold.{threshold}
-use Rattle.model.specs.Hubs.{hubs, hubList}
-use Rattle.model.specs.Tables.{shortTables, fullTable, lowTable, reportTable}
+use Rattle.model.specs.Hubs.{hubs}
+use Rattle.model.specs.Tables.{shortTables, fullTable, lowTable, reportTable, hubList}
 
 pub record Building : Type 0 where
   pub answer : Outcome ℕ
@@ -38,7 +38,8 @@ built n s G full low report list = record {
 abbrev pub shortLists : (n starts full low report list : ℕ) → Bool
 shortLists n starts full low report list = ltb starts (n + 1) || shortTables n full low report || ltb list n
 
--- "2 as above; 8 ..; 9 the lists are not a survey's as described .. Refused, nothing is altered"
+-- "2 as above; 8 ..; 9 the lists are not a survey's as described (a neighbour list shorter than the last start included), or m, half the
+-- last start, is above 16,384. Refused, nothing is altered"
 unfoldable pub building : (n : ℕ) (starts neighbours full low report list : List ℕ) → Building
 building n starts neighbours full low report list =
     let refuse : ℕ → Building = λ r. record { answer = refused r; full = full; low = low; report = report; hubs = list } in

@@ -3,30 +3,41 @@
 use mathlib.Core.Bool.{Bool, _&&_, _||_}
 use mathlib.Core.List.{List, [], _∷_}
 use Prim.Native.Nat.{ℕ, zero, suc, _≤_}
-use lib.Dec.{T}
+use lib.Dec.{T, ltb}
 use Rattle.model.specs.Basics.{none, upTo, has, any, keep, firstOf}
+use Rattle.model.specs.Survey.{Graph}
 
 -- the links taken: E a b where a and b are linked
 abbrev pub Edges : Type 0
 Edges = ℕ → ℕ → Bool
 
+-- "Two nodes are linked if each is among the other's own neighbours": an edge. "Links are undirected and unweighted." Nodes are numbered
+-- 0 to n - 1
+unfoldable pub linked : ℕ → Graph → Edges
+linked n G a b = ltb a n && ltb b n && has b (G a) && has a (G b)
+
 -- the links whose two ends pass a test (an induced subgraph)
 abbrev pub between : (ℕ → Bool) → Edges → Edges
 between p E a b = p a && p b && E a b
 
--- "A chain is a list of one or more nodes, each linked to the next. It joins its first node and its last": Chain E k a b is
--- one of k links that joins a and b
+-- "A chain is a list of one or more nodes, each linked to the next. It joins its first node and its last": a walk in the graph.
+-- Chain E k a b is one of k links that joins a and b
 pub data Chain (E : Edges) : ℕ → ℕ → ℕ → Type 0 where
   here : {a : ℕ} → Chain E 0 a a
   link : {k a b c : ℕ} → T (E a b) → Chain E k b c → Chain E (suc k) a c
 
--- no chain joins a and b
+-- no chain joins a and b: they are not connected
 abbrev pub Unjoined : Edges → ℕ → ℕ → Type 0
 Unjoined E a b = (k : ℕ) → Chain E k a b → ⊥
 
--- "The fewest links of two nodes is the least number of links in a chain that joins them"
+-- "The fewest links of two nodes is the least number of links in a chain that joins them; they are that many links apart": their
+-- distance
 abbrev pub Fewest : Edges → ℕ → ℕ → ℕ → Type 0
 Fewest E a b d = Chain E d a b × ((k : ℕ) → Chain E k a b → d ≤ k)
+
+-- ".. and within two if it is at most 2"
+abbrev pub WithinTwo : Edges → ℕ → ℕ → Type 0
+WithinTwo E a b = (d : ℕ) × (d ≤ 2) × Fewest E a b d
 
 -- a chain as the list of its nodes: a first, b last, each linked to the next. It "has one link fewer than nodes, so a node alone is a
 -- chain of no links" (`walked-chain` and `chain-walked` of proofs/Chains.antt)

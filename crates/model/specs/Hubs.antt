@@ -1,10 +1,10 @@
 -- Low and high nodes, and the hubs: a dominating set of the high nodes, chosen greedily. n nodes, threshold s, neighbours G.
 -- Assumes nothing.
 use mathlib.Core.Bool.{Bool, not}
-use mathlib.Core.List.{List, [], _∷_, _++_}
-use Prim.Native.Nat.{ℕ, zero, suc, _-_}
+use mathlib.Core.List.{List, [], _∷_}
+use Prim.Native.Nat.{ℕ, zero, suc}
 use lib.Dec.{leb}
-use lib.ListN.{length, replicate}
+use lib.ListN.{length}
 use Rattle.model.specs.Basics.{none, upTo, has, all, keep, firstOf}
 use Rattle.model.specs.Survey.{Graph}
 
@@ -39,7 +39,3 @@ greedy n G (suc turns) (u ∷ U) =
 -- the hubs in the order chosen: a dominating set of the high nodes
 unfoldable pub hubs : ℕ → ℕ → Graph → List ℕ
 hubs n s G = let U = keep (isHigh s G) (upTo n) in greedy n G (length U) U
-
--- "The hub list has n entries of 16 bits: hubs in the order chosen, then none."
-unfoldable pub hubList : ℕ → ℕ → Graph → List ℕ
-hubList n s G = let hs = hubs n s G in hs ++ replicate (n - length hs) none

@@ -16,6 +16,7 @@ use Rattle.model.specs.Threshold.{threshold}
 use Rattle.model.specs.Hubs.{hubs}
 use Rattle.model.specs.Tables.{fullTable, lowTable, reportTable}
 use Rattle.model.specs.Pair.{pair}
+use Rattle.model.specs.Writing.{Writing, writingOf}
 use Rattle.model.specs.Reading.{Parsed, parse, graphOf}
 
 -- "the report (`-` for none) and the route (`low`, a hub's number, or `-`)"; `low` is 108 111 119. No pair a < b is one node
@@ -53,6 +54,11 @@ unfoldable pub listingText : Outcome Parsed → List ℕ
 listingText (refused k) = 88 ∷ 44 ∷ (digits k ++ 10 ∷ [])
 listingText (answered x) = listingOf (x .nodes) (graphOf (x .nodes) (x .links))
 
--- "It takes up to 128 nodes and 2,048 links", for which it has lists that are long enough
+-- "It takes up to 128 nodes and 2,048 links", for which it has lists that are long enough; "(2 and 3 for its own limits, in their places
+-- on the first line)"
 unfoldable pub listing : List ℕ → List ℕ
 listing text = listingText (parse 128 2048 (128 + 1) (2 * 2048) text)
+
+-- the call that writes the listing into a lent buffer, as writing back does
+abbrev pub writingListing : (text buffer : List ℕ) → Writing
+writingListing text buffer = writingOf (answered tt) (listing text) buffer

@@ -13,6 +13,16 @@ use Rattle.model.specs.Basics.{if_then_else_, upTo, keep, gather, over}
 use Rattle.model.specs.SurveyText.{line}
 use Rattle.model.specs.Survey.{Graph, outside}
 
+-- "First line: 1 not in the stated form; 2 n outside 1 to 1,024; 3 m above 16,384; 8 `starts` shorter than n + 1 or `neighbours`
+-- shorter than 2m.": n, m and the text behind the line. The limits, and the lengths p and q of the two lists, are parameters
+unfoldable pub countsOf : (mostNodes mostLinks p q : ℕ) → Option (ℕ × ℕ × List ℕ) → Outcome (ℕ × ℕ × List ℕ)
+countsOf mostNodes mostLinks p q missing = refused 1
+countsOf mostNodes mostLinks p q (some f) =
+    if outside mostNodes (f .0) then refused 2
+    else if ltb mostLinks (f .1) then refused 3
+    else if ltb p (f .0 + 1) || ltb q (2 * f .1) then refused 8
+    else answered f
+
 -- "Links may come in any order, ends either way round.": the link is one of these
 unfoldable pub named : List (ℕ × ℕ) → ℕ → ℕ → Bool
 named [] a b = false
@@ -51,16 +61,7 @@ pub record Parsed : Type 0 where
 unfoldable pub parsed : ℕ → Outcome (List (ℕ × ℕ)) → Outcome Parsed
 parsed n o = mapAnswer (λ ls. record { nodes = n; links = ls }) o
 
--- "First line: 1 not in the stated form; 2 n outside 1 to 1,024; 3 m above 16,384; 8 `starts` shorter than n + 1 or `neighbours`
--- shorter than 2m.": n, m and the text behind the line. The limits, and the lengths p and q of the two lists, are parameters
-unfoldable pub countsOf : (mostNodes mostLinks p q : ℕ) → Option (ℕ × ℕ × List ℕ) → Outcome (ℕ × ℕ × List ℕ)
-countsOf mostNodes mostLinks p q missing = refused 1
-countsOf mostNodes mostLinks p q (some f) =
-    if outside mostNodes (f .0) then refused 2
-    else if ltb mostLinks (f .1) then refused 3
-    else if ltb p (f .0 + 1) || ltb q (2 * f .1) then refused 8
-    else answered f
-
+-- the whole text: the first line, and then its links
 unfoldable pub parseLinks : Outcome (ℕ × ℕ × List ℕ) → Outcome Parsed
 parseLinks o = andThen o (λ f. parsed (f .0) (readLinks (f .0) (f .1) [] (f .2)))
 

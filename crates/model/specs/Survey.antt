@@ -13,13 +13,9 @@ use Rattle.model.specs.Basics.{if_then_else_, upTo, has, all}
 abbrev pub Graph : Type 0
 Graph = ℕ → List ℕ
 
--- "node v's own are those from starts[v] up to but excluding starts[v+1]"
+-- "node v's own are those from starts[v] up to but excluding starts[v+1]": its adjacency list
 unfoldable pub neighboursOf : List ℕ → List ℕ → Graph
 neighboursOf starts neighbours v = take (getD starts (v + 1) 0 - getD starts v 0) (drop (getD starts v 0) neighbours)
-
--- "Two nodes are linked if each is among the other's own neighbours": an edge. Nodes are numbered 0 to n - 1
-unfoldable pub linked : ℕ → Graph → ℕ → ℕ → Bool
-linked n G a b = ltb a n && ltb b n && has b (G a) && has a (G b)
 
 -- "strictly ascending"
 unfoldable pub ascending : List ℕ → Bool
@@ -28,7 +24,8 @@ ascending (x ∷ []) = true
 ascending (x ∷ y ∷ ys) = ltb x y && ascending (y ∷ ys)
 
 -- "`starts` .. has n + 1 entries, the first 0, never falling, the last 2m. `neighbours` .. has 2m entries; .. strictly ascending, never
--- v, and b stands at a exactly when a stands at b.", with m at most 16,384. The last start is even, since it is 2m
+-- v, and b stands at a exactly when a stands at b.", with m at most 16,384, and with "a neighbour list
+-- shorter than the last start" refused. The last start is even, since it is 2m
 unfoldable pub isSurvey : ℕ → List ℕ → List ℕ → Bool
 isSurvey n starts neighbours =
     let G : Graph = neighboursOf starts neighbours in
@@ -56,7 +53,7 @@ accepting n starts neighbours =
     else if not (isSurvey n starts neighbours) then refused 9
     else answered tt
 
--- "A survey is accepted if building's 2 and 9, and its 8 for `starts`, don't apply to n and the two lists"
+-- "A survey is accepted if building's 2 and 9, and its 8 for `starts`, don't apply to n and the two lists": it is valid
 unfoldable pub accepted : ℕ → List ℕ → List ℕ → Bool
 accepted n starts neighbours = isAnswered (accepting n starts neighbours)
 
@@ -74,7 +71,7 @@ pub record IsSurvey (n : ℕ) (starts neighbours : List ℕ) : Type 0 where
   pub links : getD starts n 0 / 2 ≤ 16384
   pub within : getD starts n 0 ≤ length neighbours
   pub sorted : (v : ℕ) → v < n → T (ascending (neighboursOf starts neighbours v))
-  pub apart : (v x : ℕ) → v < n → T (has x (neighboursOf starts neighbours v)) → (x ≡ v → ⊥)
+  pub loopless : (v x : ℕ) → v < n → T (has x (neighboursOf starts neighbours v)) → (x ≡ v → ⊥)
   pub graph : IsGraph n (neighboursOf starts neighbours)
 
 pub record Accepted (n : ℕ) (starts neighbours : List ℕ) : Type 0 where

@@ -1,18 +1,17 @@
--- The tables: n * n entries, row by row. Full holds the distances from the dominating set, Low those in the subgraph of the low
--- nodes, Report the estimated distances.
+-- The tables, and the hub list that goes with them.
 -- Assumes nothing.
 use mathlib.Core.Path.{_≡_}
 use mathlib.Core.Bool.{Bool, _&&_, _||_}
-use mathlib.Core.List.{List, map, foldr}
-use Prim.Native.Nat.{ℕ, _+_, _*_, min}
+use mathlib.Core.List.{List, _++_, map, foldr}
+use Prim.Native.Nat.{ℕ, _+_, _-_, _*_, min}
 use lib.Dec.{eqb, ltb}
-use lib.ListN.{getD, take}
+use lib.ListN.{length, getD, take, replicate}
 use Rattle.model.specs.Basics.{none, if_then_else_, upTo, has, gather}
-use Rattle.model.specs.Graph.{Edges, between, fewest}
-use Rattle.model.specs.Survey.{Graph, linked}
-use Rattle.model.specs.Hubs.{isLow, hubs, hubList}
+use Rattle.model.specs.Graph.{Edges, between, fewest, linked}
+use Rattle.model.specs.Survey.{Graph}
+use Rattle.model.specs.Hubs.{isLow, hubs}
 
--- f a b for all nodes a and b, row by row; and the entry (a, b) of a table
+-- "Tables of n × n 16-bit entries, row by row": f a b for all nodes a and b; and the entry (a, b) of a table
 unfoldable pub table : ℕ → (ℕ → ℕ → ℕ) → List ℕ
 table n f = gather (λ a. map (f a) (upTo n)) (upTo n)
 
@@ -23,7 +22,8 @@ entry n t a b = getD t (a * n + b) 0
 abbrev pub shortTables : ℕ → (full low report : ℕ) → Bool
 shortTables n full low report = ltb full (n * n) || ltb low (n * n) || ltb report (n * n)
 
--- "row h is the fewest links from h to each node if h is a hub; every other row is all none"
+-- Full (the distances from the dominating set): "row h is the fewest links from h to each node if h is a hub; every other row is all
+-- none"
 abbrev pub fullEntry : ℕ → Graph → (hs : List ℕ) → ℕ → ℕ → ℕ
 fullEntry n G hs h b = if has h hs then fewest (linked n G) n h b else none
 
@@ -37,7 +37,8 @@ fullTable n s G = fullOf n G (hubs n s G)
 unfoldable pub lowLinks : ℕ → ℕ → Graph → Edges
 lowLinks n s G = between (isLow s G) (linked n G)
 
--- "entry (a, b) is the fewest links using low nodes only, if both are low and so joined; else none"
+-- Low (the distances in the subgraph of the low nodes): "entry (a, b) is the fewest links using low nodes only, if both are low and so
+-- joined; else none"
 abbrev pub lowEntry : ℕ → ℕ → Graph → ℕ → ℕ → ℕ
 lowEntry n s G a b = if isLow s G a && isLow s G b then fewest (lowLinks n s G) n a b else none
 
@@ -56,8 +57,8 @@ via n full a b h = sum (entry n full h a) (entry n full h b)
 abbrev pub least : (ℕ → ℕ) → ℕ → List ℕ → ℕ
 least f x hs = foldr (λ h y. min (f h) y) x hs
 
--- "0 where a = b. Otherwise the least of Low(a, b) and, over all hubs h, Full(h, a) + Full(h, b), leaving out candidates with a
--- none; none if nothing is left." "Linked nodes get no special case." (None is above every sum.)
+-- Report (the estimated distances): "0 where a = b. Otherwise the least of Low(a, b) and, over all hubs h, Full(h, a) + Full(h, b),
+-- leaving out candidates with a none; none if nothing is left." "Linked nodes get no special case." (None is above every sum.)
 abbrev pub reportEntry : ℕ → (full low hs : List ℕ) → ℕ → ℕ → ℕ
 reportEntry n full low hs a b = if eqb a b then 0 else least (via n full a b) (entry n low a b) hs
 
@@ -66,6 +67,10 @@ reportOf n full low hs = table n (reportEntry n full low hs)
 
 unfoldable pub reportTable : ℕ → ℕ → Graph → List ℕ
 reportTable n s G = reportOf n (fullTable n s G) (lowTable n s G) (hubs n s G)
+
+-- "The hub list has n entries of 16 bits: hubs in the order chosen, then none."
+unfoldable pub hubList : ℕ → ℕ → Graph → List ℕ
+hubList n s G = let hs = hubs n s G in hs ++ replicate (n - length hs) none
 
 -- "Its tables are the ones built from it if their first n × n entries .. are those that the rules above give"
 pub record AreBuilt (n s : ℕ) (G : Graph) (full low report : List ℕ) : Type 0 where

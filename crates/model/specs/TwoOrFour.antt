@@ -8,8 +8,8 @@ use Rattle.model.specs.declared.Verdict.{Verdict}
 use Rattle.model.specs.declared.Verdict.the-variants.{Parted, Long, Short}
 use Rattle.model.specs.declared.Tested.{Tested}
 use Rattle.model.specs.Basics.{none, if_then_else_, upTo, any, firstOf}
-use Rattle.model.specs.Graph.{fewest}
-use Rattle.model.specs.Survey.{Graph, linked}
+use Rattle.model.specs.Graph.{fewest, linked}
+use Rattle.model.specs.Survey.{Graph}
 use Rattle.model.specs.Hubs.{isLow, closed, hubs}
 
 -- "If there is a low node, take the smallest-numbered, and search the whole mesh from it and each of its neighbours. If there is

@@ -1,4 +1,5 @@
--- "A walk lists report + 1 nodes." "A walk may visit a node twice." (it is no path). The nodes of a walk, by a route.
+-- "A walk lists report + 1 nodes." (`walking-sound` and `walking-short` of proofs/Demand.antt) "A walk may visit a node twice." (it is
+-- no path). The nodes of a walk, by a route.
 -- Assumes nothing.
 use mathlib.Core.Bool.{Bool, true, _&&_}
 use mathlib.Core.List.{List, [], _∷_, _++_, reverse, tail}
@@ -44,7 +45,7 @@ join missing q = missing
 join (some p) missing = missing
 join (some p) (some q) = some (p ++ tail (reverse q))
 
--- the nodes of the walk by a route, in graph G with threshold s
+-- the nodes of the walk by a route, in graph G with threshold s; there are none where there is no route, so that the list is all none
 unfoldable pub nodes : ℕ → ℕ → Graph → List ℕ → List ℕ → (a b : ℕ) → Route → Option (List ℕ)
 nodes n s G full low a b Itself = some (a ∷ [])
 nodes n s G full low a b Low = byLow n s G low a b

@@ -29,7 +29,8 @@ walked r w = record { answer = pairAnswer r; walk = w }
 unfoldable pub refuseWalk : ℕ → ℕ → Walking
 refuseWalk w k = record { answer = refused k; walk = replicate w none }
 
--- "11 .. no step leads on, or the steps end at the wrong node; 8 the walk list shorter than report + 1"
+-- "11 .. no step leads on, or the steps end at the wrong node; 8 the walk list shorter than report + 1": l has report + 1 nodes, or none
+-- where there is no route (`walking-short` of proofs/Demand.antt)
 unfoldable pub fit : ℕ → Answer → Option (List ℕ) → Walking
 fit w x missing = refuseWalk w 11
 fit w x (some l) =

@@ -8,7 +8,8 @@ use lib.Dec.{leb}
 use lib.ListN.{length}
 use Rattle.model.specs.declared.Answer.{Answer}
 use Rattle.model.specs.Answers.{Outcome, refused}
-use Rattle.model.specs.Survey.{neighboursOf, linked, badSize, Accepted}
+use Rattle.model.specs.Survey.{neighboursOf, badSize, Accepted}
+use Rattle.model.specs.Graph.{linked}
 use Rattle.model.specs.Threshold.{threshold}
 use Rattle.model.specs.Tables.{shortTables, AreBuilt}
 use Rattle.model.specs.Pair.{pair}

@@ -12,8 +12,8 @@ use lib.Dec.{T, eqb}
 use lib.ListN.{length, getD, set, replicate, length-set, length-replicate, getD-replicate}
 use lib.Seq.{getD-set-same, getD-set-other}
 use Rattle.model.specs.Basics.{none, upTo, has}
-use Rattle.model.specs.Graph.{Edges, between, Chain, here, link, fewest}
-use Rattle.model.specs.Survey.{Graph, linked, IsGraph}
+use Rattle.model.specs.Graph.{Edges, between, Chain, here, link, fewest, linked}
+use Rattle.model.specs.Survey.{Graph, IsGraph}
 use Rattle.model.proofs.Tests.{and-l, and-r, and-i, eq-or, true-T}
 use Rattle.model.proofs.Acceptance.{linked-has, linked-of, linked-ends}
 use Rattle.search.specs.Visiting.{Progress, progress, visitedAll, Unvisited}

@@ -8,8 +8,8 @@ ghost use lib.Dec.{T};
 ghost use lib.ListN.{length, replicate, set};
 ghost use Rattle.lists.specs.Writing.{written};
 ghost use Rattle.model.specs.Basics.{none, upTo, has};
-ghost use Rattle.model.specs.Graph.{between, fewest};
-ghost use Rattle.model.specs.Survey.{neighboursOf, linked, Accepted};
+ghost use Rattle.model.specs.Graph.{between, fewest, linked};
+ghost use Rattle.model.specs.Survey.{neighboursOf, Accepted};
 ghost use Rattle.nodeset.specs.NodeSet.{member};
 ghost use Rattle.search.specs.Visiting.{unreached, progress, visited, visitedAll, Unvisited};
 

@@ -291,7 +291,7 @@ module _ (n : ℕ) (starts neighbours : List ℕ) (ok : Rows n starts neighbours
         larger : v < x
         larger = ⊎-elim
             (λ l. let f = front x (has-append x (met cs₀ v) done (u .into v x (omega arith) hv l (s .graph .symmetric v x hv mine))) in absurd (omega arith))
-            (λ l. let d = s .apart v x hv mine in omega arith)
+            (λ l. let d = s .loopless v x hv mine in omega arith)
             (lt-or x v)
 
         next-above : b < x
@@ -450,7 +450,7 @@ module _ (n : ℕ) (starts neighbours : List ℕ) (ok : Rows n starts neighbours
     links = few;
     within = ok .within;
     sorted = u .sorted;
-    apart = λ v x h m. u .below v x h m .1;
+    loopless = λ v x h m. u .below v x h m .1;
     graph = record {
       below = λ v x h m. u .below v x h m .0;
       symmetric = λ v x h m. u .back v x h m (u .below v x h m .0);

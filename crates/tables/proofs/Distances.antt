@@ -12,8 +12,8 @@ use lib.ListN.{length, getD, take, drop, replicate, length-append, length-drop, 
 use lib.Seq.{take-suc, take-all, drop-at, length-take-le}
 use Rattle.lists.specs.Writing.{written}
 use Rattle.model.specs.Basics.{none, if_then_else_, upTo, has, over}
-use Rattle.model.specs.Graph.{Edges, between, Unjoined, fewest}
-use Rattle.model.specs.Survey.{Graph, linked, IsGraph}
+use Rattle.model.specs.Graph.{Edges, between, Unjoined, fewest, linked}
+use Rattle.model.specs.Survey.{Graph, IsGraph}
 use Rattle.model.specs.Hubs.{isLow}
 use Rattle.model.specs.Tables.{fullEntry, fullOf, lowLinks, lowEntry}
 use Rattle.model.proofs.Chains.{split-last, chain-zero, fewest-missing}

@@ -14,8 +14,8 @@ use Rattle.model.specs.Answers.{answered}
 use Rattle.model.specs.Basics.{over}
 use Rattle.model.specs.Survey.{Graph, neighboursOf, badSize, isSurvey, Accepted}
 use Rattle.model.specs.Threshold.{threshold}
-use Rattle.model.specs.Hubs.{hubs, hubList}
-use Rattle.model.specs.Tables.{shortTables, fullOf, fullTable, lowTable, reportOf, reportTable}
+use Rattle.model.specs.Hubs.{hubs}
+use Rattle.model.specs.Tables.{shortTables, fullOf, fullTable, lowTable, reportOf, reportTable, hubList}
 use Rattle.model.specs.Building.{shortLists, built, building, returned}
 use Rattle.model.proofs.Acceptance.{good-size, survey-facts}
 use Rattle.model.proofs.Covering.{hubs-below}

@@ -14,11 +14,11 @@ use Rattle.lists.specs.Writing.{Wrote, written}
 use Rattle.model.specs.Basics.{none, if_then_else_, upTo, any, firstOf, gather}
 use Rattle.model.specs.declared.Verdict.{Verdict}
 use Rattle.model.specs.declared.Verdict.the-variants.{Parted, Long, Short}
-use Rattle.model.specs.Graph.{Edges, between, fewest}
+use Rattle.model.specs.Graph.{Edges, between, fewest, linked}
 use Rattle.model.specs.declared.Refusal.{Refusal}
 use Rattle.model.specs.declared.Tested.{Tested}
 use Rattle.model.specs.Answers.{Outcome, refused, answered, number, mapAnswer}
-use Rattle.model.specs.Survey.{Graph, neighboursOf, linked, accepting, Accepted, IsGraph}
+use Rattle.model.specs.Survey.{Graph, neighboursOf, accepting, Accepted, IsGraph}
 use Rattle.model.specs.Threshold.{threshold}
 use Rattle.model.specs.Testing.{testing}
 use Rattle.model.specs.Demand.{RightVerdict}

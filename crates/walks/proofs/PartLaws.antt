@@ -11,8 +11,8 @@ use native.Mathlib.Omega.{arith}
 use borrow.Author.Tests.{lt-leb}
 use lib.ListN.{length, getD, take, drop, length-drop}
 use lib.Seq.{take-all, getD-drop}
-use Rattle.model.specs.Graph.{Edges}
-use Rattle.model.specs.Survey.{Graph, neighboursOf, linked, Accepted}
+use Rattle.model.specs.Graph.{Edges, linked}
+use Rattle.model.specs.Survey.{Graph, neighboursOf, Accepted}
 use Rattle.model.specs.Threshold.{threshold}
 use Rattle.model.specs.Hubs.{isHigh, isLow}
 use Rattle.model.specs.Tables.{entry}

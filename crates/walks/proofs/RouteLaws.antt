@@ -11,7 +11,8 @@ use Rattle.model.specs.declared.Route.the-variants.{Itself, Low, Through, NoRou
 use Rattle.model.specs.declared.Answer.{Answer}
 use Rattle.model.specs.Answers.{Outcome, refused, answered}
 use Rattle.model.specs.Basics.{none, over}
-use Rattle.model.specs.Survey.{Graph, neighboursOf, linked, Accepted}
+use Rattle.model.specs.Survey.{Graph, neighboursOf, Accepted}
+use Rattle.model.specs.Graph.{linked}
 use Rattle.model.specs.Threshold.{threshold}
 use Rattle.model.specs.Tables.{AreBuilt}
 use Rattle.model.specs.Asking.{asking}

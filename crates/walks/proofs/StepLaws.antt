@@ -12,8 +12,8 @@ use lib.Dec.{eqb, ltb, leb}
 use lib.ListN.{length, take, drop, set, length-reverse}
 use lib.Seq.{set-split, drop-at, length-take-le, append-snoc}
 use Rattle.model.specs.Basics.{none, if_then_else_, over, firstOf}
-use Rattle.model.specs.Graph.{Edges}
-use Rattle.model.specs.Survey.{Graph, neighboursOf, linked, Accepted}
+use Rattle.model.specs.Graph.{Edges, linked}
+use Rattle.model.specs.Survey.{Graph, neighboursOf, Accepted}
 use Rattle.model.specs.Hubs.{isHigh, isLow}
 use Rattle.model.specs.Walk.{before, next, steps}
 use Rattle.model.proofs.Tests.{not-leb}

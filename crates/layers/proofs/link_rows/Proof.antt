@@ -6,8 +6,8 @@ use Prim.Native.Nat.{ℕ, _-_, _≤_}
 use native.Mathlib.Omega.{arith}
 use lib.Dec.{ltb}
 use lib.ListN.{length, length-replicate}
-use Rattle.model.specs.Graph.{between}
-use Rattle.model.specs.Survey.{neighboursOf, linked}
+use Rattle.model.specs.Graph.{between, linked}
+use Rattle.model.specs.Survey.{neighboursOf}
 use Rattle.nodeset.specs.NodeSet.{member}
 use Rattle.nodeset.specs.Matrix.{edgesIn}
 use Rattle.layers.proofs.Matrix.{rows-none, rows-next, rows-all}

@@ -7,8 +7,8 @@ use native.Mathlib.Omega.{arith}
 use lib.ListN.{length, replicate}
 use borrow.Author.Needs.{needs}
 use Rattle.model.specs.Basics.{none}
-use Rattle.model.specs.Graph.{between}
-use Rattle.model.specs.Survey.{neighboursOf, linked}
+use Rattle.model.specs.Graph.{between, linked}
+use Rattle.model.specs.Survey.{neighboursOf}
 use Rattle.nodeset.specs.NodeSet.{member}
 use Rattle.survey.proofs.RowLaws.{rows-of}
 use Rattle.search.specs.Visiting.{progress, Unvisited}

@@ -10,8 +10,8 @@ use lib.ListN.{length, getD, drop, length-replicate}
 use lib.Seq.{length-take-le}
 use Rattle.lists.specs.Writing.{written}
 use Rattle.model.specs.Basics.{upTo}
-use Rattle.model.specs.Graph.{between, fewest}
-use Rattle.model.specs.Survey.{neighboursOf, linked}
+use Rattle.model.specs.Graph.{between, fewest, linked}
+use Rattle.model.specs.Survey.{neighboursOf}
 use Rattle.model.proofs.Entries.{square-small}
 use Rattle.model.proofs.Ascending.{getD-has}
 use Rattle.nodeset.specs.NodeSet.{member}

@@ -7,8 +7,8 @@ use native.Mathlib.Omega.{arith}
 use lib.Dec.{T, lt→ltb}
 use lib.ListN.{length, getD, drop, length-replicate}
 use lib.Seq.{length-take-le}
-use Rattle.model.specs.Graph.{fewest}
-use Rattle.model.specs.Survey.{neighboursOf, linked}
+use Rattle.model.specs.Graph.{fewest, linked}
+use Rattle.model.specs.Survey.{neighboursOf}
 use Rattle.model.proofs.Ascending.{getD-has}
 use Rattle.nodeset.specs.NodeSet.{member}
 use Rattle.verdict.specs.Depth.{greatest, distances}
