@@ -13,7 +13,7 @@ use Rattle.model.specs.Survey.{neighboursOf}
 use Rattle.model.specs.Tables.{lowEntry, lowTable}
 use Rattle.nodeset.specs.NodeSet.{member}
 use Rattle.tables.proofs.TableRows.{rowsTo, rows-none, rows-next, rows-done, rows-length}
-use Rattle.tables.proofs.Distances.{lowEntry, low-whole, low-row-is, low-are}
+use Rattle.tables.proofs.Distances.{low-row-is}
 use borrow.Author.Needs.{needs}
 use Rattle.tables.proofs.fill_low.Statement.{statement}
 use Rattle.tables.proofs.fill_low.Tie as tie
