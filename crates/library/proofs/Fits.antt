@@ -11,7 +11,7 @@ use lib.ListN.{length, getD, length-append}
 use Rattle.model.specs.declared.Size.{Size}
 use Rattle.model.specs.declared.Tested.{Tested}
 use Rattle.model.specs.Answers.{Outcome, refused, answered, mapAnswer}
-use Rattle.model.specs.Basics.{gather, none, if_then_else_}
+use Rattle.model.specs.Basics.{gather}
 use Rattle.model.specs.SurveyText.{lineOf, linkLines, surveyText}
 use Rattle.model.specs.Survey.{Graph, neighboursOf, badSize, isSurvey, accepting, Accepted}
 use Rattle.model.specs.Threshold.{threshold, thresholdAnswer, bitLength}

@@ -12,7 +12,7 @@ use lib.Dec.{T, eqb, eqb→eq, eqb-refl, not-T}
 use Rattle.model.specs.Basics.{none, if_then_else_, has}
 use Rattle.model.specs.Graph.{Edges, between, Chain, here, link, Unjoined, Fewest, fewest, linked}
 use Rattle.model.specs.Survey.{Graph, IsGraph}
-use Rattle.model.specs.Hubs.{isHigh, isLow, hubs, closed}
+use Rattle.model.specs.Hubs.{isHigh, isLow, hubs}
 use Rattle.model.specs.Tables.{entry, fullTable, lowLinks, lowTable, sum, via, reportTable, least, reportEntry}
 use Rattle.model.specs.Demand.{Allowed}
 use Rattle.model.proofs.Tests.{and-i, passes}

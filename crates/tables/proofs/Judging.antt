@@ -3,7 +3,7 @@
 use mathlib.Core.Path.{_≡_, refl, sym, ap, ap₂, _∙_}
 use mathlib.Core.Bool.{Bool, true, false, not, _&&_, _||_}
 use mathlib.Core.List.{List}
-use Prim.Native.Nat.{ℕ, _+_, _*_, _≤_, _<_}
+use Prim.Native.Nat.{ℕ, _+_, _*_, _≤_}
 use native.Mathlib.Numerals.{add-one}
 use borrow.Author.Tests.{ltb-false}
 use lib.Dec.{ltb, leb, leb·suc-suc}
@@ -20,7 +20,7 @@ use Rattle.model.specs.Building.{shortLists, built, building, returned}
 use Rattle.model.proofs.Acceptance.{good-size, survey-facts}
 use Rattle.model.proofs.Covering.{hubs-below}
 use Rattle.model.proofs.Demand.{building-answers}
-use Rattle.model.proofs.Tests.{of-or-false, true-T, not-and, not-leb, not-ltb, lt-or}
+use Rattle.model.proofs.Tests.{of-or-false, true-T, not-and, not-leb, not-ltb}
 use Rattle.model.proofs.Entries.{of-long-tables}
 use Rattle.hubs.proofs.Greedy.{hubs-front}
 use Rattle.tables.proofs.Reports.{report-same}

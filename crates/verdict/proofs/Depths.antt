@@ -18,7 +18,7 @@ use Rattle.model.specs.Graph.{Edges, between, fewest, linked}
 use Rattle.model.specs.declared.Refusal.{Refusal}
 use Rattle.model.specs.declared.Tested.{Tested}
 use Rattle.model.specs.Answers.{Outcome, refused, answered, number, mapAnswer}
-use Rattle.model.specs.Survey.{Graph, neighboursOf, accepting, Accepted, IsGraph}
+use Rattle.model.specs.Survey.{Graph, neighboursOf, accepting, Accepted}
 use Rattle.model.specs.Threshold.{threshold}
 use Rattle.model.specs.Testing.{testing}
 use Rattle.model.specs.Demand.{RightVerdict}

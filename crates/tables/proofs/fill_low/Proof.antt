@@ -17,11 +17,6 @@ use Rattle.tables.proofs.Distances.{low-row-is}
 use borrow.Author.Needs.{needs}
 use Rattle.tables.proofs.fill_low.Statement.{statement}
 use Rattle.tables.proofs.fill_low.Tie as tie
-use Rattle.tables.proofs.fill_low.Reads as reads
-use Rattle.tables.proofs.fill_low.Lts as lts
-use Rattle.hubs.proofs.low_nodes.Reads as low-nodes-reads
-use Rattle.layers.proofs.link_rows.Reads as link-rows-reads
-use Rattle.tables.proofs.low_row.Reads as low-row-reads
 
 abbrev Inv-loop : tie.InvT-loop
 Inv-loop n s starts neighbours low₀ low-nodes rows a₀ low a = (a ≤ n) × (low ≡ rowsTo n (lowEntry n s (neighboursOf starts neighbours)) low₀ a)
