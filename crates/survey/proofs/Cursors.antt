@@ -18,7 +18,8 @@ use Rattle.model.proofs.Tests.{lt-or, eq-or}
 use Rattle.model.proofs.Lists.{has-head, has-tail, none-in, of-single, has-append, has-later, of-append, has-keep, of-keep, keep-same, keep-length}
 use Rattle.model.proofs.Ascending.{ascending-above, ascending-cons, ascending-tail, ascending-keep, keep-of-ascending, standing, ascending-front}
 use Rattle.survey.specs.Rows.{Rows}
-use Rattle.survey.specs.Matching.{stands, moved, left, Pass, pass, matchRow, matchRows}
+use Rattle.survey.specs.Matching.{stands}
+use Rattle.survey.proofs.Matching.{moved, left, Pass, pass, matchRow, matchRows}
 use Rattle.model.proofs.SurveyLists.{start-last}
 use Rattle.survey.proofs.RowLaws.{part, own-length}
 

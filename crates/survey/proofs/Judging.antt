@@ -14,7 +14,7 @@ use Rattle.model.proofs.Tests.{and-l, and-r, and-i, eq-T, T-true, true-T, no-fa
 use Rattle.model.proofs.Lists.{of-all, all-of, has-upTo, of-upTo}
 use Rattle.model.proofs.Acceptance.{survey-facts, survey-test}
 use Rattle.survey.specs.Rows.{Rows}
-use Rattle.survey.specs.Matching.{matchRows}
+use Rattle.survey.proofs.Matching.{matchRows}
 use Rattle.survey.proofs.Cursors.{Upto, upto-none, rows-right, all-met}
 
 module _ (n : ℕ) (starts neighbours : List ℕ) where

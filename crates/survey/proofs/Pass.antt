@@ -1,6 +1,6 @@
 -- One pass over a row and over all rows, step by step.
 -- Assumes nothing.
-use mathlib.Core.Path.{_≡_, sym, ap, ap₂, _∙_}
+use mathlib.Core.Path.{_≡_, refl, sym, ap, ap₂, _∙_}
 use mathlib.Core.Bool.{Bool, true, false, _&&_}
 use mathlib.Core.List.{List}
 use Prim.Native.Nat.{ℕ, suc, _+_, _-_, _≤_, _<_}
@@ -12,7 +12,8 @@ use lib.ListN.{length, getD, drop, set, drop-of-length-le}
 use Rattle.model.specs.Basics.{if_then_else_}
 use Rattle.model.proofs.Tests.{and-l, and-r, and-i, eq-T, same-test}
 use Rattle.model.proofs.Loops.{drop-next}
-use Rattle.survey.specs.Matching.{stands, moved, left, pass, Pass, matchRow, matchRows}
+use Rattle.survey.specs.Matching.{stands}
+use Rattle.survey.proofs.Matching.{moved, left, pass, Pass, matchRow, matchRows}
 
 -- bits collected: none is set where none was and the numbers are the same
 pub collected : (w e v : ℕ) → eqb (bitOr w (bitXor e v)) 0 ≡ (eqb w 0 && eqb e v)
@@ -93,8 +94,11 @@ module _ (starts neighbours : List ℕ) (n v : ℕ) (cs : List ℕ) where
     unfolding onward
     passed = through h ∙ ap onward (sym e) ∙ rw (le-ltb (getD starts (v + 1) 0) (getD cs v 0) inside)
 
-    pub rows-bad : good ≡ false → matchRows starts neighbours n (n - v) v cs ≡ pass false cs′
-    rows-bad g = passed ∙ rw g
-
     pub rows-next : good ≡ true → matchRows starts neighbours n (n - v) v cs ≡ matchRows starts neighbours n (n - (v + 1)) (v + 1) cs′
     rows-next g = passed ∙ rw g
+
+  pub rows-bad : v < n → getD cs v 0 ≤ getD starts (v + 1) 0
+      → matchRow neighbours (getD starts n 0) n v true v (left starts neighbours cs v) cs .good ≡ false
+      → matchRows starts neighbours n (n - v) v cs .good ≡ false
+  unfolding onward
+  rows-bad h inside g = ap (λ (p : Pass). p .good) (through h) ∙ rw (le-ltb (getD starts (v + 1) 0) (getD cs v 0) inside, g) refl

@@ -1,49 +1,23 @@
--- What one pass over the rows does to the cursors. A node's cursor is the place behind those of its smaller neighbours that have been met.
+-- One row of a survey, met with a cursor for each node: the place behind those of its smaller neighbours that have been met.
 -- Assumes nothing.
-use mathlib.Core.Bool.{Bool, true, false, _&&_}
-use mathlib.Core.List.{List, [], _∷_}
-use Prim.Native.Nat.{ℕ, zero, suc, _+_, _-_}
-use lib.Dec.{eqb, ltb, leb}
-use lib.ListN.{getD, set, take, drop}
-use Rattle.model.specs.Basics.{if_then_else_}
+use mathlib.Core.Path.{_≡_}
+use mathlib.Core.Bool.{Bool, _&&_}
+use mathlib.Core.List.{List, _∷_}
+use Prim.Native.Nat.{ℕ, _+_}
+use lib.Dec.{eqb, ltb}
+use lib.ListN.{getD}
+use Rattle.model.specs.Basics.{if_then_else_, has, all}
+use Rattle.model.specs.Survey.{ascending}
 
 -- v stands at x's cursor
 unfoldable pub stands : List ℕ → ℕ → ℕ → List ℕ → Bool
 stands neighbours v x cursors = eqb (getD neighbours (getD cursors x 0) 0) v
 
--- x's cursor moved on
-unfoldable pub moved : ℕ → List ℕ → List ℕ
-moved x cursors = set cursors x (getD cursors x 0 + 1)
+-- the nodes of a row ascend from v on and lie below n; each one's cursor is before the last start, and v stands there
+unfoldable pub rowFits : (neighbours : List ℕ) (last n v : ℕ) (row cursors : List ℕ) → Bool
+rowFits neighbours last n v row cursors =
+    ascending (v ∷ row) && all (λ x. ltb x n && ltb (getD cursors x 0) last && stands neighbours v x cursors) row
 
--- the entries of row v from its cursor on
-unfoldable pub left : List ℕ → List ℕ → List ℕ → ℕ → List ℕ
-left starts neighbours cursors v = take (getD starts (v + 1) 0 - getD cursors v 0) (drop (getD cursors v 0) neighbours)
-
--- whether all went well, and the cursors
-pub record Pass : Type 0 where
-  pub good : Bool
-  pub cursors : List ℕ
-
-abbrev pub pass : Bool → List ℕ → Pass
-pass g cs = record { good = g; cursors = cs }
-
--- entries of row v behind the entry `before`: they ascend and lie below n, and v must stand at each one's cursor, which moves on;
--- `good` is whether it stood at those before
-unfoldable pub matchRow : List ℕ → ℕ → ℕ → ℕ → Bool → ℕ → List ℕ → List ℕ → Pass
-matchRow neighbours last n v good before [] cursors = pass good cursors
-matchRow neighbours last n v good before (x ∷ xs) cursors =
-    let rest = matchRow neighbours last n v (good && stands neighbours v x cursors) x xs (moved x cursors) in
-    if leb x before then pass false cursors
-    else if leb n x then pass false cursors
-    else if leb last (getD cursors x 0) then pass false cursors
-    else rest
-
--- k rows from row v on, each from its cursor on
-unfoldable pub matchRows : List ℕ → List ℕ → ℕ → ℕ → ℕ → List ℕ → Pass
-matchRows starts neighbours n zero v cursors = pass true cursors
-matchRows starts neighbours n (suc k) v cursors =
-    let p = matchRow neighbours (getD starts n 0) n v true v (left starts neighbours cursors v) cursors in
-    let rest = matchRows starts neighbours n k (v + 1) (p .cursors) in
-    if ltb (getD starts (v + 1) 0) (getD cursors v 0) then pass false cursors
-    else if p .good then rest
-    else pass false (p .cursors)
+-- the cursors of a row's nodes have moved on by one, and no other
+abbrev pub Moved : (row cursors cursors′ : List ℕ) → Type 0
+Moved row cursors cursors′ = (x : ℕ) → getD cursors′ x 0 ≡ (if has x row then getD cursors x 0 + 1 else getD cursors x 0)

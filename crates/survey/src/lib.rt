@@ -10,7 +10,7 @@ ghost use Rattle.model.specs.Basics.{all, upTo};
 ghost use Rattle.model.specs.Answers.{acceptAnswer};
 ghost use Rattle.model.specs.Survey.{neighboursOf, isSurvey, accepting};
 ghost use Rattle.survey.specs.Rows.{Rows};
-ghost use Rattle.survey.specs.Matching.{pass, matchRow, matchRows};
+ghost use Rattle.survey.specs.Matching.{rowFits, Moved};
 
 // Node v's own neighbours, as a part of the neighbour list.
 pub fn own<'a>(n: usize, starts: &[u32], neighbours: &'a [u16], v: usize) -> &'a [u16]
@@ -45,7 +45,8 @@ fn match_row(
     cursors: &mut [u32],
 ) -> bool
     requires { ⌜ (n ≤ length (now cursors)) × (last ≤ 32768) × (last ≤ length (now neighbours)) ⌝ }
-    ensures { λ r. ⌜ pass r (now (cursors .exit)) ≡ matchRow (now (neighbours .entry)) last n v true v (now (row .entry)) (now (cursors .entry)) ⌝ }
+    ensures { λ r. ⌜ r ≡ rowFits (now (neighbours .entry)) last n v (now (row .entry)) (now (cursors .entry)) ⌝ }
+    ensures { λ r. ⌜ (r ≡ true → Moved (now (row .entry)) (now (cursors .entry)) (now (cursors .exit))) ⌝ }
 {
     let mut before = v;
     let mut wrong = 0;
@@ -70,10 +71,12 @@ fn match_row(
     wrong == 0
 }
 
-// Matches all rows, until one cannot be matched. Once the rows below v are, v's cursor is behind its smaller nodes.
+// Whether all rows can be matched, each node's cursor being at its row's start at first. Once the rows below v are, v's cursor is behind
+// its smaller nodes.
 fn match_rows(n: usize, starts: &[u32], neighbours: &[u16], cursors: &mut [u32]) -> bool
-    requires { ⌜ Rows n (now starts) (now neighbours) × (n ≤ length (now cursors)) × (getD (now starts) n 0 ≤ 32768) ⌝ }
-    ensures { λ r. ⌜ r ≡ matchRows (now (starts .entry)) (now (neighbours .entry)) n n 0 (now (cursors .entry)) .good ⌝ }
+    requires { ⌜ Rows n (now starts) (now neighbours) × (getD (now starts) n 0 % 2 ≡ 0) × (getD (now starts) n 0 / 2 ≤ 16384) ⌝ }
+    requires { ⌜ (n ≤ length (now cursors)) × ((x : ℕ) → x < n → getD (now cursors) x 0 ≡ getD (now starts) x 0) ⌝ }
+    ensures { λ r. ⌜ r ≡ isSurvey n (now (starts .entry)) (now (neighbours .entry)) ⌝ }
 {
     let last = starts[n] as usize;
     let mut v = 0;

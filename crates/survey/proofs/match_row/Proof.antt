@@ -6,8 +6,9 @@ use Prim.Native.Nat.{_+_, _≤_, _-_}
 use native.Mathlib.Omega.{arith}
 use lib.Dec.{eqb}
 use lib.ListN.{length, getD, drop, set, length-set}
-use Rattle.survey.specs.Matching.{matchRow}
+use Rattle.survey.proofs.Matching.{matchRow}
 use Rattle.survey.proofs.Pass.{collected, match-end, match-low, match-high, match-past, match-next}
+use Rattle.survey.proofs.Fitting.{fits-of}
 use borrow.Author.Needs.{needs}
 use Rattle.survey.proofs.match_row.Statement.{statement}
 use Rattle.survey.proofs.match_row.Tie as tie
@@ -34,13 +35,13 @@ same-length : tie.Need-same-length Inv-loop μ-loop
 same-length c = (c .before .before .before .loop .inv .1)
 
 returns : tie.Need-returns Inv-loop μ-loop
-returns c = sym (match-low (c .before .before .before .before .args .neighbours .now) (c .before .before .before .before .args .last) (c .before .before .before .before .args .n) (c .before .before .before .before .args .v) (c .before .before .before .before .args .row .now) (eqb (c .before .before .before .loop .wrong) 0) (c .before .before .before .loop .before) (c .before .before .before .loop .i) (c .before .before .before .loop .cursors) (c .before .before .loop-test .taken) (omega (arith, (c .if1 .taken)))) ∙ (c .before .before .before .loop .inv .2)
+returns c = fits-of (c .before .before .before .before .args .neighbours .now) (c .before .before .before .before .args .last) (c .before .before .before .before .args .n) (c .before .before .before .before .args .v) (c .before .before .before .before .args .row .now) (c .before .before .before .before .args .cursors .now) (c .before .before .before .before .pre .0) _ _ (sym (match-low (c .before .before .before .before .args .neighbours .now) (c .before .before .before .before .args .last) (c .before .before .before .before .args .n) (c .before .before .before .before .args .v) (c .before .before .before .before .args .row .now) (eqb (c .before .before .before .loop .wrong) 0) (c .before .before .before .loop .before) (c .before .before .before .loop .i) (c .before .before .before .loop .cursors) (c .before .before .loop-test .taken) (omega (arith, (c .if1 .taken)))) ∙ (c .before .before .before .loop .inv .2))
 
 same-length-2 : tie.Need-same-length-2 Inv-loop μ-loop
 same-length-2 c = (c .before .before .before .before .loop .inv .1)
 
 returns-2 : tie.Need-returns-2 Inv-loop μ-loop
-returns-2 c = sym (match-high (c .before .before .before .before .before .args .neighbours .now) (c .before .before .before .before .before .args .last) (c .before .before .before .before .before .args .n) (c .before .before .before .before .before .args .v) (c .before .before .before .before .before .args .row .now) (eqb (c .before .before .before .before .loop .wrong) 0) (c .before .before .before .before .loop .before) (c .before .before .before .before .loop .i) (c .before .before .before .before .loop .cursors) (c .before .before .before .loop-test .taken) (omega (arith, (c .before .if1 .left))) (c .if2 .taken)) ∙ (c .before .before .before .before .loop .inv .2)
+returns-2 c = fits-of (c .before .before .before .before .before .args .neighbours .now) (c .before .before .before .before .before .args .last) (c .before .before .before .before .before .args .n) (c .before .before .before .before .before .args .v) (c .before .before .before .before .before .args .row .now) (c .before .before .before .before .before .args .cursors .now) (c .before .before .before .before .before .pre .0) _ _ (sym (match-high (c .before .before .before .before .before .args .neighbours .now) (c .before .before .before .before .before .args .last) (c .before .before .before .before .before .args .n) (c .before .before .before .before .before .args .v) (c .before .before .before .before .before .args .row .now) (eqb (c .before .before .before .before .loop .wrong) 0) (c .before .before .before .before .loop .before) (c .before .before .before .before .loop .i) (c .before .before .before .before .loop .cursors) (c .before .before .before .loop-test .taken) (omega (arith, (c .before .if1 .left))) (c .if2 .taken)) ∙ (c .before .before .before .before .loop .inv .2))
 
 mul-at : tie.Need-mul-at Inv-loop μ-loop
 mul-at c = search needs
@@ -55,7 +56,7 @@ same-length-3 : tie.Need-same-length-3 Inv-loop μ-loop
 same-length-3 c = (c .before .before .before .before .before .before .loop .inv .1)
 
 returns-3 : tie.Need-returns-3 Inv-loop μ-loop
-returns-3 c = sym (match-past (c .before .before .before .before .before .before .before .args .neighbours .now) (c .before .before .before .before .before .before .before .args .last) (c .before .before .before .before .before .before .before .args .n) (c .before .before .before .before .before .before .before .args .v) (c .before .before .before .before .before .before .before .args .row .now) (eqb (c .before .before .before .before .before .before .loop .wrong) 0) (c .before .before .before .before .before .before .loop .before) (c .before .before .before .before .before .before .loop .i) (c .before .before .before .before .before .before .loop .cursors) (c .before .before .before .before .before .loop-test .taken) (omega (arith, (c .before .before .before .if1 .left))) (c .before .before .if2 .left) (c .if3 .taken)) ∙ (c .before .before .before .before .before .before .loop .inv .2)
+returns-3 c = fits-of (c .before .before .before .before .before .before .before .args .neighbours .now) (c .before .before .before .before .before .before .before .args .last) (c .before .before .before .before .before .before .before .args .n) (c .before .before .before .before .before .before .before .args .v) (c .before .before .before .before .before .before .before .args .row .now) (c .before .before .before .before .before .before .before .args .cursors .now) (c .before .before .before .before .before .before .before .pre .0) _ _ (sym (match-past (c .before .before .before .before .before .before .before .args .neighbours .now) (c .before .before .before .before .before .before .before .args .last) (c .before .before .before .before .before .before .before .args .n) (c .before .before .before .before .before .before .before .args .v) (c .before .before .before .before .before .before .before .args .row .now) (eqb (c .before .before .before .before .before .before .loop .wrong) 0) (c .before .before .before .before .before .before .loop .before) (c .before .before .before .before .before .before .loop .i) (c .before .before .before .before .before .before .loop .cursors) (c .before .before .before .before .before .loop-test .taken) (omega (arith, (c .before .before .before .if1 .left))) (c .before .before .if2 .left) (c .if3 .taken)) ∙ (c .before .before .before .before .before .before .loop .inv .2))
 
 mul-wrong : tie.Need-mul-wrong Inv-loop μ-loop
 mul-wrong c = omega (arith, (c .before .slice-known .given) (getD (c .before .before .before .before .before .before .before .args .row .now) (c .before .before .before .before .before .before .loop .i) 0))
@@ -91,7 +92,7 @@ same-length-4 : tie.Need-same-length-4 Inv-loop μ-loop
 same-length-4 c = (c .before .loop .inv .1)
 
 returns-4 : tie.Need-returns-4 Inv-loop μ-loop
-returns-4 c = sym (match-end (c .before .before .args .neighbours .now) (c .before .before .args .last) (c .before .before .args .n) (c .before .before .args .v) (c .before .before .args .row .now) (eqb (c .before .loop .wrong) 0) (c .before .loop .before) (c .before .loop .i) (c .before .loop .cursors) (c .loop-test .left)) ∙ (c .before .loop .inv .2)
+returns-4 c = fits-of (c .before .before .args .neighbours .now) (c .before .before .args .last) (c .before .before .args .n) (c .before .before .args .v) (c .before .before .args .row .now) (c .before .before .args .cursors .now) (c .before .before .pre .0) _ _ (sym (match-end (c .before .before .args .neighbours .now) (c .before .before .args .last) (c .before .before .args .n) (c .before .before .args .v) (c .before .before .args .row .now) (eqb (c .before .loop .wrong) 0) (c .before .loop .before) (c .before .loop .i) (c .before .loop .cursors) (c .loop-test .left)) ∙ (c .before .loop .inv .2))
 
 pub match-row-spec : {M : Type 1} → statement M
 match-row-spec =

@@ -1,8 +1,5 @@
 -- `survey::matched` meets its contract.
 -- Assumes nothing.
-use mathlib.Core.Path.{_∙_}
-use native.Mathlib.Omega.{arith}
-use Rattle.survey.proofs.Judging.{only-matching}
 use borrow.Author.Needs.{needs}
 use Rattle.survey.proofs.matched.Statement.{statement}
 use Rattle.survey.proofs.matched.Tie as tie
@@ -20,7 +17,7 @@ match-rows-requires : tie.Need-match-rows-requires
 match-rows-requires c κs = search needs
 
 returns : tie.Need-returns
-returns c = (c .before .match-rows .ensures) ∙ only-matching (c .before .before .before .before .before .before .before .before .args .n) (c .before .before .before .before .before .before .before .before .args .starts .now) (c .before .before .before .before .before .before .before .before .args .neighbours .now) (c .before .before .before .before .before .before .before .before .pre .0) (c .before .before .before .before .before .before .before .before .pre .1) (c .before .before .before .before .before .before .before .before .pre .2) (c .before .before .before .before .put-cursors .last .1 .1 .0) (omega (arith, (c .before .before .before .before .before .before .before .before .pre .0 .few), (c .before .before .before .before .put-cursors .kept .1 .1 .0))) (c .before .before .before .before .put-cursors .ensures)
+returns c = (c .before .match-rows .ensures)
 
 pub matched-spec : {M : Type 1} → statement M
 matched-spec =
