@@ -3,18 +3,18 @@
 use mathlib.Core.Path.{_≡_, refl, sym, ap, ap₂, _∙_, subst}
 use mathlib.Core.Logic.{_⊎_, inl, inr}
 use mathlib.Core.Bool.{Bool, true, false, not, _&&_}
-use mathlib.Core.List.{List, [], _∷_, _++_}
+use mathlib.Core.List.{List, [], _∷_}
 use mathlib.Core.Option.{Option, none as missing, some, IsSome}
 use Prim.Native.Nat.{ℕ, suc, _+_, _-_, _≤_, _<_, zero-le}
 use native.Mathlib.Nat.{le-of-suc-le-suc}
 use native.Mathlib.Omega.{arith}
 use borrow.Author.Tests.{eqb-true}
-use lib.Dec.{T, eqb, ltb, eqb→eq, ltb→lt, not-T}
+use lib.Dec.{T, eqb, eqb→eq, not-T}
 use lib.ListN.{length, replicate, take}
 use Rattle.model.specs.declared.Route.{Route}
 use Rattle.model.specs.declared.Route.the-variants.{Itself, Low, Through, NoRoute}
 use Rattle.model.specs.declared.Answer.{Answer}
-use Rattle.model.specs.Answers.{Outcome, refused, answered}
+use Rattle.model.specs.Answers.{Outcome, answered}
 use Rattle.model.specs.Basics.{none, if_then_else_, has, upTo, firstOf}
 use Rattle.model.specs.Graph.{Edges, Chain, link, Fewest, linked}
 use Rattle.model.specs.Survey.{Graph, IsGraph}
@@ -31,17 +31,11 @@ use Rattle.model.proofs.Covering.{hubs-below}
 use Rattle.model.proofs.Entries.{entry-front}
 use Rattle.model.proofs.TableLaws.{full-is, full-joined, low-is, low-joined, low-ends, both-low, low-widen, fewest-unique}
 use Rattle.model.proofs.Allowance.{routes, report-entry, least-cases}
-use Rattle.model.proofs.Walks.{Chosen, to-itself, to-none, to-low, to-hub, bad-itself, bad-hub, chosen, Sound, steps-given, join-given, attains, via-sum, route-sound}
+use Rattle.model.proofs.Walks.{Chosen, to-itself, to-none, to-low, to-hub, bad-itself, bad-hub, chosen, Sound, steps-given, join-given, attains, via-sum, fit-long, route-sound}
 
 -- nodes that fit are given out with the answer as it is
 fits : (w : ℕ) (x : Answer) (k : List ℕ) → length k ≤ w → fit w x (some k) .answer ≡ answered x
-unfolding fit refuseWalk
-fits w x k l = pick (ltb w (length k)) refl
-  where
-    pick : (c : Bool) → ltb w (length k) ≡ c
-        → (if_then_else_ {A = Walking} c (record { answer = refused 8; walk = replicate w none }) (record { answer = answered x; walk = k ++ replicate (w - length k) none })) .answer ≡ answered x
-    pick true e = absurd (omega (arith, ltb→lt w (length k) (subst T (sym e) tt)))
-    pick false e = refl
+fits w x k l = ap (λ (r : Walking). r .answer) (fit-long w x k l)
 
 fits-sound : (E : Edges) (a b w : ℕ) (x : Answer) (o : Option (List ℕ)) → Sound E (x .report) a b o → IsSome o → x .report < w → fit w x o .answer ≡ answered x
 fits-sound E a b w x missing s m l = absurd m

@@ -1,21 +1,21 @@
 -- Demand 3 for the calls themselves, refusals and all: an accepted survey, and tables built from it.
 -- Assumes nothing.
 use mathlib.Core.Path.{_≡_, refl, sym, ap, _∙_, subst}
-use mathlib.Core.Logic.{_⊎_, _↔_}
+use mathlib.Core.Logic.{_⊎_, ⊎-elim, _↔_}
 use mathlib.Core.Bool.{Bool, true, false, not, _||_}
 use mathlib.Core.List.{List, _++_}
 use mathlib.Core.Option.{some}
 use Prim.Native.Nat.{ℕ, suc, _+_, _-_, _*_, _≤_, _<_}
 use native.Mathlib.Numerals.{add-one}
 use native.Mathlib.Omega.{arith}
-use borrow.Author.Tests.{le-ltb, lt-leb, leb-false, ltb-false}
-use lib.Dec.{T, ltb, leb, ltb→lt}
+use borrow.Author.Tests.{le-ltb, lt-leb, leb-false}
+use lib.Dec.{T, ltb, leb}
 use lib.ListN.{length, replicate, take, length-append, length-replicate}
 use lib.Seq.{take-at}
 use Rattle.model.specs.declared.Route.the-variants.{NoRoute}
 use Rattle.model.specs.declared.Answer.{Answer}
 use Rattle.model.specs.Answers.{Outcome, refused, answered}
-use Rattle.model.specs.Basics.{none, if_then_else_, over}
+use Rattle.model.specs.Basics.{none, over}
 use Rattle.model.specs.Graph.{Edges, Chain, Walked, linked}
 use Rattle.model.specs.Survey.{Graph, neighboursOf, badSize, isSurvey, Accepted}
 use Rattle.model.specs.Threshold.{threshold}
@@ -30,13 +30,13 @@ use Rattle.model.specs.Walking.{Walking, refuseWalk, fit, walkOf, walkin
 use Rattle.model.specs.Testing.{testing}
 use Rattle.model.specs.Demand.{Allowed, AllowedAnswer, WalkSound, WalkAnswers, RightVerdict}
 use Rattle.model.proofs.Outcomes.{never}
-use Rattle.model.proofs.Tests.{true-T, or-false, of-or-false, picked, not-not}
+use Rattle.model.proofs.Tests.{or-false, of-or-false, picked, not-not, lt-or}
 use Rattle.model.proofs.Chains.{walked-chain}
 use Rattle.model.proofs.Acceptance.{survey-test, survey-facts, good-size, accepting-answers}
 use Rattle.model.proofs.Entries.{front-length, length-table, long-tables, of-long-tables}
 use Rattle.model.proofs.Covering.{hubs-length}
 use Rattle.model.proofs.Allowance.{allowed}
-use Rattle.model.proofs.Walks.{Chosen, chosen, Given-out, refusal, no-way, walked, found-longer, walk-given-out}
+use Rattle.model.proofs.Walks.{Chosen, chosen, Given-out, refusal, no-way, walked, fit-short, fit-long, found-longer, walk-given-out}
 use Rattle.model.proofs.BuiltWalks.{report-at, pair-built, walk-built, taken-right}
 use Rattle.model.proofs.Verdicts.{verdict-right}
 
@@ -136,14 +136,12 @@ asking-passed n full low report a b x =
     P o = o ≡ answered x
         → (n * n ≤ length full) × (n * n ≤ length low) × (n * n ≤ length report) × (a < n) × (b < n) × (pair n full low report a b ≡ answered x)
 
-fit-short : (w : ℕ) (x : Answer) (l : List ℕ) → (fit w x (some l) .answer ≡ refused 8) ↔ (w < length l)
-unfolding fit refuseWalk
-fit-short w x l = at (ltb w (length l)) refl
-  where
-    at : (c : Bool) → ltb w (length l) ≡ c
-        → ((if_then_else_ {A = Walking} c (record { answer = refused 8; walk = replicate w none }) (record { answer = answered x; walk = l ++ replicate (w - length l) none })) .answer ≡ refused 8) ↔ (w < length l)
-    at true e = (λ _. ltb→lt w (length l) (true-T (ltb w (length l)) e), λ _. refl)
-    at false e = (λ q. never (sym q), λ h. absurd (omega (arith, ltb-false w (length l) e)))
+short-fit : (w : ℕ) (x : Answer) (l : List ℕ) → (fit w x (some l) .answer ≡ refused 8) ↔ (w < length l)
+unfolding refuseWalk
+short-fit w x l = (
+  λ q. ⊎-elim (λ h. h) (λ h. never (sym q ∙ ap (λ (r : Walking). r .answer) (fit-long w x l h))) (lt-or w (length l)),
+  λ h. ap (λ (r : Walking). r .answer) (fit-short w x l h),
+)
 
 -- ---- an accepted survey
 
@@ -211,7 +209,7 @@ module _ (n : ℕ) (starts neighbours : List ℕ) (acc : Accepted n starts neigh
       walks full low report (p .0) (p .1) (p .2) a b (p .3) (p .4) w
       ∙ ap (walkOf w n (threshold n) G full low a b) (p .5)
       ∙ ap (fit w x) f in
-      let j = fit-short w x l in
+      let j = short-fit w x l in
       (λ q. i .0 (j .0 (sym (ap (λ (y : Walking). y .answer) o) ∙ q)), λ h. ap (λ (y : Walking). y .answer) o ∙ j .1 (i .1 h))
 
   module _ (full low report : List ℕ) (own : AreBuilt n (threshold n) (neighboursOf starts neighbours) full low report) (a b : ℕ) (ha : a < n) (hb : b < n) where

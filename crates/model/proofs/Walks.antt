@@ -2,14 +2,14 @@
 -- taken than there are nodes.
 -- Assumes nothing.
 use mathlib.Core.Path.{_≡_, refl, sym, ap, ap₂, _∙_, subst}
-use mathlib.Core.Logic.{_⊎_, inl, inr, _↔_}
+use mathlib.Core.Logic.{_⊎_, inl, inr, ⊎-elim, _↔_}
 use mathlib.Core.Bool.{Bool, true, false, _&&_}
 use mathlib.Core.List.{List, [], _∷_, _++_, reverse, tail, reverse-cons}
 use mathlib.Core.Option.{Option, none as missing, some, IsSome}
 use Prim.Native.Nat.{ℕ, zero, suc, _+_, _-_, _≤_, _<_, zero-le}
 use native.Mathlib.Nat.{sub-zero}
 use native.Mathlib.Omega.{arith}
-use borrow.Author.Tests.{eqb-true, eqb-false, ltb-false}
+use borrow.Author.Tests.{eqb-true, eqb-false, lt-ltb, le-ltb}
 use lib.Dec.{T, eqb, ltb, eqb→eq, ltb→lt, lt→ltb}
 use lib.ListN.{length, replicate, length-append, length-reverse}
 use Rattle.model.specs.declared.Route.the-variants.{Itself, Low, Through, NoRoute}
@@ -23,7 +23,7 @@ use Rattle.model.specs.Tables.{entry, via}
 use Rattle.model.specs.Pair.{answer, attaining, choose, pairBy}
 use Rattle.model.specs.Walk.{before, next, steps, byLow, toHub, join, nodes}
 use Rattle.model.specs.Walking.{Walking, refuseWalk, fit, walkOf}
-use Rattle.model.proofs.Tests.{and-l, and-r, and-i, eq-T, eq-or}
+use Rattle.model.proofs.Tests.{and-l, and-r, and-i, eq-T, eq-or, lt-or}
 use Rattle.model.proofs.Lists.{has-upTo, first-in, first-below, first-same, First, found, nothing, keep-grows, keep-length, length-upTo}
 use Rattle.model.proofs.Acceptance.{linked-of, linked-sym}
 use Rattle.model.proofs.Allowance.{Sum, whole, part, sum-is}
@@ -300,24 +300,28 @@ pub data Given-out (E : Edges) (a b w : ℕ) : Walking → Type 0 where
   walked : (x : Answer) (l : List ℕ) → Walked E l a b → length l ≡ suc (x .report) → length l ≤ w
       → Given-out E a b w (record { answer = answered x; walk = l ++ replicate (w - length l) none })
 
+-- nodes for which there is no room, and nodes for which there is
+pub fit-short : (w : ℕ) (x : Answer) (l : List ℕ) → w < length l → fit w x (some l) ≡ refuseWalk w 8
+unfolding fit
+fit-short w x l h = rw (lt-ltb w (length l) h)
+
+pub fit-long : (w : ℕ) (x : Answer) (l : List ℕ) → length l ≤ w → fit w x (some l) ≡ record { answer = answered x; walk = l ++ replicate (w - length l) none }
+unfolding fit
+fit-long w x l h = rw (le-ltb w (length l) h)
+
 fit-outcome : (E : Edges) (a b w : ℕ) (x : Answer) (o : Option (List ℕ)) → Sound E (x .report) a b o → Given-out E a b w (fit w x o)
 unfolding fit refuseWalk
 fit-outcome E a b w x missing s = refusal 11
-fit-outcome E a b w x (some l) s = at (ltb w (length l)) refl
-  where
-    at : (c : Bool) → ltb w (length l) ≡ c
-        → Given-out E a b w (if c then record { answer = refused 8; walk = replicate w none } else record { answer = answered x; walk = l ++ replicate (w - length l) none })
-    at true e = refusal 8
-    at false e = walked x l (s .0) (s .1) (ltb-false w (length l) e)
+fit-outcome E a b w x (some l) s = ⊎-elim
+    (λ h. subst (λ (r : Walking). Given-out E a b w r) (sym (fit-short w x l h)) (refusal 8))
+    (λ h. subst (λ (r : Walking). Given-out E a b w r) (sym (fit-long w x l h)) (walked x l (s .0) (s .1) h))
+    (lt-or w (length l))
 
 fit-none : (E : Edges) (a b w : ℕ) → Given-out E a b w (fit w (answer none NoRoute) (some []))
-unfolding fit refuseWalk
-fit-none E a b w = at (ltb w 0) refl
-  where
-    at : (c : Bool) → ltb w 0 ≡ c
-        → Given-out E a b w (if c then record { answer = refused 8; walk = replicate w none } else record { answer = answered (answer none NoRoute); walk = replicate (w - 0) none })
-    at true e = refusal 8
-    at false e = subst (λ (k : ℕ). Given-out E a b w (record { answer = answered (answer none NoRoute); walk = replicate k none })) (sym (sub-zero w)) no-way
+fit-none E a b w =
+    subst (λ (r : Walking). Given-out E a b w r)
+    (sym (fit-long w (answer none NoRoute) [] (omega arith) ∙ ap (λ (k : ℕ). record { answer = answered (answer none NoRoute); walk = replicate k none }) (sub-zero w)))
+    no-way
 
 module _ (isHub : ℕ → Bool) (n : ℕ) (full : List ℕ) (a b : ℕ) where
   -- a hub that attains a report is below n, counts as a hub, and its two entries add up to the report
