@@ -29,8 +29,8 @@ fn lesser(a: u16, b: u16) -> u16
     b
 }
 
-// The sum of two numbers, or none where 16 bits cannot hold it. It is made in 32 bits, so that it never wraps. From a shift, and not from
-// a comparison with 65,535, the compiler makes an instruction that adds eight entries at once.
+// The sum of two numbers, or none where 16 bits cannot hold it. It is made in 32 bits, so that it never wraps. From the shift the
+// compiler makes one instruction that adds eight entries.
 fn sum_or_none(a: u16, b: u16) -> u16
     ensures { λ r. ⌜ r ≡ min (a + b) none ⌝ }
 {
