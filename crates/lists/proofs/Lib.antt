@@ -1,3 +1,4 @@
 pub mod Filling
 pub mod Writing
 pub mod Copying
+pub mod TableRows

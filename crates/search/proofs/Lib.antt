@@ -1,4 +1,3 @@
 pub mod Visiting
 pub mod Bfs
 pub mod Turns
-pub mod TableRow

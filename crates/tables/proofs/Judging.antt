@@ -23,7 +23,7 @@ use Rattle.model.proofs.Demand.{building-answers}
 use Rattle.model.proofs.Tests.{of-or-false, true-T, not-and, not-leb, not-ltb}
 use Rattle.model.proofs.Entries.{of-long-tables}
 use Rattle.hubs.proofs.Greedy.{hubs-front}
-use Rattle.tables.proofs.Reports.{report-same}
+use Rattle.report_table.proofs.Reports.{report-same}
 
 -- not above n: below n + 1
 not-above : (x n : ℕ) → not (ltb n x) ≡ ltb x (n + 1)

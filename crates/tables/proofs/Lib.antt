@@ -1,5 +1,1 @@
-pub mod Relaxing
-pub mod TableRows
-pub mod Distances
-pub mod Reports
 pub mod Judging

@@ -4,7 +4,7 @@ use mathlib.Core.Path.{_∙_}
 use Prim.Native.Nat.{_+_, _*_, _≤_}
 use native.Mathlib.Omega.{arith}
 use lib.ListN.{length}
-use Rattle.search.proofs.TableRow.{row-ends, mid-length, row-put}
+use Rattle.lists.proofs.TableRows.{row-ends, mid-length, row-put}
 use borrow.Author.Needs.{needs}
 use Rattle.search.proofs.search_row.Statement.{statement}
 use Rattle.search.proofs.search_row.Tie as tie

@@ -15,10 +15,10 @@ use Rattle.model.specs.Survey.{neighboursOf}
 use Rattle.model.proofs.Entries.{square-small}
 use Rattle.model.proofs.Ascending.{getD-has}
 use Rattle.nodeset.specs.NodeSet.{member}
-use Rattle.tables.proofs.Distances.{fullTo, full-none, full-next, full-length, full-room, full-all, full-done}
+use Rattle.distance_tables.proofs.Distances.{fullTo, full-none, full-next, full-length, full-room, full-all, full-done}
 use borrow.Author.Needs.{needs}
-use Rattle.tables.proofs.fill_full.Statement.{statement}
-use Rattle.tables.proofs.fill_full.Tie as tie
+use Rattle.distance_tables.proofs.fill_full.Statement.{statement}
+use Rattle.distance_tables.proofs.fill_full.Tie as tie
 
 abbrev Inv-loop : tie.InvT-loop
 Inv-loop n starts neighbours hubs full₀ all size i₀ full i = (i ≤ length hubs) × (full ≡ fullTo n (neighboursOf starts neighbours) hubs i full₀)

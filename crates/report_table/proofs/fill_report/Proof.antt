@@ -9,11 +9,10 @@ use Rattle.lists.specs.Writing.{written}
 use Rattle.model.specs.Basics.{upTo}
 use Rattle.model.specs.Tables.{reportEntry}
 use Rattle.model.proofs.Entries.{square-small}
-use Rattle.search.proofs.TableRow.{row-ends, part-length, row-put}
-use Rattle.tables.proofs.TableRows.{row-within, rowsTo, rows-none, rows-next, rows-done, rows-length}
+use Rattle.lists.proofs.TableRows.{row-ends, part-length, row-put, row-within, rowsTo, rows-none, rows-next, rows-done, rows-length}
 use borrow.Author.Needs.{needs}
-use Rattle.tables.proofs.fill_report.Statement.{statement}
-use Rattle.tables.proofs.fill_report.Tie as tie
+use Rattle.report_table.proofs.fill_report.Statement.{statement}
+use Rattle.report_table.proofs.fill_report.Tie as tie
 
 abbrev Inv-loop : tie.InvT-loop
 Inv-loop n full low hubs report₀ a₀ report a = (a ≤ n) × (report ≡ rowsTo n (reportEntry n full low hubs) report₀ a)

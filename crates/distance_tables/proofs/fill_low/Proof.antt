@@ -12,11 +12,11 @@ use Rattle.model.specs.Graph.{Edges, fewest}
 use Rattle.model.specs.Survey.{neighboursOf}
 use Rattle.model.specs.Tables.{lowEntry, lowTable}
 use Rattle.nodeset.specs.NodeSet.{member}
-use Rattle.tables.proofs.TableRows.{rowsTo, rows-none, rows-next, rows-done, rows-length}
-use Rattle.tables.proofs.Distances.{low-row-is}
+use Rattle.lists.proofs.TableRows.{rowsTo, rows-none, rows-next, rows-done, rows-length}
+use Rattle.distance_tables.proofs.Distances.{low-row-is}
 use borrow.Author.Needs.{needs}
-use Rattle.tables.proofs.fill_low.Statement.{statement}
-use Rattle.tables.proofs.fill_low.Tie as tie
+use Rattle.distance_tables.proofs.fill_low.Statement.{statement}
+use Rattle.distance_tables.proofs.fill_low.Tie as tie
 
 abbrev Inv-loop : tie.InvT-loop
 Inv-loop n s starts neighbours low₀ low-nodes rows a₀ low a = (a ≤ n) × (low ≡ rowsTo n (lowEntry n s (neighboursOf starts neighbours)) low₀ a)

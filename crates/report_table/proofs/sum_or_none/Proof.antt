@@ -1,8 +1,8 @@
 -- `tables::sum_or_none` meets its contract: a sum without a seventeenth bit fits in 16.
 -- Assumes nothing.
 use borrow.Author.Needs.{needs}
-use Rattle.tables.proofs.sum_or_none.Statement.{statement}
-use Rattle.tables.proofs.sum_or_none.Tie as tie
+use Rattle.report_table.proofs.sum_or_none.Statement.{statement}
+use Rattle.report_table.proofs.sum_or_none.Tie as tie
 
 add-sum : tie.Need-add-sum
 add-sum c = search needs

@@ -20,9 +20,8 @@ use Rattle.model.proofs.Allowance.{least-base}
 use Rattle.model.proofs.Entries.{length-row, getD-row, length-table, entry-front}
 use Rattle.model.proofs.Lists.{has-head, has-tail}
 use Rattle.model.proofs.Tests.{eq-or}
-use Rattle.search.proofs.TableRow.{part-length}
-use Rattle.tables.specs.Rows.{relaxed}
-use Rattle.tables.proofs.TableRows.{row-same, table-same}
+use Rattle.lists.proofs.TableRows.{part-length, row-same, table-same}
+use Rattle.report_table.specs.Rows.{relaxed}
 
 -- a list of n entries is a row if its entries are
 pub is-row : (n : ℕ) (f : ℕ → ℕ) (l : List ℕ) → length l ≡ n → ((b : ℕ) → b < n → getD l b 0 ≡ f b) → l ≡ map f (upTo n)

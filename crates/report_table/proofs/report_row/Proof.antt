@@ -9,12 +9,12 @@ use Rattle.model.specs.Basics.{upTo}
 use Rattle.model.specs.Tables.{entry}
 use Rattle.model.proofs.Ascending.{getD-has}
 use Rattle.model.proofs.Entries.{length-row, place-inside}
-use Rattle.search.proofs.TableRow.{row-ends, part-length}
-use Rattle.tables.specs.Rows.{relaxed}
-use Rattle.tables.proofs.Reports.{leastTo, copied, own-row, least-none, least-next, least-done}
+use Rattle.lists.proofs.TableRows.{row-ends, part-length}
+use Rattle.report_table.specs.Rows.{relaxed}
+use Rattle.report_table.proofs.Reports.{leastTo, copied, own-row, least-none, least-next, least-done}
 use borrow.Author.Needs.{needs}
-use Rattle.tables.proofs.report_row.Statement.{statement}
-use Rattle.tables.proofs.report_row.Tie as tie
+use Rattle.report_table.proofs.report_row.Statement.{statement}
+use Rattle.report_table.proofs.report_row.Tie as tie
 
 abbrev Inv-loop : tie.InvT-loop
 Inv-loop n full low hubs a row₀ start end k₀ row k = (k ≤ length hubs) × (row ≡ map (leastTo n full low hubs a k) (upTo n))

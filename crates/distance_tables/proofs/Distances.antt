@@ -20,7 +20,7 @@ use Rattle.model.proofs.Chains.{split-last, chain-zero, fewest-missing}
 use Rattle.model.proofs.Lists.{has-append, has-later, has-head, of-append, of-single}
 use Rattle.model.proofs.TableLaws.{between-same, all-allowed, both-low, low-ends}
 use Rattle.model.proofs.Tests.{T-true, no-false, passes, same-test}
-use Rattle.tables.proofs.TableRows.{over-length, row-same, put-row, one-value, over-same}
+use Rattle.lists.proofs.TableRows.{over-length, row-same, put-row, one-value, over-same}
 
 -- ---- Full, hub by hub
 

@@ -10,16 +10,10 @@ use Rattle.lists.specs.Writing.{written}
 use Rattle.model.specs.Basics.{none, if_then_else_, upTo}
 use Rattle.model.specs.Graph.{fewest}
 use Rattle.nodeset.specs.Matrix.{edgesIn}
-use Rattle.search.proofs.TableRow.{row-ends, part-length, row-put}
-use Rattle.tables.proofs.TableRows.{none-row}
+use Rattle.lists.proofs.TableRows.{row-ends, part-length, row-put, none-row}
 use borrow.Author.Needs.{needs}
-use Rattle.tables.proofs.low_row.Statement.{statement}
-use Rattle.tables.proofs.low_row.Tie as tie
-use Rattle.tables.proofs.low_row.Reads as reads
-use Rattle.tables.proofs.low_row.Lts as lts
-use Rattle.layers.proofs.search.Reads as search-reads
-use Rattle.lists.proofs.fill16.Reads as fill16-reads
-use Rattle.nodeset.proofs.contains.Reads as contains-reads
+use Rattle.distance_tables.proofs.low_row.Statement.{statement}
+use Rattle.distance_tables.proofs.low_row.Tie as tie
 
 mul-start : tie.Need-mul-start
 mul-start c = omega (arith, row-ends (c .before .before .before .args .n) (c .before .before .before .args .a) (c .before .before .before .args .low .now) (c .before .before .before .pre .3) (c .before .before .before .pre .4))

@@ -4,10 +4,10 @@ use mathlib.Core.Path.{_≡_, subst}
 use Prim.Native.Nat.{ℕ, _+_, _-_, min}
 use native.Mathlib.Omega.{arith}
 use lib.ListN.{length, getD, set, length-set}
-use Rattle.tables.proofs.Relaxing.{Relaxing, relaxing-none, relaxing-next, relaxing-done}
+use Rattle.report_table.proofs.Relaxing.{Relaxing, relaxing-none, relaxing-next, relaxing-done}
 use borrow.Author.Needs.{needs}
-use Rattle.tables.proofs.relax.Statement.{statement}
-use Rattle.tables.proofs.relax.Tie as tie
+use Rattle.report_table.proofs.relax.Statement.{statement}
+use Rattle.report_table.proofs.relax.Tie as tie
 
 abbrev Inv-loop : tie.InvT-loop
 Inv-loop row₀ x other b₀ row b = Relaxing x other row₀ row b

@@ -8,7 +8,7 @@ use native.Mathlib.Omega.{arith}
 use lib.ListN.{length, getD, take, drop, set, length-set, drop-of-length-le}
 use lib.Seq.{take-all, append-snoc, take-suc-set, drop-set-lt}
 use Rattle.model.proofs.Loops.{drop-next}
-use Rattle.tables.specs.Rows.{relaxed}
+use Rattle.report_table.specs.Rows.{relaxed}
 
 -- after b entries: the front is improved, and what is left still says the whole
 pub record Relaxing (x : ℕ) (other row₀ row : List ℕ) (b : ℕ) : Type 0 where

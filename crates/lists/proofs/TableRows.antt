@@ -1,25 +1,42 @@
--- A table of which one row is written.
+-- Tables of n rows of n entries: a row as a part of its table, a table of which one row is written, a table that is written row by row.
 -- Assumes nothing.
 use mathlib.Core.Path.{_≡_, refl, sym, ap, ap₂, _∙_}
 use mathlib.Core.Logic.{_⊎_, inl, inr}
 use mathlib.Core.Bool.{Bool}
 use mathlib.Core.List.{List, _∷_, _++_, map, append-assoc}
 use Prim.Native.Nat.{ℕ, zero, suc, _+_, _-_, _*_, _/_, _%_, _≤_, _<_}
-use native.Mathlib.Nat.{suc-mul, mul-le-mul-right, zero-mul, zero-lt-suc, mod-lt, div-lt-iff-lt-mul, div-add-mod'}
+use native.Mathlib.Nat.{suc-mul, mul-le-mul-right, zero-mul, zero-lt-suc, mod-lt, div-lt-iff-lt-mul, div-add-mod', add-sub-cancel-left}
 use native.Mathlib.Omega.{arith}
 use borrow.Author.Tests.{lt-ltb, le-ltb}
 use lib.Dec.{ltb}
 use lib.ListN.{length, getD, take, drop, take-append-drop, length-append, length-drop, replicate, length-replicate, getD-replicate}
 use lib.Seq.{take-at, drop-at, ext-getD, getD-take, length-take-le}
 use Rattle.lists.specs.Writing.{written}
 use Rattle.model.specs.Basics.{if_then_else_, from, upTo, gather, over}
 use Rattle.model.specs.Tables.{table, entry}
 use Rattle.model.proofs.Entries.{rows, length-rows, length-row, getD-row, length-table, entry-table}
 use Rattle.model.proofs.Lists.{gather-append, gather-same, from-split, of-upTo, of-from}
 use Rattle.model.proofs.Tests.{lt-or}
+use borrow.Rule.Slice.PartMut.{midOf, putMid, mid-len}
+use Rattle.lists.proofs.Writing.{put-written}
+
+-- a part of n entries, wherever it starts
+pub mid-length : (at n : ℕ) (table : List ℕ) → at + n ≤ length table → length (midOf at (at + n - at) table) ≡ n
+mid-length at n table h = mid-len at (at + n) table h ∙ add-sub-cancel-left at n
+
+pub row-put : (at n : ℕ) (table part row : List ℕ) → length part ≡ n → part ≡ row → putMid at (at + n - at) table part ≡ written table at row
+row-put at n table part row l e =
+    put-written table at (at + n - at) part (l ∙ sym (add-sub-cancel-left at n)) ∙ ap (written table at) e
 
 pub row-within : (n a : ℕ) → a < n → a * n + n ≤ n * n
 row-within n a h = omega (arith, suc-mul a n, mul-le-mul-right n h)
+
+module _ (n s : ℕ) (table : List ℕ) (h : s < n) (room : n * n ≤ length table) where
+  pub row-ends : s * n + n ≤ length table
+  row-ends = omega (arith, row-within n s h)
+
+  pub part-length : length (midOf (s * n) (s * n + n - s * n) table) ≡ n
+  part-length = mid-length (s * n) n table row-ends
 
 -- rows that agree
 pub row-same : (n : ℕ) (f g : ℕ → ℕ) → ((b : ℕ) → b < n → f b ≡ g b) → map f (upTo n) ≡ map g (upTo n)
