@@ -1,6 +1,6 @@
 -- No listing is longer than `most`.
 -- Assumes nothing.
-use mathlib.Core.Path.{ap}
+use mathlib.Core.Path.{_≡_, ap}
 use mathlib.Core.Logic.{_⊎_, ⊎-elim}
 use mathlib.Core.List.{List, [], _∷_, _++_}
 use Prim.Native.Nat.{ℕ, _+_, _*_, _≤_, _<_}
@@ -8,10 +8,12 @@ use native.Mathlib.Nat.{suc-mul}
 use native.Mathlib.Omega.{arith}
 use lib.Dec.{T, eqb, ltb}
 use lib.ListN.{length, length-append}
+use Rattle.model.specs.declared.Refusal.{Refusal}
+use Rattle.model.specs.declared.Refusal.the-variants.{Form, NodeCount, LinkCount, LineNode, EqualEnds, RepeatedLink, LineCount, ShortList, NotSurvey, NoNode, NotAttained, ShortBuffer}
 use Rattle.model.specs.declared.Route.{Route}
 use Rattle.model.specs.declared.Route.the-variants.{Itself, Low, Through, NoRoute}
 use Rattle.model.specs.declared.Answer.{Answer}
-use Rattle.model.specs.Answers.{Outcome, refused, answered}
+use Rattle.model.specs.Answers.{Outcome, number, refused, answered}
 use Rattle.model.specs.Basics.{none, upTo, has, keep, gather}
 use Rattle.model.specs.Numbers.{digits}
 use Rattle.model.specs.SurveyText.{lineOf}
@@ -21,7 +23,7 @@ use Rattle.model.specs.Threshold.{threshold}
 use Rattle.model.specs.Hubs.{hubs}
 use Rattle.model.specs.Tables.{entry, fullTable, lowTable, reportTable}
 use Rattle.model.specs.Pair.{answer, attaining, choose, pairBy, pair}
-use Rattle.model.specs.Listing.{reportText, routeText, pairLine, pairLines, listingOf}
+use Rattle.model.specs.Listing.{reportText, routeText, pairLine, pairLines, listingOf, listingText}
 use Rattle.model.proofs.Acceptance.{linked-ends}
 use Rattle.model.proofs.Allowance.{allowed}
 use Rattle.model.proofs.Chains.{fewest-cases}
@@ -31,8 +33,9 @@ use Rattle.model.proofs.Lists.{has-head, has-tail, of-keep, of-upTo, keep-lengt
 use Rattle.model.proofs.Listing.{by-pairs}
 use Rattle.model.proofs.Numbers.{length-le}
 use Rattle.model.proofs.Tests.{picked, eq-or}
-use Rattle.listing.specs.Rows.{most, answerText}
-use Rattle.listing.proofs.Texts.{report-none, report-some}
+use Rattle.pair_lines.specs.Rows.{answerText}
+use Rattle.listing.specs.Length.{most}
+use Rattle.pair_lines.proofs.Texts.{report-none, report-some}
 
 -- ---- one line
 
@@ -119,3 +122,24 @@ listing-few n G g size =
       gather-few (λ a. gather (f a) (above a)) (24 * 128) (upTo n) row,
       length-from 0 n,
     )
+
+-- ---- a refusal's line
+
+number-small : (r : Refusal) → number r < 100
+number-small Form = omega arith
+number-small NodeCount = omega arith
+number-small LinkCount = omega arith
+number-small LineNode = omega arith
+number-small EqualEnds = omega arith
+number-small RepeatedLink = omega arith
+number-small LineCount = omega arith
+number-small ShortList = omega arith
+number-small NotSurvey = omega arith
+number-small NoNode = omega arith
+number-small NotAttained = omega arith
+number-small ShortBuffer = omega arith
+
+pub refusal-room : (r : Refusal) (k : ℕ) → k ≡ number r → (buf : List ℕ) → most ≤ length buf → 0 + length (listingText (refused k)) ≤ length buf
+unfolding listingText
+refusal-room r k e buf h =
+    omega (arith, length-append (digits k) (10 ∷ []), length-le 1 k (omega (arith, number-small r, e)))

@@ -21,7 +21,7 @@ use Rattle.model.proofs.Outcomes.{never}
 use Rattle.model.proofs.Acceptance.{survey-facts, size-bounds}
 use Rattle.model.proofs.Entries.{of-long-tables}
 use Rattle.model.proofs.Walks.{Chosen, to-itself, to-none, to-low, to-hub, bad-itself, bad-hub, chosen, attains}
-use Rattle.walks.specs.Parts.{Ready}
+use Rattle.walks.specs.Ready.{Ready}
 
 -- the hub of a route is a node
 hub-below : (n : ℕ) (full low report : List ℕ) (a b : ℕ) (x : Answer) → pair n full low report a b ≡ answered x → (h : ℕ) → x .route ≡ Through h → h < n

@@ -1,5 +1,2 @@
-pub mod StepLaws
-pub mod PartLaws
-pub mod FitLaws
 pub mod RouteLaws
 pub mod JudgeLaws

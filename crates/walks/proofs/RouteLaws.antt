@@ -20,7 +20,7 @@ use Rattle.model.specs.Walk.{byLow, toHub, join, nodes}
 use Rattle.model.specs.Walking.{Walking, refuseWalk, fit, walkOf, walking}
 use Rattle.model.specs.Demand.{AllowedAnswer, WalkSound, WalkAnswers}
 use Rattle.model.proofs.Demand.{walking-sound, asking-right, walking-right}
-use Rattle.walks.proofs.FitLaws.{outcome, fit-short, fit-given}
+use Rattle.routes.proofs.FitLaws.{outcome, fit-short, fit-given}
 
 -- ---- the nodes of each route
 

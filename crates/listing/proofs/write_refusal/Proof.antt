@@ -8,15 +8,10 @@ use Rattle.lists.proofs.Writing.{left-all, left-fits, left-more, left-none}
 use Rattle.model.specs.Answers.{refused}
 use Rattle.model.specs.Numbers.{digits}
 use Rattle.model.specs.Listing.{listingText}
-use Rattle.listing.proofs.Texts.{refusal-room}
+use Rattle.listing.proofs.Room.{refusal-room}
 use borrow.Author.Needs.{needs}
 use Rattle.listing.proofs.write_refusal.Statement.{statement}
 use Rattle.listing.proofs.write_refusal.Tie as tie
-use Rattle.listing.proofs.write_refusal.Reads as reads
-use Rattle.listing.proofs.write_refusal.Lts as lts
-use Rattle.refusals.proofs.refusal_number.Reads as refusal-number-reads
-use Rattle.text.proofs.write_byte.Reads as write-byte-reads
-use Rattle.text.proofs.write_field.Reads as write-field-reads
 
 -- src/lib.rt:185:9
 write-byte-requires : tie.Need-write-byte-requires

@@ -11,9 +11,6 @@ use Rattle.listing.proofs.Whole.{square-most}
 use borrow.Author.Needs.{needs}
 use Rattle.listing.proofs.write_survey.Statement.{statement}
 use Rattle.listing.proofs.write_survey.Tie as tie
-use Rattle.listing.proofs.write_survey.Reads as reads
-use Rattle.listing.proofs.write_survey.Lts as lts
-use Rattle.listing.proofs.write_tables.Reads as write-tables-reads
 
 -- src/lib.rt:164:16
 mul-size : tie.Need-mul-size

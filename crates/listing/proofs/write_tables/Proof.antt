@@ -14,12 +14,6 @@ use Rattle.listing.proofs.Whole.{count-few, listing-by-tables}
 use borrow.Author.Needs.{needs}
 use Rattle.listing.proofs.write_tables.Statement.{statement}
 use Rattle.listing.proofs.write_tables.Tie as tie
-use Rattle.listing.proofs.write_tables.Reads as reads
-use Rattle.listing.proofs.write_tables.Lts as lts
-use Rattle.listing.proofs.write_pairs.Reads as write-pairs-reads
-use Rattle.tables.proofs.build_tables.Reads as build-tables-reads
-use Rattle.text.proofs.write_line.Reads as write-line-reads
-use Rattle.threshold.proofs.threshold_at.Reads as threshold-at-reads
 
 -- src/lib.rt:153:9
 threshold-at-requires : tie.Need-threshold-at-requires

@@ -11,11 +11,6 @@ use Rattle.listing.proofs.Whole.{listing-refused, listing-read}
 use borrow.Author.Needs.{needs}
 use Rattle.listing.proofs.write_text.Statement.{statement}
 use Rattle.listing.proofs.write_text.Tie as tie
-use Rattle.listing.proofs.write_text.Reads as reads
-use Rattle.listing.proofs.write_text.Lts as lts
-use Rattle.listing.proofs.write_refusal.Reads as write-refusal-reads
-use Rattle.listing.proofs.write_survey.Reads as write-survey-reads
-use Rattle.reading.proofs.read_within.Reads as read-within-reads
 
 -- src/lib.rt:196:49
 slice-aggregate-read-within : tie.Need-slice-aggregate-read-within
