@@ -51,7 +51,7 @@ pub fn fill_low(n: usize, s: usize, starts: &[u32], neighbours: &[u16], low: &mu
     ensures { λ _. ⌜ now (low .exit) ≡ over (lowTable n s (neighboursOf (now (starts .entry)) (now (neighbours .entry)))) (now (low .entry)) ⌝ }
 {
     let mut low_nodes = [0u64; 16];
-    hubs::low_nodes(n, s, starts, neighbours, &mut low_nodes);
+    degrees::low_nodes(n, s, starts, neighbours, &mut low_nodes);
     let mut rows = [0u64; 16384];
     layers::link_rows(n, starts, neighbours, &low_nodes, &mut rows);
     let mut a = 0;

@@ -1,69 +1,23 @@
--- The sets that choosing hubs works on: high nodes, closed neighbourhoods, and what they hold of the uncovered nodes.
+-- The sets that choosing hubs works on: closed neighbourhoods, and what they hold of the uncovered nodes.
 -- Assumes nothing.
 use mathlib.Core.Path.{_≡_, refl, sym, ap, ap₂, _∙_, subst, fun-ext}
 use mathlib.Core.Logic.{⊎-elim}
-use mathlib.Core.Bool.{Bool, true, false, not, _&&_, _||_, and-comm, and-false, or-comm, or-false}
+use mathlib.Core.Bool.{Bool, not, _&&_, _||_, and-comm, or-comm, or-false}
 use mathlib.Core.List.{List, []}
 use Prim.Native.Nat.{ℕ, _+_, _*_, _≤_, _<_}
 use native.Mathlib.Omega.{arith}
-use borrow.Author.Tests.{lt-ltb, le-ltb, le-leb, lt-leb, eq-eqb, ne-eqb}
+use borrow.Author.Tests.{lt-ltb}
 use lib.Dec.{T, eqb, ltb}
 use lib.ListN.{length, getD, drop, replicate, drop-of-length-le}
 use Rattle.model.specs.Basics.{upTo, has, keep, firstOf}
 use Rattle.model.specs.Survey.{Graph, Accepted, neighboursOf}
-use Rattle.model.specs.Hubs.{isHigh, isLow, closed, gain}
-use Rattle.model.proofs.Tests.{and-r, or-turned, eq-or}
+use Rattle.model.specs.Hubs.{isHigh, closed, gain}
+use Rattle.model.proofs.Tests.{and-r, or-turned}
 use Rattle.model.proofs.Lists.{of-cons, has-keep, has-upTo, of-upTo, keep-same, keep-keep, keep-none, keep-below, First, found, nothing, first-of}
 use Rattle.model.proofs.Loops.{drop-next}
 use Rattle.nodeset.specs.NodeSet.{Nodes, member, emptySet, with, both, without}
 use Rattle.nodeset.proofs.Bits.{empty-words}
-use Rattle.nodeset.proofs.Words.{ltb-same, past-smallest}
-
--- ---- the high nodes, one node more at a time
-
--- the high nodes below v are in the set
-pub record HighBelow (s : ℕ) (G : Graph) (ws : List ℕ) (v : ℕ) : Type 0 where
-  pub long : length ws ≡ 16
-  pub says : member ws ≡ (λ x. ltb x v && isHigh s G x)
-
-module _ (s : ℕ) (G : Graph) (ws : List ℕ) where
-  pub high-none : ws ≡ replicate 16 0 → HighBelow s G ws 0
-  unfolding emptySet
-  high-none e = record {
-    long = ap length e;
-    says = ap member e ∙ empty-words 16 ∙ fun-ext (λ x. sym (ap (λ (t : Bool). t && isHigh s G x) (le-ltb x 0 (omega arith))));
-  }
-
-  module _ (v : ℕ) (h : HighBelow s G ws v) where
-    other : (x : ℕ) → (x ≡ v → ⊥) → ltb x v ≡ ltb x (v + 1)
-    other x d = ltb-same x v x (v + 1) (λ l. omega arith) (λ l. omega arith)
-
-    pub high-with : (ws′ : List ℕ) → s ≤ length (G v) → length ws′ ≡ length ws → member ws′ ≡ with (member ws) v → HighBelow s G ws′ (v + 1)
-    unfolding with isHigh
-    high-with ws′ l k e = record {
-      long = k ∙ h .long;
-      says = e ∙ fun-ext (λ x. ap (λ (p : Nodes). eqb x v || p x) (h .says) ∙ ⊎-elim (λ q. at x q) (λ d. ap₂ (λ (a b : Bool). a || (b && isHigh s G x)) (ne-eqb x v d) (other x d)) (eq-or x v));
-    }
-      where
-        at : (x : ℕ) → x ≡ v → (eqb x v || (ltb x v && isHigh s G x)) ≡ (ltb x (v + 1) && isHigh s G x)
-        at x q =
-            ap (λ (t : Bool). t || (ltb x v && isHigh s G x)) (eq-eqb x v q)
-            ∙ sym (ap₂ _&&_ (lt-ltb x (v + 1) (omega arith)) (ap (isHigh s G) q ∙ le-leb s (length (G v)) l))
-
-    pub high-without : length (G v) < s → HighBelow s G ws (v + 1)
-    unfolding isHigh
-    high-without l = record {
-      long = h .long;
-      says = h .says ∙ fun-ext (λ x. ⊎-elim (λ q. at x q) (λ d. ap (λ (t : Bool). t && isHigh s G x) (other x d)) (eq-or x v));
-    }
-      where
-        at : (x : ℕ) → x ≡ v → (ltb x v && isHigh s G x) ≡ (ltb x (v + 1) && isHigh s G x)
-        at x q =
-            let low : isHigh s G x ≡ false = ap (isHigh s G) q ∙ lt-leb s (length (G v)) l in
-            rw (low, and-false (ltb x v), and-false (ltb x (v + 1))) refl
-
-    pub high-all : (n : ℕ) → v ≡ n → member ws ≡ (λ x. ltb x n && isHigh s G x)
-    high-all n e = h .says ∙ ap {B = Nodes} (λ (k : ℕ) (x : ℕ). ltb x k && isHigh s G x) e
+use Rattle.nodeset.proofs.Words.{past-smallest}
 
 -- ---- a list of nodes, one more at a time
 
@@ -151,18 +105,3 @@ high-kept n s G ws e =
 pub covered-kept : (n : ℕ) (us us′ : List ℕ) (c : Nodes) → member us′ ≡ without (member us) c → keep (member us′) (upTo n) ≡ keep (λ x. not (c x)) (keep (member us) (upTo n))
 unfolding without
 covered-kept n us us′ c e = ap (λ (p : Nodes). keep p (upTo n)) e ∙ sym (keep-keep (λ x. not (c x)) (member us) (upTo n))
-
--- the nodes below n that are not high are the low ones
-pub low-set : (n s : ℕ) (G : Graph) (all high low : ℕ → Bool) → all ≡ (λ v. ltb v n) → high ≡ (λ v. ltb v n && isHigh s G v) → low ≡ without all high
-    → low ≡ (λ v. ltb v n && isLow s G v)
-unfolding without isLow
-low-set n s G all high low a h l =
-    l ∙ ap₂ (λ (f g : ℕ → Bool). λ v. f v && not (g v)) a h ∙ fun-ext (λ v. at (ltb v n) (isHigh s G v))
-  where
-    at : (x y : Bool) → (x && not (x && y)) ≡ (x && not y)
-    at true y = refl
-    at false y = refl
-
--- below n, the set's members are the low nodes
-pub low-are : (n s : ℕ) (G : Graph) (p : ℕ → Bool) → p ≡ (λ v. ltb v n && isLow s G v) → (v : ℕ) → v < n → p v ≡ isLow s G v
-low-are n s G p e v h = ap (λ (f : ℕ → Bool). f v) e ∙ rw (lt-ltb v n h) refl

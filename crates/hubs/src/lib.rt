@@ -1,41 +1,15 @@
 // The hubs: a dominating set of the high nodes, chosen greedily. Sets of nodes are 64-bit words.
 use model::NONE;
 ghost use mathlib.Core.Path.{_≡_};
-ghost use mathlib.Core.Bool.{_&&_, _||_};
+ghost use mathlib.Core.Bool.{_||_};
 ghost use Prim.Native.Nat.{ℕ, _/_, _<_, _≤_};
-ghost use lib.Dec.{T, ltb};
+ghost use lib.Dec.{T};
 ghost use lib.ListN.{length, replicate};
 ghost use Rattle.model.specs.Basics.{upTo, has, keep, over};
 ghost use Rattle.model.specs.Survey.{neighboursOf, Accepted};
-ghost use Rattle.model.specs.Hubs.{isHigh, isLow, closed, gain, best, hubs};
+ghost use Rattle.model.specs.Hubs.{closed, gain, best, hubs};
 ghost use Rattle.model.specs.Tables.{hubList};
 ghost use Rattle.nodeset.specs.NodeSet.{member, without};
-
-// The nodes with at least s neighbours, put into the empty set. A node's degree is known from two starts.
-pub fn high_nodes(n: usize, s: usize, starts: &[u32], neighbours: &[u16], words: &mut [u64])
-    requires { ⌜ Accepted n (now starts) (now neighbours) × (now words ≡ replicate 16 0) ⌝ }
-    ensures { λ _. ⌜ member (now (words .exit)) ≡ (λ v. ltb v n && isHigh s (neighboursOf (now (starts .entry)) (now (neighbours .entry))) v) ⌝ }
-{
-    let mut v = 0;
-    while v < n {
-        let degree = starts[v + 1] - starts[v];
-        if s <= degree as usize {
-            nodeset::insert(words, v);
-        }
-        v += 1;
-    }
-}
-
-// The nodes with fewer than s neighbours, put into the empty set.
-pub fn low_nodes(n: usize, s: usize, starts: &[u32], neighbours: &[u16], words: &mut [u64])
-    requires { ⌜ Accepted n (now starts) (now neighbours) × (now words ≡ replicate 16 0) ⌝ }
-    ensures { λ _. ⌜ member (now (words .exit)) ≡ (λ v. ltb v n && isLow s (neighboursOf (now (starts .entry)) (now (neighbours .entry))) v) ⌝ }
-{
-    let mut high = [0u64; 16];
-    high_nodes(n, s, starts, neighbours, &mut high);
-    nodeset::insert_below(words, n);
-    nodeset::remove(words, &high);
-}
 
 // Puts the nodes of a list into the set.
 fn insert_list(list: &[u16], set: &mut [u64])
@@ -111,7 +85,7 @@ pub fn choose_hubs(
     ensures { λ _. ⌜ now (list .exit) ≡ over (hubList n s (neighboursOf (now (starts .entry)) (now (neighbours .entry)))) (now (list .entry)) ⌝ }
 {
     let mut uncovered = [0u64; 16];
-    high_nodes(n, s, starts, neighbours, &mut uncovered);
+    degrees::high_nodes(n, s, starts, neighbours, &mut uncovered);
     let mut count = 0;
     loop {
         // the smallest uncovered node: where it is not below n, every high node is covered

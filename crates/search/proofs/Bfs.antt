@@ -19,8 +19,8 @@ use Rattle.model.proofs.Lists.{none-in, of-single, of-cons, has-head, has-tail}
 use Rattle.model.proofs.Loops.{below-next}
 use Rattle.model.proofs.Entries.{getD-row, length-row}
 use Rattle.model.proofs.Chains.{snoc, fewest-of, fewest-missing}
-use Rattle.search.specs.Visiting.{Progress, unreached, joined, visited, visitedAll}
-use Rattle.search.proofs.Visiting.{unreached-set}
+use Rattle.queue.specs.Visiting.{Progress, unreached, joined, visited, visitedAll}
+use Rattle.queue.proofs.Visiting.{unreached-set}
 
 -- the node at index i of the queue, and its distance
 abbrev pub at : Progress → ℕ → ℕ

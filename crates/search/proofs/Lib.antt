@@ -1,3 +1,2 @@
-pub mod Visiting
 pub mod Bfs
 pub mod Turns

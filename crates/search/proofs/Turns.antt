@@ -16,8 +16,8 @@ use Rattle.model.specs.Graph.{Edges, between, Chain, here, link, fewest, linked
 use Rattle.model.specs.Survey.{Graph, IsGraph}
 use Rattle.model.proofs.Tests.{and-l, and-r, and-i, eq-or, true-T}
 use Rattle.model.proofs.Acceptance.{linked-has, linked-of, linked-ends}
-use Rattle.search.specs.Visiting.{Progress, progress, visitedAll, Unvisited}
-use Rattle.search.proofs.Visiting.{unreached-set, unreached-all}
+use Rattle.queue.specs.Visiting.{Progress, progress, visitedAll, Unvisited}
+use Rattle.queue.proofs.Visiting.{unreached-set, unreached-all}
 use Rattle.search.proofs.Bfs.{at, dist, Queued, Invariant, Kept, all-keep, advance, finish, distances}
 
 -- ---- the start: the source alone has a distance

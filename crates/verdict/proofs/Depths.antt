@@ -30,7 +30,7 @@ use Rattle.model.proofs.TableLaws.{all-allowed}
 use Rattle.model.proofs.Lists.{any-append, First, found, nothing, first-below, first-of, first-most, first-is}
 use Rattle.model.proofs.Loops.{drop-next}
 use Rattle.model.proofs.Tests.{eq-or, lt-or}
-use Rattle.hubs.proofs.Sets.{low-are}
+use Rattle.degrees.proofs.Degrees.{low-are}
 use Rattle.verdict.specs.Depth.{greatest, distances, ofDepth}
 
 -- ---- the greatest number

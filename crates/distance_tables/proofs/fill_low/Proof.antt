@@ -5,7 +5,7 @@ use mathlib.Core.List.{List, map}
 use Prim.Native.Nat.{ℕ, _-_, _*_, _≤_}
 use native.Mathlib.Omega.{arith}
 use lib.ListN.{length, length-replicate}
-use Rattle.hubs.proofs.Sets.{low-are}
+use Rattle.degrees.proofs.Degrees.{low-are}
 use Rattle.lists.specs.Writing.{written}
 use Rattle.model.specs.Basics.{none, if_then_else_, upTo}
 use Rattle.model.specs.Graph.{Edges, fewest}

@@ -1,14 +1,10 @@
 -- `library::puxerdau_accept` meets its contract: the call's outcome, in code.
 -- Assumes nothing.
 use mathlib.Core.Path.{ap, _∙_}
-use Rattle.library.specs.Code.{code, nothing}
+use Rattle.codes.specs.Code.{code, nothing}
 use borrow.Author.Needs.{needs}
 use Rattle.library.proofs.puxerdau_accept.Statement.{statement}
 use Rattle.library.proofs.puxerdau_accept.Tie as tie
-use Rattle.library.proofs.puxerdau_accept.Reads as reads
-use Rattle.library.proofs.puxerdau_accept.Lts as lts
-use Rattle.library.proofs.accepting_code.Reads as accepting-code-reads
-use Rattle.survey.proofs.accept.Reads as accept-reads
 
 accept-requires : tie.Need-accept-requires
 accept-requires c κs = search needs

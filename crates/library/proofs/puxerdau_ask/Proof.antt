@@ -1,14 +1,10 @@
 -- `library::puxerdau_ask` meets its contract: the call's outcome, in code.
 -- Assumes nothing.
 use mathlib.Core.Path.{ap, _∙_}
-use Rattle.library.specs.Code.{code, answerField}
+use Rattle.codes.specs.Code.{code, answerField}
 use borrow.Author.Needs.{needs}
 use Rattle.library.proofs.puxerdau_ask.Statement.{statement}
 use Rattle.library.proofs.puxerdau_ask.Tie as tie
-use Rattle.library.proofs.puxerdau_ask.Reads as reads
-use Rattle.library.proofs.puxerdau_ask.Lts as lts
-use Rattle.library.proofs.asking_code.Reads as asking-code-reads
-use Rattle.pairs.proofs.ask.Reads as ask-reads
 
 ask-requires : tie.Need-ask-requires
 ask-requires c κs = search needs

@@ -3,15 +3,11 @@
 use mathlib.Core.Path.{sym, ap, _∙_}
 use Rattle.library.proofs.Fits.{hubs-fit}
 use native.Mathlib.Omega.{arith}
-use Rattle.library.specs.Code.{code, count}
+use Rattle.codes.specs.Code.{code, count}
 use Rattle.model.specs.Building.{Building}
 use borrow.Author.Needs.{needs}
 use Rattle.library.proofs.puxerdau_build.Statement.{statement}
 use Rattle.library.proofs.puxerdau_build.Tie as tie
-use Rattle.library.proofs.puxerdau_build.Reads as reads
-use Rattle.library.proofs.puxerdau_build.Lts as lts
-use Rattle.library.proofs.counting_code.Reads as counting-code-reads
-use Rattle.tables.proofs.build.Reads as build-reads
 
 build-requires : tie.Need-build-requires
 build-requires c κs = search needs

@@ -4,15 +4,11 @@ use mathlib.Core.Path.{sym, ap, _∙_}
 use Rattle.library.proofs.Fits.{read-fits}
 use native.Mathlib.Omega.{arith}
 use lib.ListN.{length}
-use Rattle.library.specs.Code.{code, size}
+use Rattle.codes.specs.Code.{code, size}
 use Rattle.model.specs.Reading.{Reading}
 use borrow.Author.Needs.{needs}
 use Rattle.library.proofs.puxerdau_read.Statement.{statement}
 use Rattle.library.proofs.puxerdau_read.Tie as tie
-use Rattle.library.proofs.puxerdau_read.Reads as reads
-use Rattle.library.proofs.puxerdau_read.Lts as lts
-use Rattle.library.proofs.reading_code.Reads as reading-code-reads
-use Rattle.reading.proofs.read_survey.Reads as read-survey-reads
 
 read-survey-requires : tie.Need-read-survey-requires
 read-survey-requires c κs = search needs

@@ -3,14 +3,10 @@
 use mathlib.Core.Path.{sym, ap, _∙_}
 use Rattle.library.proofs.Fits.{searches-fit}
 use native.Mathlib.Omega.{arith}
-use Rattle.library.specs.Code.{code, tested}
+use Rattle.codes.specs.Code.{code, tested}
 use borrow.Author.Needs.{needs}
 use Rattle.library.proofs.puxerdau_test.Statement.{statement}
 use Rattle.library.proofs.puxerdau_test.Tie as tie
-use Rattle.library.proofs.puxerdau_test.Reads as reads
-use Rattle.library.proofs.puxerdau_test.Lts as lts
-use Rattle.library.proofs.testing_code.Reads as testing-code-reads
-use Rattle.verdict.proofs.test.Reads as test-reads
 
 test-requires : tie.Need-test-requires
 test-requires c κs = search needs

@@ -3,14 +3,10 @@
 use mathlib.Core.Path.{sym, ap, _∙_}
 use Rattle.library.proofs.Fits.{threshold-fits}
 use native.Mathlib.Omega.{arith}
-use Rattle.library.specs.Code.{code, count}
+use Rattle.codes.specs.Code.{code, count}
 use borrow.Author.Needs.{needs}
 use Rattle.library.proofs.puxerdau_threshold.Statement.{statement}
 use Rattle.library.proofs.puxerdau_threshold.Tie as tie
-use Rattle.library.proofs.puxerdau_threshold.Reads as reads
-use Rattle.library.proofs.puxerdau_threshold.Lts as lts
-use Rattle.library.proofs.counting_code.Reads as counting-code-reads
-use Rattle.threshold.proofs.threshold_of.Reads as threshold-of-reads
 
 threshold-of-requires : tie.Need-threshold-of-requires
 threshold-of-requires c κs = search needs

@@ -1,15 +1,11 @@
 -- `library::puxerdau_walk` meets its contract: the call's outcome, in code.
 -- Assumes nothing.
 use mathlib.Core.Path.{ap, _∙_}
-use Rattle.library.specs.Code.{code, answerField}
+use Rattle.codes.specs.Code.{code, answerField}
 use Rattle.model.specs.Walking.{Walking}
 use borrow.Author.Needs.{needs}
 use Rattle.library.proofs.puxerdau_walk.Statement.{statement}
 use Rattle.library.proofs.puxerdau_walk.Tie as tie
-use Rattle.library.proofs.puxerdau_walk.Reads as reads
-use Rattle.library.proofs.puxerdau_walk.Lts as lts
-use Rattle.library.proofs.asking_code.Reads as asking-code-reads
-use Rattle.walks.proofs.write_walk.Reads as write-walk-reads
 
 write-walk-requires : tie.Need-write-walk-requires
 write-walk-requires c κs = search needs

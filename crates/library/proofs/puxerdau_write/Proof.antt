@@ -3,15 +3,11 @@
 use mathlib.Core.Path.{sym, ap, _∙_}
 use Rattle.library.proofs.Fits.{text-fits}
 use native.Mathlib.Omega.{arith}
-use Rattle.library.specs.Code.{code, count}
+use Rattle.codes.specs.Code.{code, count}
 use Rattle.model.specs.Writing.{Writing}
 use borrow.Author.Needs.{needs}
 use Rattle.library.proofs.puxerdau_write.Statement.{statement}
 use Rattle.library.proofs.puxerdau_write.Tie as tie
-use Rattle.library.proofs.puxerdau_write.Reads as reads
-use Rattle.library.proofs.puxerdau_write.Lts as lts
-use Rattle.library.proofs.counting_code.Reads as counting-code-reads
-use Rattle.writing.proofs.write_survey.Reads as write-survey-reads
 
 write-survey-requires : tie.Need-write-survey-requires
 write-survey-requires c κs = search needs

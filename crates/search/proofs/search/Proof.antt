@@ -11,19 +11,12 @@ use Rattle.model.specs.Graph.{between, linked}
 use Rattle.model.specs.Survey.{neighboursOf}
 use Rattle.nodeset.specs.NodeSet.{member}
 use Rattle.survey.proofs.RowLaws.{rows-of}
-use Rattle.search.specs.Visiting.{progress, Unvisited}
-use Rattle.search.proofs.Visiting.{longer, unvisited-row}
+use Rattle.queue.specs.Visiting.{progress, Unvisited}
+use Rattle.queue.proofs.Visiting.{longer, unvisited-row}
 use Rattle.search.proofs.Bfs.{Invariant}
 use Rattle.search.proofs.Turns.{search-start, own-below, search-turn, search-next, search-end}
 use Rattle.search.proofs.search.Statement.{statement}
 use Rattle.search.proofs.search.Tie as tie
-use Rattle.search.proofs.search.Reads as reads
-use Rattle.search.proofs.search.Lts as lts
-use Rattle.lists.proofs.fill16.Reads as fill16-reads
-use Rattle.search.proofs.next_place.Reads as next-place-reads
-use Rattle.search.proofs.unvisited_nodes.Reads as unvisited-nodes-reads
-use Rattle.search.proofs.visit_all.Reads as visit-all-reads
-use Rattle.survey.proofs.own.Reads as own-reads
 
 abbrev Inv-loop : tie.InvT-loop
 Inv-loop n starts neighbours allowed source row₀ unvisited₀ queue₀ head₀ tail₀ row unvisited queue head tail = Invariant (between (member allowed) (linked n (neighboursOf starts neighbours))) source n (progress row queue tail) head × (length unvisited ≡ 16) × Unvisited (member allowed) (member unvisited) row

@@ -14,13 +14,6 @@ use Rattle.verdict.proofs.Depths.{sources-hubs, sources-low, two-writte
 use borrow.Author.Needs.{needs}
 use Rattle.verdict.proofs.find_sources.Statement.{statement}
 use Rattle.verdict.proofs.find_sources.Tie as tie
-use Rattle.verdict.proofs.find_sources.Reads as reads
-use Rattle.verdict.proofs.find_sources.Lts as lts
-use Rattle.hubs.proofs.choose_hubs.Reads as choose-hubs-reads
-use Rattle.hubs.proofs.low_nodes.Reads as low-nodes-reads
-use Rattle.lists.proofs.copy16.Reads as copy16-reads
-use Rattle.nodeset.proofs.smallest.Reads as smallest-reads
-use Rattle.survey.proofs.own.Reads as own-reads
 
 -- src/lib.rt:53:47
 slice-aggregate-low-nodes : tie.Need-slice-aggregate-low-nodes

@@ -9,9 +9,6 @@ use Rattle.verdict.proofs.Depths.{row-turn, row-end}
 use borrow.Author.Needs.{needs}
 use Rattle.verdict.proofs.row_depth.Statement.{statement}
 use Rattle.verdict.proofs.row_depth.Tie as tie
-use Rattle.verdict.proofs.row_depth.Reads as reads
-use Rattle.verdict.proofs.row_depth.Lts as lts
-use Rattle.verdict.proofs.greater.Reads as greater-reads
 
 abbrev Inv-loop : tie.InvT-loop
 Inv-loop row most₀ i₀ most i = (i ≤ length row) × (max most (greatest (drop i row)) ≡ greatest row)

@@ -12,11 +12,6 @@ use Rattle.verdict.proofs.Depths.{sources-fit, sources-long, tested-is}
 use borrow.Author.Needs.{needs}
 use Rattle.verdict.proofs.run_test.Statement.{statement}
 use Rattle.verdict.proofs.run_test.Tie as tie
-use Rattle.verdict.proofs.run_test.Reads as reads
-use Rattle.verdict.proofs.run_test.Lts as lts
-use Rattle.verdict.proofs.find_sources.Reads as find-sources-reads
-use Rattle.verdict.proofs.search_depth.Reads as search-depth-reads
-use Rattle.verdict.proofs.verdict_on.Reads as verdict-on-reads
 
 -- src/lib.rt:104:59
 slice-aggregate-find-sources : tie.Need-slice-aggregate-find-sources

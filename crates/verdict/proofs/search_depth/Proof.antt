@@ -17,12 +17,6 @@ use Rattle.verdict.proofs.Depths.{row-searched, row-kept, search-turn, 
 use borrow.Author.Needs.{needs}
 use Rattle.verdict.proofs.search_depth.Statement.{statement}
 use Rattle.verdict.proofs.search_depth.Tie as tie
-use Rattle.verdict.proofs.search_depth.Reads as reads
-use Rattle.verdict.proofs.search_depth.Lts as lts
-use Rattle.nodeset.proofs.insert_below.Reads as insert-below-reads
-use Rattle.search.proofs.search.Reads as search-reads
-use Rattle.verdict.proofs.greater.Reads as greater-reads
-use Rattle.verdict.proofs.row_depth.Reads as row-depth-reads
 
 abbrev Inv-loop : tie.InvT-loop
 Inv-loop n starts neighbours sources all row₀ most₀ i₀ row most i = (i ≤ length sources) × (length row ≡ 1024) × (max most (greatest (distances n (fewest (linked n (neighboursOf starts neighbours)) n) (drop i sources))) ≡ greatest (distances n (fewest (linked n (neighboursOf starts neighbours)) n) sources))

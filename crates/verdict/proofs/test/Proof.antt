@@ -7,11 +7,6 @@ use Rattle.verdict.proofs.Depths.{test-refused, test-done}
 use borrow.Author.Needs.{needs}
 use Rattle.verdict.proofs.test.Statement.{statement}
 use Rattle.verdict.proofs.test.Tie as tie
-use Rattle.verdict.proofs.test.Reads as reads
-use Rattle.verdict.proofs.test.Lts as lts
-use Rattle.survey.proofs.accept.Reads as accept-reads
-use Rattle.threshold.proofs.threshold_at.Reads as threshold-at-reads
-use Rattle.verdict.proofs.run_test.Reads as run-test-reads
 
 -- src/lib.rt:118:11
 accept-requires : tie.Need-accept-requires

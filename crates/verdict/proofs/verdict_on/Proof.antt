@@ -6,8 +6,6 @@ use Rattle.model.specs.Basics.{none}
 use Rattle.verdict.specs.Depth.{ofDepth}
 use Rattle.verdict.proofs.verdict_on.Statement.{statement}
 use Rattle.verdict.proofs.verdict_on.Tie as tie
-use Rattle.verdict.proofs.verdict_on.Reads as reads
-use Rattle.verdict.proofs.verdict_on.Lts as lts
 
 -- src/lib.rt:91:9
 returns : tie.Need-returns

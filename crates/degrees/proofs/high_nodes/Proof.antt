@@ -7,9 +7,9 @@ use native.Mathlib.Omega.{arith}
 use lib.ListN.{length}
 use Rattle.model.specs.Survey.{neighboursOf}
 use Rattle.survey.proofs.RowLaws.{rows-of, own-length}
-use Rattle.hubs.proofs.Sets.{HighBelow, high-none, high-with, high-without, high-all}
-use Rattle.hubs.proofs.high_nodes.Statement.{statement}
-use Rattle.hubs.proofs.high_nodes.Tie as tie
+use Rattle.degrees.proofs.Degrees.{HighBelow, high-none, high-with, high-without, high-all}
+use Rattle.degrees.proofs.high_nodes.Statement.{statement}
+use Rattle.degrees.proofs.high_nodes.Tie as tie
 
 abbrev Inv-loop : tie.InvT-loop
 Inv-loop n s starts neighbours words₀ v₀ words v = (v ≤ n) × HighBelow s (neighboursOf starts neighbours) words v

@@ -3,16 +3,12 @@
 use mathlib.Core.Path.{sym, ap, _∙_}
 use Rattle.model.specs.Answers.{testAnswer}
 use native.Mathlib.Omega.{arith}
-use Rattle.library.specs.Code.{code, tested}
+use Rattle.codes.specs.Code.{code, tested}
 use Prim.Native.Nat.{_+_, _*_}
 use Rattle.model.specs.declared.Testing.{Testing}
 use borrow.Author.Needs.{needs}
-use Rattle.library.proofs.testing_code.Statement.{statement}
-use Rattle.library.proofs.testing_code.Tie as tie
-use Rattle.library.proofs.testing_code.Reads as reads
-use Rattle.library.proofs.testing_code.Lts as lts
-use Rattle.library.proofs.verdict_field.Reads as verdict-field-reads
-use Rattle.refusals.proofs.refusal_number.Reads as refusal-number-reads
+use Rattle.codes.proofs.testing_code.Statement.{statement}
+use Rattle.codes.proofs.testing_code.Tie as tie
 
 enum-known-x : tie.Need-enum-known-x
 enum-known-x c = search needs

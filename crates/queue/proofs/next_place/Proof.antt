@@ -5,11 +5,8 @@ use mathlib.Core.Logic.{inl, inr}
 use native.Mathlib.Omega.{arith}
 use Rattle.nodeset.proofs.Words.{past-smallest}
 use borrow.Author.Needs.{needs}
-use Rattle.search.proofs.next_place.Statement.{statement}
-use Rattle.search.proofs.next_place.Tie as tie
-use Rattle.search.proofs.next_place.Reads as reads
-use Rattle.search.proofs.next_place.Lts as lts
-use Rattle.nodeset.proofs.smallest.Reads as smallest-reads
+use Rattle.queue.proofs.next_place.Statement.{statement}
+use Rattle.queue.proofs.next_place.Tie as tie
 
 smallest-requires : tie.Need-smallest-requires
 smallest-requires c κs = search needs

@@ -4,15 +4,10 @@ use mathlib.Core.Path.{ap}
 use native.Mathlib.Omega.{arith}
 use lib.ListN.{length}
 use Rattle.nodeset.specs.NodeSet.{member}
-use Rattle.search.proofs.Visiting.{unvisited-start}
+use Rattle.queue.proofs.Visiting.{unvisited-start}
 use borrow.Author.Needs.{needs}
-use Rattle.search.proofs.unvisited_nodes.Statement.{statement}
-use Rattle.search.proofs.unvisited_nodes.Tie as tie
-use Rattle.search.proofs.unvisited_nodes.Reads as reads
-use Rattle.search.proofs.unvisited_nodes.Lts as lts
-use Rattle.nodeset.proofs.insert.Reads as insert-reads
-use Rattle.nodeset.proofs.insert_below.Reads as insert-below-reads
-use Rattle.nodeset.proofs.remove.Reads as remove-reads
+use Rattle.queue.proofs.unvisited_nodes.Statement.{statement}
+use Rattle.queue.proofs.unvisited_nodes.Tie as tie
 
 slice-aggregate-insert-below : tie.Need-slice-aggregate-insert-below
 slice-aggregate-insert-below c = search needs

@@ -3,15 +3,11 @@
 use mathlib.Core.Path.{sym, _∙_}
 use native.Mathlib.Omega.{arith}
 use borrow.Author.Tests.{not-true, not-false}
-use Rattle.search.proofs.Visiting.{unreached-set, visited-new, visited-not, unvisited-new, unvisited-joined}
+use Rattle.queue.proofs.Visiting.{unreached-set, visited-new, visited-not, unvisited-new, unvisited-joined}
 use Rattle.nodeset.specs.NodeSet.{member}
 use borrow.Author.Needs.{needs}
-use Rattle.search.proofs.visit.Statement.{statement}
-use Rattle.search.proofs.visit.Tie as tie
-use Rattle.search.proofs.visit.Reads as reads
-use Rattle.search.proofs.visit.Lts as lts
-use Rattle.nodeset.proofs.contains.Reads as contains-reads
-use Rattle.nodeset.proofs.take_out.Reads as take-out-reads
+use Rattle.queue.proofs.visit.Statement.{statement}
+use Rattle.queue.proofs.visit.Tie as tie
 
 contains-requires : tie.Need-contains-requires
 contains-requires c κs = search needs

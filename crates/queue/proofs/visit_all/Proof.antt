@@ -5,14 +5,11 @@ use Prim.Native.Nat.{_-_}
 use native.Mathlib.Omega.{arith}
 use lib.ListN.{length}
 use Rattle.nodeset.specs.NodeSet.{member}
-use Rattle.search.specs.Visiting.{progress, Unvisited}
-use Rattle.search.proofs.Visiting.{Visiting, visiting-none, next-below, visiting-next, visiting-all}
+use Rattle.queue.specs.Visiting.{progress, Unvisited}
+use Rattle.queue.proofs.Visiting.{Visiting, visiting-none, next-below, visiting-next, visiting-all}
 use borrow.Author.Needs.{needs}
-use Rattle.search.proofs.visit_all.Statement.{statement}
-use Rattle.search.proofs.visit_all.Tie as tie
-use Rattle.search.proofs.visit_all.Reads as reads
-use Rattle.search.proofs.visit_all.Lts as lts
-use Rattle.search.proofs.visit.Reads as visit-reads
+use Rattle.queue.proofs.visit_all.Statement.{statement}
+use Rattle.queue.proofs.visit_all.Tie as tie
 
 abbrev Inv-loop : tie.InvT-loop
 Inv-loop nodes d allowed unvisited₀ row₀ queue₀ tail end₀ i₀ unvisited row queue end i = Visiting (member allowed) d nodes (progress row₀ queue₀ tail) i (progress row queue end) × (length unvisited ≡ 16) × Unvisited (member allowed) (member unvisited) row

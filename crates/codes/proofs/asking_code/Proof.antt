@@ -2,16 +2,12 @@
 -- Assumes nothing.
 use mathlib.Core.Path.{sym, ap, _∙_}
 use Rattle.model.specs.Answers.{pairAnswer}
-use Rattle.library.specs.Code.{code, answerField}
+use Rattle.codes.specs.Code.{code, answerField}
 use Prim.Native.Nat.{_+_, _*_}
 use Rattle.model.specs.declared.Asking.{Asking}
 use borrow.Author.Needs.{needs}
-use Rattle.library.proofs.asking_code.Statement.{statement}
-use Rattle.library.proofs.asking_code.Tie as tie
-use Rattle.library.proofs.asking_code.Reads as reads
-use Rattle.library.proofs.asking_code.Lts as lts
-use Rattle.library.proofs.route_field.Reads as route-field-reads
-use Rattle.refusals.proofs.refusal_number.Reads as refusal-number-reads
+use Rattle.codes.proofs.asking_code.Statement.{statement}
+use Rattle.codes.proofs.asking_code.Tie as tie
 
 enum-known-x : tie.Need-enum-known-x
 enum-known-x c = search needs

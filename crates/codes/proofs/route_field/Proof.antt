@@ -1,12 +1,10 @@
 -- `library::route_field` meets its contract: by cases of the route.
 -- Assumes nothing.
 use mathlib.Core.Path.{sym, ap}
-use Rattle.library.specs.Code.{routeField}
+use Rattle.codes.specs.Code.{routeField}
 use borrow.Author.Needs.{needs}
-use Rattle.library.proofs.route_field.Statement.{statement}
-use Rattle.library.proofs.route_field.Tie as tie
-use Rattle.library.proofs.route_field.Reads as reads
-use Rattle.library.proofs.route_field.Lts as lts
+use Rattle.codes.proofs.route_field.Statement.{statement}
+use Rattle.codes.proofs.route_field.Tie as tie
 
 enum-told : tie.Need-enum-told
 enum-told c = search needs

@@ -16,7 +16,7 @@ use Rattle.model.proofs.Tests.{picked, and-l, true-T, eq-or}
 use Rattle.model.proofs.Ascending.{getD-has}
 use Rattle.model.proofs.Loops.{drop-next}
 use Rattle.nodeset.specs.NodeSet.{with, without}
-use Rattle.search.specs.Visiting.{unreached, Progress, joined, visited, visitedAll, Unvisited}
+use Rattle.queue.specs.Visiting.{unreached, Progress, joined, visited, visitedAll, Unvisited}
 
 -- ---- nodes without a distance
 

@@ -4,10 +4,10 @@ use mathlib.Core.Path.{refl, sym, ap, _∙_}
 use Prim.Native.Nat.{ℕ}
 use lib.ListN.{length, length-replicate}
 use Rattle.model.specs.Survey.{neighboursOf}
-use Rattle.hubs.proofs.Sets.{low-set}
+use Rattle.degrees.proofs.Degrees.{low-set}
 use borrow.Author.Needs.{needs}
-use Rattle.hubs.proofs.low_nodes.Statement.{statement}
-use Rattle.hubs.proofs.low_nodes.Tie as tie
+use Rattle.degrees.proofs.low_nodes.Statement.{statement}
+use Rattle.degrees.proofs.low_nodes.Tie as tie
 
 slice-aggregate-high-nodes : tie.Need-slice-aggregate-high-nodes
 slice-aggregate-high-nodes c = search needs

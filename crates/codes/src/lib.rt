@@ -1,0 +1,102 @@
+// What the open calls answer, each as one number of 64 bits: `code` of specs/Code.antt says where a refusal's number and the values stand.
+use model::Accepting;
+use model::Asking;
+use model::Counting;
+use model::Reading;
+use model::Route;
+use model::Size;
+use model::Tested;
+use model::Testing;
+use model::Verdict;
+ghost use mathlib.Core.Path.{_≡_};
+ghost use Prim.Native.Nat.{ℕ, _<_, _^_};
+ghost use Rattle.model.specs.Answers.{answered, acceptAnswer, readAnswer, countAnswer, pairAnswer, testAnswer};
+ghost use Rattle.model.specs.Reading.{reading};
+ghost use Rattle.model.specs.Writing.{writing};
+ghost use Rattle.model.specs.Asking.{asking};
+ghost use Rattle.model.specs.Testing.{testing};
+ghost use Rattle.codes.specs.Code.{code, nothing, count, size, routeField, answerField, verdictField, tested};
+
+// What acceptance answers, as one number.
+pub fn accepting_code(x: Accepting) -> u64
+    ensures { λ r. ⌜ r ≡ code nothing (acceptAnswer x) ⌝ }
+{
+    match x {
+        Accepting::Refused(k) => refusals::refusal_number(k) as u64,
+        Accepting::Accepted => 0,
+    }
+}
+
+// What a call answers whose value is a count, as one number.
+pub fn counting_code(x: Counting) -> u64
+    requires { ⌜ ((k : ℕ) → countAnswer x ≡ answered k → k < 2 ^ 48) ⌝ }
+    ensures { λ r. ⌜ r ≡ code count (countAnswer x) ⌝ }
+{
+    match x {
+        Counting::Refused(k) => refusals::refusal_number(k) as u64,
+        Counting::Count(c) => 65536 * (c as u64),
+    }
+}
+
+// What reading answers, as one number.
+pub fn reading_code(x: Reading) -> u64
+    requires { ⌜ ((s : Size) → readAnswer x ≡ answered s → (s .nodes < 65536) × (s .links < 65536)) ⌝ }
+    ensures { λ r. ⌜ r ≡ code size (readAnswer x) ⌝ }
+{
+    match x {
+        Reading::Refused(k) => refusals::refusal_number(k) as u64,
+        Reading::Read(s) => 65536 * (s.nodes as u64 + 65536 * (s.links as u64)),
+    }
+}
+
+// A route: which of the four, and the hub.
+fn route_field(x: Route) -> u64
+    ensures { λ r. ⌜ r ≡ routeField x ⌝ }
+    ensures bounded { λ r. ⌜ r < 2 ^ 32 ⌝ }
+{
+    match x {
+        Route::Itself => 0,
+        Route::Low => 1,
+        Route::Through(h) => 2 + 65536 * (h as u64),
+        Route::NoRoute => 3,
+    }
+}
+
+// What asking a pair and writing a walk answer, as one number.
+pub fn asking_code(x: Asking) -> u64
+    ensures { λ r. ⌜ r ≡ code answerField (pairAnswer x) ⌝ }
+{
+    match x {
+        Asking::Refused(k) => refusals::refusal_number(k) as u64,
+        Asking::Answered(a) => {
+            let route = a.route;
+            65536 * (a.report as u64 + 65536 * route_field(route))
+        }
+    }
+}
+
+// A verdict.
+fn verdict_field(x: Verdict) -> u64
+    ensures { λ r. ⌜ r ≡ verdictField x ⌝ }
+    ensures bounded { λ r. ⌜ r < 3 ⌝ }
+{
+    match x {
+        Verdict::Parted => 0,
+        Verdict::Long => 1,
+        Verdict::Short => 2,
+    }
+}
+
+// What testing answers, as one number.
+pub fn testing_code(x: Testing) -> u64
+    requires { ⌜ ((t : Tested) → testAnswer x ≡ answered t → t .searches < 65536) ⌝ }
+    ensures { λ r. ⌜ r ≡ code tested (testAnswer x) ⌝ }
+{
+    match x {
+        Testing::Refused(k) => refusals::refusal_number(k) as u64,
+        Testing::Tested(t) => {
+            let verdict = t.verdict;
+            65536 * (verdict_field(verdict) + 65536 * (t.searches as u64))
+        }
+    }
+}
