@@ -11,10 +11,6 @@ use model::Verdict;
 ghost use mathlib.Core.Path.{_≡_};
 ghost use Prim.Native.Nat.{ℕ, _<_, _^_};
 ghost use Rattle.model.specs.Answers.{answered, acceptAnswer, readAnswer, countAnswer, pairAnswer, testAnswer};
-ghost use Rattle.model.specs.Reading.{reading};
-ghost use Rattle.model.specs.Writing.{writing};
-ghost use Rattle.model.specs.Asking.{asking};
-ghost use Rattle.model.specs.Testing.{testing};
 ghost use Rattle.codes.specs.Code.{code, nothing, count, size, routeField, answerField, verdictField, tested};
 
 // What acceptance answers, as one number.

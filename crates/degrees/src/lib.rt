@@ -1,7 +1,6 @@
 // High and low nodes, by their degree.
 ghost use mathlib.Core.Path.{_≡_};
 ghost use mathlib.Core.Bool.{_&&_};
-ghost use Prim.Native.Nat.{_/_, _<_};
 ghost use lib.Dec.{ltb};
 ghost use lib.ListN.{replicate};
 ghost use Rattle.model.specs.Survey.{neighboursOf, Accepted};

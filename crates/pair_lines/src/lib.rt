@@ -4,11 +4,11 @@ use model::Asking;
 use model::NONE;
 use model::Route;
 ghost use mathlib.Core.List.{[], _∷_};
-ghost use Prim.Native.Nat.{_+_, _-_, _*_, _≤_, _<_};
+ghost use Prim.Native.Nat.{_+_, _*_, _≤_, _<_};
 ghost use lib.ListN.{length};
 ghost use Rattle.lists.specs.Writing.{Wrote};
 ghost use Rattle.model.specs.Answers.{answered};
-ghost use Rattle.model.specs.Listing.{reportText, routeText, pairLine, pairLines, listing};
+ghost use Rattle.model.specs.Listing.{reportText, routeText, pairLine, pairLines};
 ghost use Rattle.pair_lines.specs.Rows.{answerText, rowText};
 
 // Writes two bytes at a place, and returns the place after them.

@@ -1,4 +1,1 @@
-pub mod LinkLaws
-pub mod Members
-pub mod ListLaws
 pub mod ReadLaws

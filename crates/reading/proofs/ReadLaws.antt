@@ -1,13 +1,10 @@
--- The first line's tests, and how the matrix gives the two lists that reading states.
+-- How the matrix gives the two lists that reading states.
 -- Assumes nothing.
 use mathlib.Core.Path.{_≡_, refl, sym, ap, ap₂, _∙_, subst}
-use mathlib.Core.Bool.{false, or-true}
 use mathlib.Core.List.{List, []}
-use mathlib.Core.Option.{none as missing, some}
-use Prim.Native.Nat.{ℕ, _+_, _*_, _≤_, _<_}
+use Prim.Native.Nat.{ℕ, _*_, _≤_, _<_}
 use native.Mathlib.Omega.{arith}
-use borrow.Author.Tests.{lt-ltb, le-ltb}
-use lib.Dec.{T, ltb}
+use lib.Dec.{T}
 use lib.ListN.{length, replicate, length-replicate}
 use Rattle.lists.proofs.Filling.{filled-own}
 use Rattle.model.specs.Answers.{Outcome, refused, answered, number}
@@ -15,57 +12,21 @@ use Rattle.model.specs.declared.Refusal.{Refusal}
 use Rattle.model.specs.declared.Reading.the-variants as read
 use Rattle.model.specs.Basics.{upTo, has, over}
 use Rattle.model.specs.SurveyText.{line}
-use Rattle.model.specs.Survey.{outside}
 use Rattle.model.specs.Reading.{named, readLinks, parsed, countsOf, parseLinks, parse, graphOf, startsOf, neighboursFrom, Reading, returned, readingOf, reading}
 use Rattle.model.proofs.Lists.{keep-same, keep-below, of-upTo}
-use Rattle.model.proofs.Links.{Within, AllFresh, first-taken, of-first-taken, links-sound}
+use Rattle.model.proofs.Links.{Within, AllFresh, of-first-taken, links-sound}
 use Rattle.model.specs.Demand.{ReadRight}
 use Rattle.model.proofs.ReadBack.{named-below, reading-right}
 use Rattle.model.proofs.SurveyLists.{neighbours-length, starts-same, neighbours-same}
-use Rattle.model.proofs.Acceptance.{in-range}
 use Rattle.model.proofs.Totals.{links-total}
 use Rattle.nodeset.specs.Matrix.{edgesIn}
-use Rattle.reading.specs.Links.{Holds, Told, rowsIn}
-use Rattle.reading.specs.declared.Links.the-variants as links
+use Rattle.survey_lines.specs.Links.{Holds, Told}
+use Rattle.survey_lists.specs.Rows.{rowsIn}
+use Rattle.survey_lines.specs.declared.Links.the-variants as links
 
--- ---- the first line
+-- ---- the whole text, from its first line
 
 module _ (N M p q : ℕ) (s : List ℕ) where
-  pub counts-malformed : line 83 s ≡ missing → countsOf N M p q (line 83 s) ≡ refused 1
-  unfolding countsOf
-  counts-malformed l = ap (countsOf N M p q) l
-
-  module _ (n m : ℕ) (rest : List ℕ) (l : line 83 s ≡ some (n, m, rest)) where
-    pub no-node : n < 1 → countsOf N M p q (line 83 s) ≡ refused 2
-    unfolding countsOf
-    no-node k = ap (countsOf N M p q) l ∙ rw (lt-ltb n 1 k) refl
-
-    pub many-nodes : N < n → countsOf N M p q (line 83 s) ≡ refused 2
-    unfolding countsOf
-    many-nodes k = ap (countsOf N M p q) l ∙ rw (lt-ltb N n k, or-true (ltb n 1)) refl
-
-    module _ (h : 1 ≤ n) (k : n ≤ N) where
-      sized : outside N n ≡ false
-      sized = in-range N n h k
-
-      pub many-links : M < m → countsOf N M p q (line 83 s) ≡ refused 3
-      unfolding countsOf
-      many-links j = ap (countsOf N M p q) l ∙ rw (sized, lt-ltb M m j) refl
-
-      module _ (i : m ≤ M) where
-        pub short-starts : p < n + 1 → countsOf N M p q (line 83 s) ≡ refused 8
-        unfolding countsOf
-        short-starts j = ap (countsOf N M p q) l ∙ rw (sized, le-ltb M m i, lt-ltb p (n + 1) j) refl
-
-        pub short-neighbours : q < 2 * m → countsOf N M p q (line 83 s) ≡ refused 8
-        unfolding countsOf
-        short-neighbours j = ap (countsOf N M p q) l ∙ rw (sized, le-ltb M m i, lt-ltb q (2 * m) j, or-true (ltb p (n + 1))) refl
-
-        pub counted : n + 1 ≤ p → 2 * m ≤ q → countsOf N M p q (line 83 s) ≡ answered (n, m, rest)
-        counted r j =
-            ap (countsOf N M p q) l
-            ∙ first-taken N M p q (n, m, rest) (record { some-node = h; size = k; few = i; room = r; list-room = j })
-
   pub parse-refused : (k : ℕ) → countsOf N M p q (line 83 s) ≡ refused k → readingOf p q (parse N M p q s) ≡ readingOf p q (refused k)
   unfolding parse parseLinks
   parse-refused k e = ap (λ (o : Outcome (ℕ × ℕ × List ℕ)). readingOf p q (parseLinks o)) e

@@ -8,7 +8,7 @@ ghost use lib.ListN.{length, replicate};
 ghost use Rattle.model.specs.Basics.{none};
 ghost use Rattle.model.specs.Survey.{neighboursOf, Accepted};
 ghost use Rattle.model.specs.Threshold.{threshold};
-ghost use Rattle.model.specs.Walk.{byLow, toHub, join, nodes};
+ghost use Rattle.model.specs.Walk.{byLow, toHub, join};
 ghost use Rattle.model.specs.Walking.{walked, fit};
 
 // Writes the walk over low nodes into a list that is all none. The steps are judged before the list's length.

@@ -2,11 +2,11 @@
 use model::NONE;
 ghost use mathlib.Core.Path.{_≡_};
 ghost use mathlib.Core.List.{map};
-ghost use Prim.Native.Nat.{_+_, _*_, _<_, _≤_};
+ghost use Prim.Native.Nat.{_*_, _<_, _≤_};
 ghost use lib.Dec.{T};
 ghost use lib.ListN.{length};
 ghost use Rattle.lists.specs.Writing.{written};
-ghost use Rattle.model.specs.Basics.{none, upTo};
+ghost use Rattle.model.specs.Basics.{upTo};
 ghost use Rattle.model.specs.Graph.{between, fewest, linked};
 ghost use Rattle.model.specs.Survey.{neighboursOf, Accepted};
 ghost use Rattle.nodeset.specs.NodeSet.{member};

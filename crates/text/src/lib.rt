@@ -3,7 +3,7 @@ ghost use mathlib.Core.Path.{_≡_};
 ghost use Prim.Native.Nat.{ℕ, _+_, _≤_, _<_};
 ghost use mathlib.Core.List.{[], _∷_};
 ghost use lib.Dec.{T};
-ghost use lib.ListN.{length, replicate, drop};
+ghost use lib.ListN.{length, drop};
 ghost use Rattle.model.specs.Basics.{all};
 ghost use Rattle.model.specs.Numbers.{isDigit, valueOf, digits};
 ghost use Rattle.model.specs.SurveyText.{line, lineOf};

@@ -16,7 +16,6 @@ ghost use Rattle.model.specs.Asking.{asking};
 ghost use Rattle.model.specs.Walk.{nodes};
 ghost use Rattle.model.specs.Walking.{walked, fit, walkOf, walking};
 ghost use Rattle.model.specs.Demand.{AllowedAnswer, WalkSound, WalkAnswers};
-ghost use Rattle.parts.specs.Parts.{given};
 ghost use Rattle.walks.specs.Ready.{Ready};
 
 // Writes the walk of an answer into a list that is all none.

@@ -4,11 +4,11 @@ use model::Counting;
 use model::Refusal;
 ghost use mathlib.Core.Path.{_≡_};
 ghost use mathlib.Core.List.{[], _∷_};
-ghost use Prim.Native.Nat.{ℕ, _+_, _*_, _<_, _≤_};
-ghost use lib.ListN.{length, getD};
+ghost use Prim.Native.Nat.{_+_, _*_, _<_, _≤_};
+ghost use lib.ListN.{length};
 ghost use Rattle.lists.specs.Writing.{Wrote};
 ghost use Rattle.model.specs.Basics.{over};
-ghost use Rattle.model.specs.Survey.{neighboursOf, Accepted};
+ghost use Rattle.model.specs.Survey.{Accepted};
 ghost use Rattle.model.specs.Writing.{textOf, writing, returned};
 ghost use Rattle.writing.specs.Lines.{linesOf};
 

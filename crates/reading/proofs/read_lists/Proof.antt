@@ -5,8 +5,8 @@ use mathlib.Core.List.{[]}
 use native.Mathlib.Omega.{arith}
 use lib.ListN.{length, drop}
 use Rattle.model.specs.Reading.{readLinks}
-use Rattle.reading.specs.declared.Links.{Links}
-use Rattle.reading.specs.Links.{Told}
+use Rattle.survey_lines.specs.declared.Links.{Links}
+use Rattle.survey_lines.specs.Links.{Told}
 use Rattle.reading.proofs.ReadLaws.{links-taken, links-refused, read-refused, read-written}
 use borrow.Author.Needs.{needs}
 use Rattle.reading.proofs.read_lists.Statement.{statement}

@@ -4,7 +4,7 @@ use mathlib.Core.Path.{sym, ap, _∙_}
 use native.Mathlib.Omega.{arith}
 use lib.ListN.{length}
 use Rattle.lists.proofs.Filling.{filled-own}
-use Rattle.reading.specs.Links.{firstAnswer}
+use Rattle.survey_lines.specs.Links.{firstAnswer}
 use Rattle.reading.proofs.ReadLaws.{counts-within, first-refused, first-read}
 use borrow.Author.Needs.{needs}
 use Rattle.reading.proofs.read_within.Statement.{statement}

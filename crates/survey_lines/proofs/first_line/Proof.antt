@@ -2,10 +2,10 @@
 -- Assumes nothing.
 use mathlib.Core.Path.{sym, ap, _∙_}
 use Rattle.text.specs.Scan.{found}
-use Rattle.reading.proofs.ReadLaws.{counts-malformed, no-node, many-nodes, many-links, short-starts, short-neighbours, counted}
+use Rattle.survey_lines.proofs.FirstLaws.{counts-malformed, no-node, many-nodes, many-links, short-starts, short-neighbours, counted}
 use borrow.Author.Needs.{needs}
-use Rattle.reading.proofs.first_line.Statement.{statement}
-use Rattle.reading.proofs.first_line.Tie as tie
+use Rattle.survey_lines.proofs.first_line.Statement.{statement}
+use Rattle.survey_lines.proofs.first_line.Tie as tie
 
 line-at-requires : tie.Need-line-at-requires
 line-at-requires c κs = search needs

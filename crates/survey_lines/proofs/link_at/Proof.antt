@@ -6,10 +6,10 @@ use borrow.Author.Tests.{not-true, not-false}
 use Rattle.text.specs.Scan.{found}
 use Rattle.nodeset.specs.Matrix.{edgesIn}
 use Rattle.nodeset.proofs.Matrix.{edge-bit}
-use Rattle.reading.proofs.LinkLaws.{both-below, link-end, link-malformed, link-far, link-loop, link-again, link-new}
+use Rattle.survey_lines.proofs.LinkLaws.{both-below, link-end, link-malformed, link-far, link-loop, link-again, link-new}
 use borrow.Author.Needs.{needs}
-use Rattle.reading.proofs.link_at.Statement.{statement}
-use Rattle.reading.proofs.link_at.Tie as tie
+use Rattle.survey_lines.proofs.link_at.Statement.{statement}
+use Rattle.survey_lines.proofs.link_at.Tie as tie
 
 returns : tie.Need-returns
 returns c = sym (link-end (c .before .before .before .args .text .now) (c .before .before .before .args .at) (c .before .before .before .args .n) (edgesIn (c .before .before .before .args .bits .now)) (c .if1 .taken))

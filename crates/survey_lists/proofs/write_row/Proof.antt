@@ -3,9 +3,9 @@
 use Prim.Native.Nat.{_-_, _≤_}
 use native.Mathlib.Omega.{arith}
 use Rattle.lists.specs.Writing.{Wrote}
-use Rattle.reading.proofs.ListLaws.{rowTo, row-none, word-fits, word-more, row-long, row-whole}
-use Rattle.reading.proofs.write_row.Statement.{statement}
-use Rattle.reading.proofs.write_row.Tie as tie
+use Rattle.survey_lists.proofs.ListLaws.{rowTo, row-none, word-fits, word-more, row-long, row-whole}
+use Rattle.survey_lists.proofs.write_row.Statement.{statement}
+use Rattle.survey_lists.proofs.write_row.Tie as tie
 
 abbrev Inv-loop : tie.InvT-loop
 Inv-loop bits v neighbours₀ at pos₀ w₀ neighbours pos w = (w ≤ 16) × Wrote neighbours₀ neighbours at pos (rowTo bits v w)

@@ -4,9 +4,9 @@ use native.Mathlib.Omega.{arith}
 use lib.Count.{trailingZeros}
 use lib.Pow.{pow-pos}
 use Rattle.nodeset.proofs.Bits.{shifted}
-use Rattle.reading.proofs.Members.{Some, some-none, some-all, some-long, low, some-here, some-more}
-use Rattle.reading.proofs.write_word.Statement.{statement}
-use Rattle.reading.proofs.write_word.Tie as tie
+use Rattle.survey_lists.proofs.Members.{Some, some-none, some-all, some-long, low, some-here, some-more}
+use Rattle.survey_lists.proofs.write_word.Statement.{statement}
+use Rattle.survey_lists.proofs.write_word.Tie as tie
 
 abbrev Inv-loop : tie.InvT-loop
 Inv-loop word base neighbours₀ at left₀ pos₀ neighbours left pos = Some base word neighbours₀ neighbours at pos left

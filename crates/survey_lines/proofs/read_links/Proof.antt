@@ -7,10 +7,10 @@ use native.Mathlib.Omega.{arith}
 use lib.ListN.{length, drop, length-replicate}
 use Rattle.model.specs.declared.Refusal.the-variants.{LineCount}
 use Rattle.nodeset.specs.Matrix.{edgesIn}
-use Rattle.reading.specs.Links.{stepAnswer}
-use Rattle.reading.proofs.LinkLaws.{link-below, Progress, progress-none, progress-refused, progress-taken, progress-more, progress-done, told-refused, told-taken}
-use Rattle.reading.proofs.read_links.Statement.{statement}
-use Rattle.reading.proofs.read_links.Tie as tie
+use Rattle.survey_lines.specs.Links.{stepAnswer}
+use Rattle.survey_lines.proofs.LinkLaws.{link-below, Progress, progress-none, progress-refused, progress-taken, progress-more, progress-done, told-refused, told-taken}
+use Rattle.survey_lines.proofs.read_links.Statement.{statement}
+use Rattle.survey_lines.proofs.read_links.Tie as tie
 
 abbrev Inv-loop : tie.InvT-loop
 Inv-loop text at n m bits₀ next₀ k₀ bits next k = Progress n m text at bits next k

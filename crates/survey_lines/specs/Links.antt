@@ -6,17 +6,15 @@ use mathlib.Core.Path.{_≡_}
 use Prim.Native.Nat.{ℕ, _<_}
 use lib.ListN.{length, drop}
 use Rattle.model.specs.Answers.{Outcome, refused, answered, number}
-use Rattle.model.specs.Basics.{upTo, keep}
-use Rattle.model.specs.Survey.{Graph}
 use Rattle.model.specs.SurveyText.{line}
 use Rattle.model.specs.Reading.{named, linkOf}
 use Rattle.nodeset.specs.Matrix.{edgesIn}
-use Rattle.reading.specs.declared.Step.{Step}
-use Rattle.reading.specs.declared.Step.the-variants as step
-use Rattle.reading.specs.declared.Links.{Links}
-use Rattle.reading.specs.declared.Links.the-variants as links
-use Rattle.reading.specs.declared.First.{First}
-use Rattle.reading.specs.declared.First.the-variants as first
+use Rattle.survey_lines.specs.declared.Step.{Step}
+use Rattle.survey_lines.specs.declared.Step.the-variants as step
+use Rattle.survey_lines.specs.declared.Links.{Links}
+use Rattle.survey_lines.specs.declared.Links.the-variants as links
+use Rattle.survey_lines.specs.declared.First.{First}
+use Rattle.survey_lines.specs.declared.First.the-variants as first
 
 -- a matrix with exactly these links
 pub record Holds (ws : List ℕ) (ls : List (ℕ × ℕ)) : Type 0 where
@@ -42,7 +40,3 @@ Told (refused k) links.Taken ws = ⊥
 abbrev pub firstAnswer : List ℕ → First → Outcome (ℕ × ℕ × List ℕ)
 firstAnswer s (first.Counts n m e) = answered (n, m, drop e s)
 firstAnswer s (first.Refused r) = refused (number r)
-
--- the graph of the matrix: each node's neighbours, ascending
-unfoldable pub rowsIn : List ℕ → Graph
-rowsIn ws v = keep (edgesIn ws v) (upTo 1024)

@@ -4,10 +4,10 @@ use mathlib.Core.Path.{_∙_}
 use lib.ListN.{length-set}
 use Prim.Native.Nat.{_-_}
 use native.Mathlib.Omega.{arith}
-use Rattle.reading.specs.Links.{rowsIn}
-use Rattle.reading.proofs.ListLaws.{Lists, lists-none, position, start-here, row-fits, lists-more, lists-long, lists-done}
-use Rattle.reading.proofs.write_lists.Statement.{statement}
-use Rattle.reading.proofs.write_lists.Tie as tie
+use Rattle.survey_lists.specs.Rows.{rowsIn}
+use Rattle.survey_lists.proofs.ListLaws.{Lists, lists-none, position, start-here, row-fits, lists-more, lists-long, lists-done}
+use Rattle.survey_lists.proofs.write_lists.Statement.{statement}
+use Rattle.survey_lists.proofs.write_lists.Tie as tie
 
 abbrev Inv-loop : tie.InvT-loop
 Inv-loop bits n starts₀ neighbours₀ pos₀ v₀ starts neighbours pos v = Lists (rowsIn bits) n starts₀ neighbours₀ starts neighbours pos v

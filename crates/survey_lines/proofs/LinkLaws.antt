@@ -23,8 +23,8 @@ use Rattle.nodeset.specs.NodeSet.{member, with}
 use Rattle.nodeset.proofs.Bits.{eqb-same}
 use Rattle.nodeset.specs.Matrix.{edgesIn}
 use Rattle.nodeset.proofs.Matrix.{edge-with, edges-none}
-use Rattle.reading.specs.Links.{Holds, linkIn, Told}
-use Rattle.reading.specs.declared.Links.the-variants as links
+use Rattle.survey_lines.specs.Links.{Holds, linkIn, Told}
+use Rattle.survey_lines.specs.declared.Links.the-variants as links
 
 -- ---- one line
 

@@ -19,7 +19,7 @@ use Rattle.nodeset.proofs.Bits.{word-bit}
 use Rattle.nodeset.proofs.Words.{next-word}
 use Rattle.nodeset.specs.Matrix.{edgesIn}
 use Rattle.nodeset.proofs.Matrix.{edge-bit}
-use Rattle.reading.specs.Links.{rowsIn}
+use Rattle.survey_lists.specs.Rows.{rowsIn}
 
 -- what is kept of the numbers below u is no more than of those below n
 kept-below : (f : ℕ → Bool) (u n : ℕ) → u ≤ n → length (keep f (upTo u)) ≤ length (keep f (upTo n))

@@ -1,0 +1,107 @@
+// The lines of a survey text: its first line, and its link lines, read into a bit matrix in which a repeated link is found in constant time.
+use model::Refusal;
+use text::Line;
+ghost use mathlib.Core.Path.{_≡_};
+ghost use mathlib.Core.List.{[]};
+ghost use Prim.Native.Nat.{_≤_};
+ghost use lib.ListN.{length, replicate, drop};
+ghost use Rattle.model.specs.SurveyText.{line};
+ghost use Rattle.model.specs.Reading.{readLinks, countsOf};
+ghost use Rattle.nodeset.specs.Matrix.{edgesIn};
+ghost use Rattle.survey_lines.specs.Links.{linkIn, stepAnswer, Told, firstAnswer};
+
+// What a link line says: the link and the place after its line.
+pub enum Step {
+    Link(usize, usize, usize),
+    Refused(Refusal),
+}
+
+// What the link lines say: all were taken, or not.
+pub enum Links {
+    Taken,
+    Refused(Refusal),
+}
+
+// What the first line says: the counts of nodes and links, and the place after it.
+pub enum First {
+    Counts(usize, usize, usize),
+    Refused(Refusal),
+}
+
+// The link line at a place, where the matrix has the links given before.
+fn link_at(text: &[u8], at: usize, n: usize, bits: &[u64]) -> Step
+    requires { ⌜ (n ≤ 1024) × (length (now bits) ≡ 16384) ⌝ }
+    ensures { λ r. ⌜ stepAnswer (now (text .entry)) r ≡ linkIn n (edgesIn (now (bits .entry))) (drop at (now (text .entry))) ⌝ }
+{
+    if text.len() <= at {
+        return Step::Refused(Refusal::LineCount);
+    }
+    let Line::Pair(a, b, next) = text::line_at(text, at, 76) else {
+        return Step::Refused(Refusal::Form);
+    };
+    let near = (a < n as u64) & (b < n as u64);
+    if !near {
+        return Step::Refused(Refusal::LineNode);
+    }
+    if a == b {
+        return Step::Refused(Refusal::EqualEnds);
+    }
+    let u = a as usize;
+    let v = b as usize;
+    if nodeset::contains(bits, 1024 * u + v) {
+        return Step::Refused(Refusal::RepeatedLink);
+    }
+    Step::Link(u, v, next)
+}
+
+// Reads m link lines from a place on into the empty matrix, and the end of the text behind them.
+pub fn read_links(text: &[u8], at: usize, n: usize, m: usize, bits: &mut [u64]) -> Links
+    requires { ⌜ (n ≤ 1024) × (now bits ≡ replicate 16384 0) ⌝ }
+    ensures { λ r. ⌜ Told (readLinks n m [] (drop at (now (text .entry)))) r (now (bits .exit)) ⌝ }
+{
+    let mut next = at;
+    let mut k = 0;
+    while k < m {
+        match link_at(text, next, n, bits) {
+            Step::Refused(r) => return Links::Refused(r),
+            Step::Link(a, b, e) => {
+                nodeset::insert(bits, 1024 * a + b);
+                nodeset::insert(bits, 1024 * b + a);
+                next = e;
+            }
+        }
+        k += 1;
+    }
+    if next < text.len() {
+        return Links::Refused(Refusal::LineCount);
+    }
+    Links::Taken
+}
+
+// The first line, within limits, for lists of p and q entries.
+pub fn first_line(text: &[u8], most_nodes: usize, most_links: usize, p: usize, q: usize) -> First
+    requires { ⌜ («most_nodes» ≤ 1024) × («most_links» ≤ 16384) ⌝ }
+    ensures { λ r. ⌜ firstAnswer (now (text .entry)) r ≡ countsOf «most_nodes» «most_links» p q (line 83 (now (text .entry))) ⌝ }
+{
+    let Line::Pair(nodes, count, at) = text::line_at(text, 0, 83) else {
+        return First::Refused(Refusal::Form);
+    };
+    if nodes < 1 {
+        return First::Refused(Refusal::NodeCount);
+    }
+    if (most_nodes as u64) < nodes {
+        return First::Refused(Refusal::NodeCount);
+    }
+    if (most_links as u64) < count {
+        return First::Refused(Refusal::LinkCount);
+    }
+    let n = nodes as usize;
+    let m = count as usize;
+    if p < n + 1 {
+        return First::Refused(Refusal::ShortList);
+    }
+    if q < 2 * m {
+        return First::Refused(Refusal::ShortList);
+    }
+    First::Counts(n, m, at)
+}
