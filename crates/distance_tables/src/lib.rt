@@ -53,7 +53,7 @@ pub fn fill_low(n: usize, s: usize, starts: &[u32], neighbours: &[u16], low: &mu
     let mut low_nodes = [0u64; 16];
     degrees::low_nodes(n, s, starts, neighbours, &mut low_nodes);
     let mut rows = [0u64; 16384];
-    layers::link_rows(n, starts, neighbours, &low_nodes, &mut rows);
+    link_matrix::link_rows(n, starts, neighbours, &low_nodes, &mut rows);
     let mut a = 0;
     while a < n {
         low_row(n, &rows, &low_nodes, a, low);

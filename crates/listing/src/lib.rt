@@ -29,7 +29,7 @@ fn write_tables(
     let mut hubs = [0u16; 128];
     let s = threshold::threshold_at(n);
     let count = tables::build_tables(n, s, starts, neighbours, full, low, report, &mut hubs);
-    let i = text::write_line(buffer, 0, 82, n as u32, count as u32);
+    let i = format::write_line(buffer, 0, 82, n as u32, count as u32);
     pair_lines::write_pairs(n, full, low, report, buffer, i)
 }
 
@@ -58,9 +58,9 @@ fn write_refusal(refusal: Refusal, buffer: &mut [u8]) -> usize
     requires { ⌜ most ≤ length (now buffer) ⌝ }
     ensures { λ r. ⌜ Wrote (now (buffer .entry)) (now (buffer .exit)) 0 r (listingText (refused (number refusal))) ⌝ }
 {
-    let i = text::write_byte(buffer, 0, 88);
-    let i = text::write_field(buffer, i, refusals::refusal_number(refusal) as u32);
-    text::write_byte(buffer, i, 10)
+    let i = format::write_byte(buffer, 0, 88);
+    let i = format::write_field(buffer, i, refusals::refusal_number(refusal) as u32);
+    format::write_byte(buffer, i, 10)
 }
 
 // Writes the listing of a text from the first byte on, and returns its length.

@@ -16,8 +16,8 @@ fn write_two(buffer: &mut [u8], at: usize, x: u8, y: u8) -> usize
     requires { ⌜ at + 2 ≤ length (now buffer) ⌝ }
     ensures { λ r. ⌜ Wrote (now (buffer .entry)) (now (buffer .exit)) at r (x ∷ y ∷ []) ⌝ }
 {
-    let i = text::write_byte(buffer, at, x);
-    text::write_byte(buffer, i, y)
+    let i = format::write_byte(buffer, at, x);
+    format::write_byte(buffer, i, y)
 }
 
 // Writes a comma and a report at a place, and returns the place after them.
@@ -28,7 +28,7 @@ fn write_report(buffer: &mut [u8], at: usize, report: u16) -> usize
     if report == NONE {
         return write_two(buffer, at, 44, 45);
     }
-    text::write_field(buffer, at, report as u32)
+    format::write_field(buffer, at, report as u32)
 }
 
 // Writes a comma and a route at a place, and returns the place after them.
@@ -37,12 +37,12 @@ fn write_route(buffer: &mut [u8], at: usize, route: Route) -> usize
     ensures { λ r. ⌜ Wrote (now (buffer .entry)) (now (buffer .exit)) at r (44 ∷ routeText route) ⌝ }
 {
     match route {
-        Route::Itself => text::write_byte(buffer, at, 44),
+        Route::Itself => format::write_byte(buffer, at, 44),
         Route::Low => {
             let i = write_two(buffer, at, 44, 108);
             write_two(buffer, i, 111, 119)
         }
-        Route::Through(h) => text::write_field(buffer, at, h as u32),
+        Route::Through(h) => format::write_field(buffer, at, h as u32),
         Route::NoRoute => write_two(buffer, at, 44, 45),
     }
 }
@@ -53,12 +53,12 @@ fn write_pair(buffer: &mut [u8], at: usize, a: u32, b: u32, answer: Answer) -> u
     ensures { λ r. ⌜ Wrote (now (buffer .entry)) (now (buffer .exit)) at r (pairLine (a, b) (answered answer)) ⌝ }
 {
     let route = answer.route;
-    let i = text::write_byte(buffer, at, 80);
-    let i = text::write_field(buffer, i, a);
-    let i = text::write_field(buffer, i, b);
+    let i = format::write_byte(buffer, at, 80);
+    let i = format::write_field(buffer, i, a);
+    let i = format::write_field(buffer, i, b);
     let i = write_report(buffer, i, answer.report);
     let i = write_route(buffer, i, route);
-    text::write_byte(buffer, i, 10)
+    format::write_byte(buffer, i, 10)
 }
 
 // Writes the line that the tables give for a pair at a place, and returns the place after it.

@@ -18,7 +18,7 @@ fn link_length(a: usize, b: u16) -> usize
     ensures { λ r. ⌜ (r ≡ length (linesOf a (b ∷ []))) × (r ≤ 24) ⌝ }
 {
     if a < b as usize {
-        return text::line_length(a as u32, b as u32);
+        return format::line_length(a as u32, b as u32);
     }
     0
 }
@@ -42,7 +42,7 @@ fn text_length(n: usize, starts: &[u32], neighbours: &[u16]) -> usize
     requires { ⌜ Accepted n (now starts) (now neighbours) ⌝ }
     ensures { λ r. ⌜ r ≡ length (textOf n (now (starts .entry)) (now (neighbours .entry))) ⌝ }
 {
-    let mut total = text::line_length(n as u32, starts[n] / 2);
+    let mut total = format::line_length(n as u32, starts[n] / 2);
     let mut v = 0;
     while v < n {
         total += row_length(v, survey::own(n, starts, neighbours, v));
@@ -59,7 +59,7 @@ fn write_link(a: usize, b: u16, buffer: &mut [u8], at: usize) -> usize
     if b as usize <= a {
         return at;
     }
-    text::write_line(buffer, at, 76, a as u32, b as u32)
+    format::write_line(buffer, at, 76, a as u32, b as u32)
 }
 
 // Writes the lines of a node's links to larger nodes at a place, and returns the place after them.
@@ -81,7 +81,7 @@ fn write_text(n: usize, starts: &[u32], neighbours: &[u16], buffer: &mut [u8])
     requires { ⌜ Accepted n (now starts) (now neighbours) × (length (textOf n (now starts) (now neighbours)) ≤ length (now buffer)) ⌝ }
     ensures { λ _. ⌜ now (buffer .exit) ≡ over (textOf n (now (starts .entry)) (now (neighbours .entry))) (now (buffer .entry)) ⌝ }
 {
-    let mut pos = text::write_line(buffer, 0, 83, n as u32, starts[n] / 2);
+    let mut pos = format::write_line(buffer, 0, 83, n as u32, starts[n] / 2);
     let mut v = 0;
     while v < n {
         pos = write_row(v, survey::own(n, starts, neighbours, v), buffer, pos);

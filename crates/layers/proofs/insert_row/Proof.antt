@@ -6,8 +6,6 @@ use native.Mathlib.Omega.{arith}
 use Rattle.layers.proofs.Matrix.{Joining, joining-none, joining-more, joining-all}
 use Rattle.layers.proofs.insert_row.Statement.{statement}
 use Rattle.layers.proofs.insert_row.Tie as tie
-use Rattle.layers.proofs.insert_row.Reads as reads
-use Rattle.layers.proofs.insert_row.Lts as lts
 
 abbrev Inv-loop : tie.InvT-loop
 Inv-loop rows v found₀ i₀ found i = Joining rows v found₀ found i

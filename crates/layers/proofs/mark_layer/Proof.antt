@@ -7,9 +7,6 @@ use Rattle.nodeset.specs.Matrix.{edgesIn}
 use Rattle.layers.proofs.Marks.{Marked, marked-none, marked-same, word-inside, marked-more, marked-row, marked-found}
 use Rattle.layers.proofs.mark_layer.Statement.{statement}
 use Rattle.layers.proofs.mark_layer.Tie as tie
-use Rattle.layers.proofs.mark_layer.Reads as reads
-use Rattle.layers.proofs.mark_layer.Lts as lts
-use Rattle.layers.proofs.mark_word.Reads as mark-word-reads
 
 abbrev Inv-loop : tie.InvT-loop
 Inv-loop layer d rows row₀ found₀ w₀ row found w = Marked (edgesIn rows) layer d row₀ found₀ row found w

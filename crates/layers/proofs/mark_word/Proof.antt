@@ -9,9 +9,6 @@ use Rattle.nodeset.specs.Matrix.{edgesIn}
 use Rattle.layers.proofs.Marks.{Marking, marking-none, marking-row, marking-found, low, first-inside, marking-more}
 use Rattle.layers.proofs.mark_word.Statement.{statement}
 use Rattle.layers.proofs.mark_word.Tie as tie
-use Rattle.layers.proofs.mark_word.Reads as reads
-use Rattle.layers.proofs.mark_word.Lts as lts
-use Rattle.layers.proofs.insert_row.Reads as insert-row-reads
 
 abbrev Inv-loop : tie.InvT-loop
 Inv-loop word base d rows row₀ found₀ left₀ row found left = Marking (edgesIn rows) base word d row₀ found₀ row found left

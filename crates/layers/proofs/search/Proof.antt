@@ -12,16 +12,6 @@ use Rattle.layers.proofs.Turns.{Turn, turn-start, turn-more, front-insi
 use borrow.Author.Needs.{needs}
 use Rattle.layers.proofs.search.Statement.{statement}
 use Rattle.layers.proofs.search.Tie as tie
-use Rattle.layers.proofs.search.Reads as reads
-use Rattle.layers.proofs.search.Lts as lts
-use Rattle.layers.proofs.mark_layer.Reads as mark-layer-reads
-use Rattle.lists.proofs.fill16.Reads as fill16-reads
-use Rattle.nodeset.proofs.insert.Reads as insert-reads
-use Rattle.nodeset.proofs.insert_below.Reads as insert-below-reads
-use Rattle.nodeset.proofs.remove.Reads as remove-reads
-use Rattle.nodeset.proofs.smallest.Reads as smallest-reads
-use Rattle.nodeset.proofs.take_out.Reads as take-out-reads
-use Rattle.nodeset.proofs.write_common.Reads as write-common-reads
 
 abbrev Inv-loop : tie.InvT-loop
 Inv-loop n rows source row₀ layer₀ unvisited₀ found₀ k₀ row layer unvisited found k = Turn (edgesIn rows) n source k row (member layer) (member unvisited) (member found) × (k ≤ n) × (length layer ≡ 16) × (length unvisited ≡ 16) × (length found ≡ 16)

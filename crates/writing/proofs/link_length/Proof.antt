@@ -7,9 +7,6 @@ use Rattle.writing.proofs.LineLaws.{line-left, line-taken}
 use borrow.Author.Needs.{needs}
 use Rattle.writing.proofs.link_length.Statement.{statement}
 use Rattle.writing.proofs.link_length.Tie as tie
-use Rattle.writing.proofs.link_length.Reads as reads
-use Rattle.writing.proofs.link_length.Lts as lts
-use Rattle.text.proofs.line_length.Reads as line-length-reads
 
 -- src/lib.rt:21:34
 cast-line-length : tie.Need-cast-line-length

@@ -1,8 +1,8 @@
 -- `text::write_byte` meets its contract. Assumes nothing.
 use Rattle.lists.proofs.Writing.{wrote-one}
 use borrow.Author.Needs.{needs}
-use Rattle.text.proofs.write_byte.Statement.{statement}
-use Rattle.text.proofs.write_byte.Tie as tie
+use Rattle.format.proofs.write_byte.Statement.{statement}
+use Rattle.format.proofs.write_byte.Tie as tie
 
 slice-write-buf : tie.Need-slice-write-buf
 slice-write-buf c = search needs

@@ -5,8 +5,8 @@ use native.Mathlib.Omega.{arith}
 use lib.ListN.{length}
 use Rattle.model.specs.Numbers.{digits}
 use Rattle.model.proofs.Numbers.{length-small, length-more, length-le, digits-pos}
-use Rattle.text.proofs.digit_count.Statement.{statement}
-use Rattle.text.proofs.digit_count.Tie as tie
+use Rattle.format.proofs.digit_count.Statement.{statement}
+use Rattle.format.proofs.digit_count.Tie as tie
 
 abbrev Inv-loop : tie.InvT-loop
 Inv-loop x n₀ left₀ n left = n + length (digits left) ≡ 1 + length (digits x)

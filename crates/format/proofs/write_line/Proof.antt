@@ -5,12 +5,8 @@ use Rattle.model.specs.Numbers.{digits}
 use Rattle.model.specs.SurveyText.{lineOf}
 use Rattle.lists.proofs.Writing.{left-all, left-fits, left-more, left-none}
 use borrow.Author.Needs.{needs}
-use Rattle.text.proofs.write_line.Statement.{statement}
-use Rattle.text.proofs.write_line.Tie as tie
-use Rattle.text.proofs.write_line.Reads as reads
-use Rattle.text.proofs.write_line.Lts as lts
-use Rattle.text.proofs.write_byte.Reads as write-byte-reads
-use Rattle.text.proofs.write_field.Reads as write-field-reads
+use Rattle.format.proofs.write_line.Statement.{statement}
+use Rattle.format.proofs.write_line.Tie as tie
 
 -- src/lib.rt:207:9
 write-byte-requires : tie.Need-write-byte-requires

@@ -4,14 +4,10 @@ use mathlib.Core.Path.{sym, _∙_}
 use borrow.Author.Tests.{not-true, not-false}
 use Rattle.nodeset.specs.Matrix.{edgesIn}
 use Rattle.nodeset.specs.NodeSet.{member}
-use Rattle.layers.proofs.Matrix.{link-not, link-put}
+use Rattle.link_matrix.proofs.Links.{link-not, link-put}
 use borrow.Author.Needs.{needs}
-use Rattle.layers.proofs.link.Statement.{statement}
-use Rattle.layers.proofs.link.Tie as tie
-use Rattle.layers.proofs.link.Reads as reads
-use Rattle.layers.proofs.link.Lts as lts
-use Rattle.nodeset.proofs.contains.Reads as contains-reads
-use Rattle.nodeset.proofs.insert.Reads as insert-reads
+use Rattle.link_matrix.proofs.link.Statement.{statement}
+use Rattle.link_matrix.proofs.link.Tie as tie
 
 contains-requires : tie.Need-contains-requires
 contains-requires c κs = search needs

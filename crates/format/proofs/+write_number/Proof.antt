@@ -3,16 +3,16 @@
 use mathlib.Core.Path.{_∙_}
 use native.Mathlib.Omega.{arith}
 use Rattle.model.proofs.Numbers.{length-small, length-more}
-use Rattle.text.proofs.Digits.{wrote-small, wrote-more}
+use Rattle.format.proofs.Digits.{wrote-small, wrote-more}
 use Prim.Native.Nat.{_<_, ℕ}
 use borrow.Fn.Kinds.{In}
 use borrow.Fn.PlainCycle.{Measures, is, falls, and}
-use Rattle.text.proofs.write_number.Reads as write-number
-use Rattle.text.proofs.write_number.Kinds as write-number-kinds
-use Rattle.text.proofs.+write_number.Lts-write_number as write-number-lts
-use Rattle.text.proofs.write_byte.Reads as write-byte-reads
-use Rattle.text.proofs.+write_number.{statement}
-use Rattle.text.proofs.+write_number.Tie.{close}
+use Rattle.format.proofs.write_number.Reads as write-number
+use Rattle.format.proofs.write_number.Kinds as write-number-kinds
+use Rattle.format.proofs.+write_number.Lts-write_number as write-number-lts
+use Rattle.format.proofs.write_byte.Reads as write-byte-reads
+use Rattle.format.proofs.+write_number.{statement}
+use Rattle.format.proofs.+write_number.Tie.{close}
 
 abbrev μ-write-number : Measures 1 write-number-kinds.ps ℕ
 μ-write-number κs a = a .1 .1 .0

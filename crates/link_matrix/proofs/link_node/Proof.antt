@@ -10,15 +10,10 @@ use Rattle.model.specs.Basics.{has}
 use Rattle.model.specs.Survey.{neighboursOf}
 use Rattle.nodeset.specs.NodeSet.{member}
 use Rattle.nodeset.specs.Matrix.{edgesIn}
-use Rattle.layers.proofs.Matrix.{node-not, node-put}
+use Rattle.link_matrix.proofs.Links.{node-not, node-put}
 use borrow.Author.Needs.{needs}
-use Rattle.layers.proofs.link_node.Statement.{statement}
-use Rattle.layers.proofs.link_node.Tie as tie
-use Rattle.layers.proofs.link_node.Reads as reads
-use Rattle.layers.proofs.link_node.Lts as lts
-use Rattle.layers.proofs.link_list.Reads as link-list-reads
-use Rattle.nodeset.proofs.contains.Reads as contains-reads
-use Rattle.survey.proofs.own.Reads as own-reads
+use Rattle.link_matrix.proofs.link_node.Statement.{statement}
+use Rattle.link_matrix.proofs.link_node.Tie as tie
 
 contains-requires : tie.Need-contains-requires
 contains-requires c κs = search needs

@@ -3,12 +3,8 @@
 use native.Mathlib.Omega.{arith}
 use Rattle.lists.proofs.Writing.{wrote-then}
 use borrow.Author.Needs.{needs}
-use Rattle.text.proofs.write_field.Statement.{statement}
-use Rattle.text.proofs.write_field.Tie as tie
-use Rattle.text.proofs.write_field.Reads as reads
-use Rattle.text.proofs.write_field.Lts as lts
-use Rattle.text.proofs.write_byte.Reads as write-byte-reads
-use Rattle.text.proofs.write_number.Reads as write-number-reads
+use Rattle.format.proofs.write_field.Statement.{statement}
+use Rattle.format.proofs.write_field.Tie as tie
 
 -- src/lib.rt:198:9
 write-byte-requires : tie.Need-write-byte-requires

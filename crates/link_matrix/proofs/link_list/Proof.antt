@@ -7,13 +7,10 @@ use lib.ListN.{length}
 use Rattle.model.proofs.Ascending.{getD-has}
 use Rattle.nodeset.specs.NodeSet.{member}
 use Rattle.nodeset.specs.Matrix.{edgesIn}
-use Rattle.layers.proofs.Matrix.{Linking, linking-none, linking-more, linking-all}
+use Rattle.link_matrix.proofs.Links.{Linking, linking-none, linking-more, linking-all}
 use borrow.Author.Needs.{needs}
-use Rattle.layers.proofs.link_list.Statement.{statement}
-use Rattle.layers.proofs.link_list.Tie as tie
-use Rattle.layers.proofs.link_list.Reads as reads
-use Rattle.layers.proofs.link_list.Lts as lts
-use Rattle.layers.proofs.link.Reads as link-reads
+use Rattle.link_matrix.proofs.link_list.Statement.{statement}
+use Rattle.link_matrix.proofs.link_list.Tie as tie
 
 abbrev Inv-loop : tie.InvT-loop
 Inv-loop v list allowed rows₀ i₀ rows i = Linking v list (member allowed) (edgesIn rows₀) rows i

@@ -10,12 +10,9 @@ use Rattle.model.specs.Graph.{between, linked}
 use Rattle.model.specs.Survey.{neighboursOf}
 use Rattle.nodeset.specs.NodeSet.{member}
 use Rattle.nodeset.specs.Matrix.{edgesIn}
-use Rattle.layers.proofs.Matrix.{rows-none, rows-next, rows-all}
-use Rattle.layers.proofs.link_rows.Statement.{statement}
-use Rattle.layers.proofs.link_rows.Tie as tie
-use Rattle.layers.proofs.link_rows.Reads as reads
-use Rattle.layers.proofs.link_rows.Lts as lts
-use Rattle.layers.proofs.link_node.Reads as link-node-reads
+use Rattle.link_matrix.proofs.Links.{rows-none, rows-next, rows-all}
+use Rattle.link_matrix.proofs.link_rows.Statement.{statement}
+use Rattle.link_matrix.proofs.link_rows.Tie as tie
 
 abbrev Inv-loop : tie.InvT-loop
 Inv-loop n starts neighbours allowed rows₀ v₀ rows v = (v ≤ n) × (length rows ≡ 16384) × (edgesIn rows ≡ (λ u x. ltb u v && between (member allowed) (linked n (neighboursOf starts neighbours)) u x))

@@ -2,10 +2,10 @@
 -- Assumes nothing.
 use native.Mathlib.Omega.{arith}
 use Rattle.model.proofs.Lines.{length-line}
-use Rattle.text.proofs.Digits.{digits-few}
+use Rattle.format.proofs.Digits.{digits-few}
 use borrow.Author.Needs.{needs}
-use Rattle.text.proofs.line_length.Statement.{statement}
-use Rattle.text.proofs.line_length.Tie as tie
+use Rattle.format.proofs.line_length.Statement.{statement}
+use Rattle.format.proofs.line_length.Tie as tie
 
 digit-count-requires : tie.Need-digit-count-requires
 digit-count-requires c κs = search needs
