@@ -1,1 +1,1 @@
-pub mod Depths
+pub mod Sources

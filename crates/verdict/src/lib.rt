@@ -1,44 +1,16 @@
 // The two-or-four test: whether some two nodes are unjoined, and which of two depths the searches from a few nodes show.
 use model::Accepting;
-use model::NONE;
 use model::Tested;
 use model::Testing;
-use model::Verdict;
 ghost use mathlib.Core.Path.{_≡_};
-ghost use Prim.Native.Nat.{ℕ, _<_, _≤_, max};
-ghost use lib.Dec.{T};
+ghost use Prim.Native.Nat.{_≤_};
 ghost use lib.ListN.{length, take};
 ghost use Rattle.model.specs.Answers.{testAnswer};
-ghost use Rattle.model.specs.Basics.{has};
-ghost use Rattle.model.specs.Graph.{fewest, linked};
+ghost use Rattle.model.specs.Graph.{linked};
 ghost use Rattle.model.specs.Survey.{neighboursOf, Accepted};
 ghost use Rattle.model.specs.TwoOrFour.{sources, tested};
 ghost use Rattle.model.specs.Testing.{testing};
 ghost use Rattle.model.specs.Demand.{RightVerdict};
-ghost use Rattle.verdict.specs.Depth.{greatest, distances, ofDepth};
-
-// The greater of two numbers.
-fn greater(a: u16, b: u16) -> u16
-    ensures { λ r. ⌜ r ≡ max a b ⌝ }
-{
-    if a < b {
-        return b;
-    }
-    a
-}
-
-// The greatest number of a row.
-fn row_depth(row: &[u16]) -> u16
-    ensures { λ r. ⌜ r ≡ greatest (now (row .entry)) ⌝ }
-{
-    let mut most = 0;
-    let mut i = 0;
-    while i < row.len() {
-        most = greater(most, row[i]);
-        i += 1;
-    }
-    most
-}
 
 // The nodes to search from, in the front of the list, and their count: the smallest low node and its neighbours, or else the hubs.
 fn find_sources(n: usize, s: usize, starts: &[u32], neighbours: &[u16], list: &mut [u16]) -> usize
@@ -58,48 +30,6 @@ fn find_sources(n: usize, s: usize, starts: &[u32], neighbours: &[u16], list: &m
     1 + row.len()
 }
 
-// The greatest distance from one of the sources to any node; none, and no further search, where a search misses a node.
-fn search_depth(n: usize, starts: &[u32], neighbours: &[u16], sources: &[u16]) -> u16
-    requires { ⌜ Accepted n (now starts) (now neighbours) ⌝ }
-    requires { ⌜ ((h : ℕ) → T (has h (now sources)) → h < n) ⌝ }
-    ensures { λ r. ⌜ r ≡ greatest (distances n (fewest (linked n (neighboursOf (now (starts .entry)) (now (neighbours .entry)))) n) (now (sources .entry))) ⌝ }
-{
-    let mut all = [0u64; 16];
-    nodeset::insert_below(&mut all, n);
-    let mut row = [0u16; 1024];
-    let mut most = 0;
-    let mut i = 0;
-    while i < sources.len() {
-        search::search(
-            n,
-            starts,
-            neighbours,
-            &all,
-            sources[i] as usize,
-            &mut row[..n],
-        );
-        most = greater(most, row_depth(&row[..n]));
-        if most == NONE {
-            return NONE;
-        }
-        i += 1;
-    }
-    most
-}
-
-// The verdict on a depth.
-fn verdict_on(depth: u16) -> Verdict
-    ensures { λ r. ⌜ r ≡ ofDepth depth ⌝ }
-{
-    if depth == NONE {
-        return Verdict::Parted;
-    }
-    if 2 < depth {
-        return Verdict::Long;
-    }
-    Verdict::Short
-}
-
 // The test for threshold s.
 fn run_test(n: usize, s: usize, starts: &[u32], neighbours: &[u16]) -> Tested
     requires { ⌜ Accepted n (now starts) (now neighbours) ⌝ }
@@ -107,9 +37,9 @@ fn run_test(n: usize, s: usize, starts: &[u32], neighbours: &[u16]) -> Tested
 {
     let mut list = [0u16; 1024];
     let searches = find_sources(n, s, starts, neighbours, &mut list);
-    let depth = search_depth(n, starts, neighbours, &list[..searches]);
+    let depth = depths::search_depth(n, starts, neighbours, &list[..searches]);
     Tested {
-        verdict: verdict_on(depth),
+        verdict: depths::verdict_on(depth),
         searches,
     }
 }

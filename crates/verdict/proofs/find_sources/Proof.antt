@@ -10,7 +10,7 @@ use Rattle.model.proofs.Acceptance.{few-neighbours}
 use Rattle.hubs.proofs.Greedy.{hubs-front}
 use Rattle.nodeset.specs.NodeSet.{member}
 use Rattle.survey.proofs.RowLaws.{rows-of}
-use Rattle.verdict.proofs.Depths.{sources-hubs, sources-low, two-written}
+use Rattle.verdict.proofs.Sources.{sources-hubs, sources-low, two-written}
 use borrow.Author.Needs.{needs}
 use Rattle.verdict.proofs.find_sources.Statement.{statement}
 use Rattle.verdict.proofs.find_sources.Tie as tie

@@ -8,7 +8,7 @@ use lib.Dec.{T}
 use Rattle.model.specs.Basics.{has}
 use Rattle.model.specs.Survey.{neighboursOf}
 use Rattle.model.proofs.Verdicts.{source-cases, source-below}
-use Rattle.verdict.proofs.Depths.{sources-fit, sources-long, tested-is}
+use Rattle.verdict.proofs.Sources.{sources-fit, sources-long, tested-is}
 use borrow.Author.Needs.{needs}
 use Rattle.verdict.proofs.run_test.Statement.{statement}
 use Rattle.verdict.proofs.run_test.Tie as tie

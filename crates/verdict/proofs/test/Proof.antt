@@ -3,7 +3,7 @@
 use mathlib.Core.Path.{sym, ap, _∙_}
 use Rattle.model.specs.Answers.{acceptAnswer}
 use Rattle.model.proofs.Acceptance.{accepting-facts}
-use Rattle.verdict.proofs.Depths.{test-refused, test-done}
+use Rattle.verdict.proofs.Sources.{test-refused, test-done}
 use borrow.Author.Needs.{needs}
 use Rattle.verdict.proofs.test.Statement.{statement}
 use Rattle.verdict.proofs.test.Tie as tie

@@ -11,12 +11,12 @@ use Rattle.model.specs.Graph.{fewest, linked}
 use Rattle.model.specs.Survey.{neighboursOf}
 use Rattle.model.proofs.Ascending.{getD-has}
 use Rattle.nodeset.specs.NodeSet.{member}
-use Rattle.verdict.specs.Depth.{greatest, distances}
+use Rattle.depths.specs.Depth.{greatest, distances}
 use Rattle.model.proofs.Entries.{length-row}
-use Rattle.verdict.proofs.Depths.{row-searched, row-kept, search-turn, search-end, search-none}
+use Rattle.depths.proofs.Depths.{row-searched, row-kept, search-turn, search-end, search-none}
 use borrow.Author.Needs.{needs}
-use Rattle.verdict.proofs.search_depth.Statement.{statement}
-use Rattle.verdict.proofs.search_depth.Tie as tie
+use Rattle.depths.proofs.search_depth.Statement.{statement}
+use Rattle.depths.proofs.search_depth.Tie as tie
 
 abbrev Inv-loop : tie.InvT-loop
 Inv-loop n starts neighbours sources all row₀ most₀ i₀ row most i = (i ≤ length sources) × (length row ≡ 1024) × (max most (greatest (distances n (fewest (linked n (neighboursOf starts neighbours)) n) (drop i sources))) ≡ greatest (distances n (fewest (linked n (neighboursOf starts neighbours)) n) sources))

@@ -4,11 +4,11 @@ use mathlib.Core.Path.{_≡_, sym, subst}
 use Prim.Native.Nat.{ℕ, _+_, _-_, _≤_, max}
 use native.Mathlib.Omega.{arith}
 use lib.ListN.{length, drop}
-use Rattle.verdict.specs.Depth.{greatest}
-use Rattle.verdict.proofs.Depths.{row-turn, row-end}
+use Rattle.depths.specs.Depth.{greatest}
+use Rattle.depths.proofs.Depths.{row-turn, row-end}
 use borrow.Author.Needs.{needs}
-use Rattle.verdict.proofs.row_depth.Statement.{statement}
-use Rattle.verdict.proofs.row_depth.Tie as tie
+use Rattle.depths.proofs.row_depth.Statement.{statement}
+use Rattle.depths.proofs.row_depth.Tie as tie
 
 abbrev Inv-loop : tie.InvT-loop
 Inv-loop row most₀ i₀ most i = (i ≤ length row) × (max most (greatest (drop i row)) ≡ greatest row)

@@ -3,9 +3,9 @@
 use mathlib.Core.Path.{refl}
 use borrow.Author.Tests.{eq-eqb, ne-eqb, lt-ltb, le-ltb}
 use Rattle.model.specs.Basics.{none}
-use Rattle.verdict.specs.Depth.{ofDepth}
-use Rattle.verdict.proofs.verdict_on.Statement.{statement}
-use Rattle.verdict.proofs.verdict_on.Tie as tie
+use Rattle.depths.specs.Depth.{ofDepth}
+use Rattle.depths.proofs.verdict_on.Statement.{statement}
+use Rattle.depths.proofs.verdict_on.Tie as tie
 
 -- src/lib.rt:91:9
 returns : tie.Need-returns

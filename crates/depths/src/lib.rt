@@ -1,0 +1,76 @@
+// How deep searches from some nodes go, and the verdict on that.
+use model::NONE;
+use model::Verdict;
+ghost use mathlib.Core.Path.{_≡_};
+ghost use Prim.Native.Nat.{ℕ, _<_, max};
+ghost use lib.Dec.{T};
+ghost use Rattle.model.specs.Basics.{has};
+ghost use Rattle.model.specs.Graph.{fewest, linked};
+ghost use Rattle.model.specs.Survey.{neighboursOf, Accepted};
+ghost use Rattle.model.specs.TwoOrFour.{sources};
+ghost use Rattle.depths.specs.Depth.{greatest, distances, ofDepth};
+
+// The greater of two numbers.
+fn greater(a: u16, b: u16) -> u16
+    ensures { λ r. ⌜ r ≡ max a b ⌝ }
+{
+    if a < b {
+        return b;
+    }
+    a
+}
+
+// The greatest number of a row.
+fn row_depth(row: &[u16]) -> u16
+    ensures { λ r. ⌜ r ≡ greatest (now (row .entry)) ⌝ }
+{
+    let mut most = 0;
+    let mut i = 0;
+    while i < row.len() {
+        most = greater(most, row[i]);
+        i += 1;
+    }
+    most
+}
+
+// The greatest distance from one of the sources to any node; none, and no further search, where a search misses a node.
+pub fn search_depth(n: usize, starts: &[u32], neighbours: &[u16], sources: &[u16]) -> u16
+    requires { ⌜ Accepted n (now starts) (now neighbours) ⌝ }
+    requires { ⌜ ((h : ℕ) → T (has h (now sources)) → h < n) ⌝ }
+    ensures { λ r. ⌜ r ≡ greatest (distances n (fewest (linked n (neighboursOf (now (starts .entry)) (now (neighbours .entry)))) n) (now (sources .entry))) ⌝ }
+{
+    let mut all = [0u64; 16];
+    nodeset::insert_below(&mut all, n);
+    let mut row = [0u16; 1024];
+    let mut most = 0;
+    let mut i = 0;
+    while i < sources.len() {
+        search::search(
+            n,
+            starts,
+            neighbours,
+            &all,
+            sources[i] as usize,
+            &mut row[..n],
+        );
+        most = greater(most, row_depth(&row[..n]));
+        if most == NONE {
+            return NONE;
+        }
+        i += 1;
+    }
+    most
+}
+
+// The verdict on a depth.
+pub fn verdict_on(depth: u16) -> Verdict
+    ensures { λ r. ⌜ r ≡ ofDepth depth ⌝ }
+{
+    if depth == NONE {
+        return Verdict::Parted;
+    }
+    if 2 < depth {
+        return Verdict::Long;
+    }
+    Verdict::Short
+}
