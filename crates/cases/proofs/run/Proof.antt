@@ -13,27 +13,21 @@ Inv-loop script starts₀ neighbours₀ buffer₀ at₀ turns₀ starts neighbou
 abbrev μ-loop : tie.MeasureT-loop
 μ-loop script starts₀ neighbours₀ buffer₀ at₀ turns₀ starts neighbours buffer at turns = turns
 
--- src/main.rt:97:5
 loop-holds : tie.Need-loop-holds Inv-loop μ-loop
 loop-holds c = tt
 
--- src/main.rt:98:9
 step-requires : tie.Need-step-requires Inv-loop μ-loop
 step-requires c κs = search needs
 
--- src/main.rt:99:9
 sub-turns : tie.Need-sub-turns Inv-loop μ-loop
 sub-turns c = search needs
 
--- src/main.rt:97:5
 loop-less : tie.Need-loop-less Inv-loop μ-loop
 loop-less c = search needs
 
--- src/main.rt:97:5
 loop-again : tie.Need-loop-again Inv-loop μ-loop
 loop-again c = tt
 
--- src/main.rt:91:1
 returns : tie.Need-returns Inv-loop μ-loop
 returns c = tt
 

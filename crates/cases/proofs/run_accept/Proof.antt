@@ -14,67 +14,51 @@ use Rattle.script.proofs.read_command.Reads as read-command-reads
 use Rattle.refusals.proofs.refusal_number.Reads as refusal-number-reads
 use Rattle.survey.proofs.accept.Reads as accept-reads
 
--- src/main.rt:28:9
 read-command-requires : tie.Need-read-command-requires
 read-command-requires c κs = search needs
 
--- src/main.rt:29:9
 at-most-requires : tie.Need-at-most-requires
 at-most-requires c κs = search needs
 
--- src/main.rt:30:9
 at-most-requires-2 : tie.Need-at-most-requires-2
 at-most-requires-2 c κs = search needs
 
--- src/main.rt:31:40
 slice-aggregate-accept : tie.Need-slice-aggregate-accept
 slice-aggregate-accept c = sym (length-take-le ((c .before .before .at-most .result)) ((c .before .before .before .before .before .before .before .args .starts .now)) (omega (arith, c .before .before .at-most .ensures)))
 
--- src/main.rt:31:54
 slice-aggregate-accept-2 : tie.Need-slice-aggregate-accept-2
 slice-aggregate-accept-2 c = sym (length-take-le ((c .before .before .at-most2 .result)) ((c .before .before .before .before .before .before .before .before .args .neighbours .now)) (omega (arith, c .before .before .at-most2 .ensures)))
 
--- src/main.rt:31:11
 accept-requires : tie.Need-accept-requires
 accept-requires c κs = search needs
 
--- src/main.rt:32:28
 enum-known-r : tie.Need-enum-known-r
 enum-known-r c = search needs
 
--- src/main.rt:32:57
 refusal-number-requires : tie.Need-refusal-number-requires
 refusal-number-requires c κs = search needs
 
--- src/main.rt:32:57
 cast-t19 : tie.Need-cast-t19
 cast-t19 c = search needs
 
--- src/main.rt:32:55
 slice-aggregate-print-line : tie.Need-slice-aggregate-print-line
 slice-aggregate-print-line c = search needs
 
--- src/main.rt:32:34
 print-line-requires : tie.Need-print-line-requires
 print-line-requires c κs = search needs
 
--- src/main.rt:33:53
 enum-told : tie.Need-enum-told
 enum-told c = search needs
 
--- src/main.rt:33:53
 slice-aggregate-print-line-2 : tie.Need-slice-aggregate-print-line-2
 slice-aggregate-print-line-2 c = search needs
 
--- src/main.rt:33:32
 print-line-requires-2 : tie.Need-print-line-requires-2
 print-line-requires-2 c κs = search needs
 
--- src/main.rt:27:1
 returns : tie.Need-returns
 returns c = search needs
 
--- src/main.rt:27:1
 returns-2 : tie.Need-returns-2
 returns-2 c = search needs
 

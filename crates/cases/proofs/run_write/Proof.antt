@@ -15,91 +15,69 @@ use Rattle.script.proofs.sum8.Reads as sum8-reads
 use Rattle.refusals.proofs.refusal_number.Reads as refusal-number-reads
 use Rattle.writing.proofs.write_survey.Reads as write-survey-reads
 
--- src/main.rt:45:9
 read-command-requires : tie.Need-read-command-requires
 read-command-requires c κs = search needs
 
--- src/main.rt:46:9
 at-most-requires : tie.Need-at-most-requires
 at-most-requires c κs = search needs
 
--- src/main.rt:47:9
 at-most-requires-2 : tie.Need-at-most-requires-2
 at-most-requires-2 c κs = search needs
 
--- src/main.rt:48:9
 at-most-requires-3 : tie.Need-at-most-requires-3
 at-most-requires-3 c κs = search needs
 
--- src/main.rt:49:54
 slice-aggregate-write-survey : tie.Need-slice-aggregate-write-survey
 slice-aggregate-write-survey c = sym (length-take-le ((c .before .before .before .at-most .result)) ((c .before .before .before .before .before .before .before .before .before .args .starts .now)) (omega (arith, c .before .before .before .at-most .ensures)))
 
--- src/main.rt:49:68
 slice-aggregate-write-survey-2 : tie.Need-slice-aggregate-write-survey-2
 slice-aggregate-write-survey-2 c = sym (length-take-le ((c .before .before .before .at-most2 .result)) ((c .before .before .before .before .before .before .before .before .before .before .args .neighbours .now)) (omega (arith, c .before .before .before .at-most2 .ensures)))
 
--- src/main.rt:49:86
 slice-relend-prefix-write-survey : tie.Need-slice-relend-prefix-write-survey
 slice-relend-prefix-write-survey c = search needs
 
--- src/main.rt:49:86
 slice-aggregate-write-survey-3 : tie.Need-slice-aggregate-write-survey-3
 slice-aggregate-write-survey-3 c = sym (length-take-le ((c .before .before .before .at-most3 .result)) ((c .before .before .before .before .before .before .before .before .before .before .before .args .buffer .now)) (omega (arith, c .before .before .before .at-most3 .ensures)))
 
--- src/main.rt:49:9
 write-survey-requires : tie.Need-write-survey-requires
 write-survey-requires c κs = search needs
 
--- src/main.rt:50:9
 sum8-requires : tie.Need-sum8-requires
 sum8-requires c κs = search needs
 
--- src/main.rt:52:27
 enum-known-answer : tie.Need-enum-known-answer
 enum-known-answer c = search needs
 
--- src/main.rt:52:56
 refusal-number-requires : tie.Need-refusal-number-requires
 refusal-number-requires c κs = search needs
 
--- src/main.rt:52:56
 cast-t26 : tie.Need-cast-t26
 cast-t26 c = search needs
 
--- src/main.rt:52:54
 slice-aggregate-print-line : tie.Need-slice-aggregate-print-line
 slice-aggregate-print-line c = search needs
 
--- src/main.rt:52:33
 print-line-requires : tie.Need-print-line-requires
 print-line-requires c κs = search needs
 
--- src/main.rt:53:25
 enum-known-answer-2 : tie.Need-enum-known-answer-2
 enum-known-answer-2 c = search needs
 
--- src/main.rt:53:52
 slice-aggregate-print-line-2 : tie.Need-slice-aggregate-print-line-2
 slice-aggregate-print-line-2 c = search needs
 
--- src/main.rt:53:31
 print-line-requires-2 : tie.Need-print-line-requires-2
 print-line-requires-2 c κs = search needs
 
--- src/main.rt:38:1
 same-length : tie.Need-same-length
 same-length c = search needs
 
--- src/main.rt:38:1
 returns : tie.Need-returns
 returns c = search needs
 
--- src/main.rt:38:1
 same-length-2 : tie.Need-same-length-2
 same-length-2 c = search needs
 
--- src/main.rt:38:1
 returns-2 : tie.Need-returns-2
 returns-2 c = search needs
 

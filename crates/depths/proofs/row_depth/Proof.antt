@@ -16,35 +16,27 @@ Inv-loop row most₀ i₀ most i = (i ≤ length row) × (max most (greatest (dr
 abbrev μ-loop : tie.MeasureT-loop
 μ-loop row most₀ i₀ most i = length row - i
 
--- src/lib.rt:39:5
 loop-holds : tie.Need-loop-holds Inv-loop μ-loop
 loop-holds c = (omega arith, omega arith)
 
--- src/lib.rt:40:30
 mul-greater : tie.Need-mul-greater Inv-loop μ-loop
 mul-greater c = search needs
 
--- src/lib.rt:40:30
 shared-slice-read-greater : tie.Need-shared-slice-read-greater Inv-loop μ-loop
 shared-slice-read-greater c = search needs
 
--- src/lib.rt:40:9
 greater-requires : tie.Need-greater-requires Inv-loop μ-loop
 greater-requires c κs = search needs
 
--- src/lib.rt:41:9
 add-i : tie.Need-add-i Inv-loop μ-loop
 add-i c = search needs
 
--- src/lib.rt:39:5
 loop-less : tie.Need-loop-less Inv-loop μ-loop
 loop-less c = search needs
 
--- src/lib.rt:39:5
 loop-again : tie.Need-loop-again Inv-loop μ-loop
 loop-again c = (omega arith, subst (λ (m : ℕ). max m (greatest (drop ((c .before .before .before .loop .i) + 1) ((c .before .before .before .before .before .args .row .now)))) ≡ greatest ((c .before .before .before .before .before .args .row .now))) (sym ((c .greater .ensures))) (row-turn ((c .before .before .before .before .before .args .row .now)) ((c .before .before .before .loop .i)) ((c .before .before .before .loop .most)) ((c .before .before .loop-test .taken)) ((c .before .before .before .loop .inv .1))))
 
--- src/lib.rt:34:1
 returns : tie.Need-returns Inv-loop μ-loop
 returns c = row-end ((c .before .before .before .args .row .now)) ((c .before .loop .i)) ((c .before .loop .most)) ((c .loop-test .left)) ((c .before .loop .inv .1))
 

@@ -7,17 +7,14 @@ use Rattle.depths.specs.Depth.{ofDepth}
 use Rattle.depths.proofs.verdict_on.Statement.{statement}
 use Rattle.depths.proofs.verdict_on.Tie as tie
 
--- src/lib.rt:91:9
 returns : tie.Need-returns
 unfolding ofDepth
 returns c = rw (eq-eqb ((c .before .args .depth)) none ((c .if1 .taken))) refl
 
--- src/lib.rt:94:9
 returns-2 : tie.Need-returns-2
 unfolding ofDepth
 returns-2 c = rw (ne-eqb ((c .before .before .args .depth)) none ((c .before .if1 .left)), lt-ltb 2 ((c .before .before .args .depth)) ((c .if2 .taken))) refl
 
--- src/lib.rt:87:1
 returns-3 : tie.Need-returns-3
 unfolding ofDepth
 returns-3 c = rw (ne-eqb ((c .before .before .args .depth)) none ((c .before .if1 .left)), le-ltb 2 ((c .before .before .args .depth)) ((c .if2 .left))) refl

@@ -6,19 +6,15 @@ use borrow.Author.Needs.{needs}
 use Rattle.format.proofs.write_field.Statement.{statement}
 use Rattle.format.proofs.write_field.Tie as tie
 
--- src/lib.rt:198:9
 write-byte-requires : tie.Need-write-byte-requires
 write-byte-requires c κs = search needs
 
--- src/lib.rt:199:5
 write-number-requires : tie.Need-write-number-requires
 write-number-requires c κs = search needs
 
--- src/lib.rt:194:1
 same-length : tie.Need-same-length
 same-length c = search needs
 
--- src/lib.rt:194:1
 returns : tie.Need-returns
 returns c = wrote-then (omega (arith, (c .before .before .before .before .before .before .before .before .before .pre))) (c .before .before .before .before .before .before .write-byte .ensures) (c .before .before .write-number .ensures)
 

@@ -8,31 +8,25 @@ use borrow.Author.Needs.{needs}
 use Rattle.format.proofs.write_line.Statement.{statement}
 use Rattle.format.proofs.write_line.Tie as tie
 
--- src/lib.rt:207:9
 write-byte-requires : tie.Need-write-byte-requires
 unfolding lineOf
 write-byte-requires c κs = left-fits (c .before .before .args .buf .now) (c .before .before .args .at) _ (c .before .before .pre) _ _ ((c .before .before .args .letter) ∷ []) ((44 ∷ digits (c .before .before .args .a)) ++ ((44 ∷ digits (c .before .before .args .b)) ++ ((10 ∷ []) ++ []))) (left-all _ _ _)
 
--- src/lib.rt:208:9
 write-field-requires : tie.Need-write-field-requires
 unfolding lineOf
 write-field-requires c κs = left-fits _ _ _ (c .before .before .before .before .before .before .pre) _ _ (44 ∷ digits (c .before .before .before .before .before .before .args .a)) ((44 ∷ digits (c .before .before .before .before .before .before .args .b)) ++ ((10 ∷ []) ++ [])) (left-more _ _ _ (c .before .before .before .before .before .before .pre) _ _ ((c .before .before .before .before .before .before .args .letter) ∷ []) ((44 ∷ digits (c .before .before .before .before .before .before .args .a)) ++ ((44 ∷ digits (c .before .before .before .before .before .before .args .b)) ++ ((10 ∷ []) ++ []))) (left-all _ _ _) _ _ (c .before .before .before .write-byte .ensures))
 
--- src/lib.rt:209:9
 write-field-requires-2 : tie.Need-write-field-requires-2
 unfolding lineOf
 write-field-requires-2 c κs = left-fits _ _ _ (c .before .before .before .before .before .before .before .before .before .before .pre) _ _ (44 ∷ digits (c .before .before .before .before .before .before .before .before .before .before .args .b)) ((10 ∷ []) ++ []) (left-more _ _ _ (c .before .before .before .before .before .before .before .before .before .before .pre) _ _ (44 ∷ digits (c .before .before .before .before .before .before .before .before .before .before .args .a)) ((44 ∷ digits (c .before .before .before .before .before .before .before .before .before .before .args .b)) ++ ((10 ∷ []) ++ [])) (left-more _ _ _ (c .before .before .before .before .before .before .before .before .before .before .pre) _ _ ((c .before .before .before .before .before .before .before .before .before .before .args .letter) ∷ []) ((44 ∷ digits (c .before .before .before .before .before .before .before .before .before .before .args .a)) ++ ((44 ∷ digits (c .before .before .before .before .before .before .before .before .before .before .args .b)) ++ ((10 ∷ []) ++ []))) (left-all _ _ _) _ _ (c .before .before .before .before .before .before .before .write-byte .ensures)) _ _ (c .before .before .before .write-field .ensures))
 
--- src/lib.rt:210:5
 write-byte-requires-2 : tie.Need-write-byte-requires-2
 unfolding lineOf
 write-byte-requires-2 c κs = left-fits _ _ _ (c .before .before .before .before .before .before .before .before .before .before .before .before .before .before .pre) _ _ (10 ∷ []) [] (left-more _ _ _ (c .before .before .before .before .before .before .before .before .before .before .before .before .before .before .pre) _ _ (44 ∷ digits (c .before .before .before .before .before .before .before .before .before .before .before .before .before .before .args .b)) ((10 ∷ []) ++ []) (left-more _ _ _ (c .before .before .before .before .before .before .before .before .before .before .before .before .before .before .pre) _ _ (44 ∷ digits (c .before .before .before .before .before .before .before .before .before .before .before .before .before .before .args .a)) ((44 ∷ digits (c .before .before .before .before .before .before .before .before .before .before .before .before .before .before .args .b)) ++ ((10 ∷ []) ++ [])) (left-more _ _ _ (c .before .before .before .before .before .before .before .before .before .before .before .before .before .before .pre) _ _ ((c .before .before .before .before .before .before .before .before .before .before .before .before .before .before .args .letter) ∷ []) ((44 ∷ digits (c .before .before .before .before .before .before .before .before .before .before .before .before .before .before .args .a)) ++ ((44 ∷ digits (c .before .before .before .before .before .before .before .before .before .before .before .before .before .before .args .b)) ++ ((10 ∷ []) ++ []))) (left-all _ _ _) _ _ (c .before .before .before .before .before .before .before .before .before .before .before .write-byte .ensures)) _ _ (c .before .before .before .before .before .before .before .write-field .ensures)) _ _ (c .before .before .before .write-field2 .ensures))
 
--- src/lib.rt:203:1
 same-length : tie.Need-same-length
 same-length c = search needs
 
--- src/lib.rt:203:1
 returns : tie.Need-returns
 unfolding lineOf
 returns c = left-none _ _ _ (c .before .before .before .before .before .before .before .before .before .before .before .before .before .before .before .before .before .pre) _ _ (left-more _ _ _ (c .before .before .before .before .before .before .before .before .before .before .before .before .before .before .before .before .before .pre) _ _ (10 ∷ []) [] (left-more _ _ _ (c .before .before .before .before .before .before .before .before .before .before .before .before .before .before .before .before .before .pre) _ _ (44 ∷ digits (c .before .before .before .before .before .before .before .before .before .before .before .before .before .before .before .before .before .args .b)) ((10 ∷ []) ++ []) (left-more _ _ _ (c .before .before .before .before .before .before .before .before .before .before .before .before .before .before .before .before .before .pre) _ _ (44 ∷ digits (c .before .before .before .before .before .before .before .before .before .before .before .before .before .before .before .before .before .args .a)) ((44 ∷ digits (c .before .before .before .before .before .before .before .before .before .before .before .before .before .before .before .before .before .args .b)) ++ ((10 ∷ []) ++ [])) (left-more _ _ _ (c .before .before .before .before .before .before .before .before .before .before .before .before .before .before .before .before .before .pre) _ _ ((c .before .before .before .before .before .before .before .before .before .before .before .before .before .before .before .before .before .args .letter) ∷ []) ((44 ∷ digits (c .before .before .before .before .before .before .before .before .before .before .before .before .before .before .before .before .before .args .a)) ++ ((44 ∷ digits (c .before .before .before .before .before .before .before .before .before .before .before .before .before .before .before .before .before .args .b)) ++ ((10 ∷ []) ++ []))) (left-all _ _ _) _ _ (c .before .before .before .before .before .before .before .before .before .before .before .before .before .before .write-byte .ensures)) _ _ (c .before .before .before .before .before .before .before .before .before .before .write-field .ensures)) _ _ (c .before .before .before .before .before .before .write-field2 .ensures)) _ _ (c .before .before .write-byte2 .ensures))

@@ -13,29 +13,23 @@ use borrow.Author.Needs.{needs}
 use Rattle.listing.proofs.write_refusal.Statement.{statement}
 use Rattle.listing.proofs.write_refusal.Tie as tie
 
--- src/lib.rt:185:9
 write-byte-requires : tie.Need-write-byte-requires
 write-byte-requires c κs = search needs
 
--- src/lib.rt:186:42
 refusal-number-requires : tie.Need-refusal-number-requires
 refusal-number-requires c κs = search needs
 
--- src/lib.rt:186:9
 write-field-requires : tie.Need-write-field-requires
 unfolding listingText
 write-field-requires c κs = left-fits _ _ _ (refusal-room (c .before .before .before .before .before .before .before .args .refusal) (c .refusal-number .result) (c .refusal-number .ensures) (c .before .before .before .before .before .before .before .args .buffer .now) (c .before .before .before .before .before .before .before .pre)) _ _ (44 ∷ digits (c .refusal-number .result)) ((10 ∷ []) ++ []) (left-more (c .before .before .before .before .before .before .before .args .buffer .now) 0 (listingText (refused (c .refusal-number .result))) (refusal-room (c .before .before .before .before .before .before .before .args .refusal) (c .refusal-number .result) (c .refusal-number .ensures) (c .before .before .before .before .before .before .before .args .buffer .now) (c .before .before .before .before .before .before .before .pre)) _ _ (88 ∷ []) ((44 ∷ digits (c .refusal-number .result)) ++ ((10 ∷ []) ++ [])) (left-all _ _ _) _ _ (c .before .before .before .before .write-byte .ensures))
 
--- src/lib.rt:187:5
 write-byte-requires-2 : tie.Need-write-byte-requires-2
 unfolding listingText
 write-byte-requires-2 c κs = left-fits _ _ _ (refusal-room (c .before .before .before .before .before .before .before .before .before .before .before .args .refusal) (c .before .before .before .before .refusal-number .result) (c .before .before .before .before .refusal-number .ensures) (c .before .before .before .before .before .before .before .before .before .before .before .args .buffer .now) (c .before .before .before .before .before .before .before .before .before .before .before .pre)) _ _ (10 ∷ []) [] (left-more _ _ _ (refusal-room (c .before .before .before .before .before .before .before .before .before .before .before .args .refusal) (c .before .before .before .before .refusal-number .result) (c .before .before .before .before .refusal-number .ensures) (c .before .before .before .before .before .before .before .before .before .before .before .args .buffer .now) (c .before .before .before .before .before .before .before .before .before .before .before .pre)) _ _ (44 ∷ digits (c .before .before .before .before .refusal-number .result)) ((10 ∷ []) ++ []) (left-more (c .before .before .before .before .before .before .before .before .before .before .before .args .buffer .now) 0 (listingText (refused (c .before .before .before .before .refusal-number .result))) (refusal-room (c .before .before .before .before .before .before .before .before .before .before .before .args .refusal) (c .before .before .before .before .refusal-number .result) (c .before .before .before .before .refusal-number .ensures) (c .before .before .before .before .before .before .before .before .before .before .before .args .buffer .now) (c .before .before .before .before .before .before .before .before .before .before .before .pre)) _ _ (88 ∷ []) ((44 ∷ digits (c .before .before .before .before .refusal-number .result)) ++ ((10 ∷ []) ++ [])) (left-all _ _ _) _ _ (c .before .before .before .before .before .before .before .before .write-byte .ensures)) _ _ (c .before .before .before .write-field .ensures))
 
--- src/lib.rt:181:1
 same-length : tie.Need-same-length
 same-length c = search needs
 
--- src/lib.rt:181:1
 returns : tie.Need-returns
 unfolding listingText
 returns c = subst (λ (k : ℕ). Wrote (c .before .before .before .before .before .before .before .before .before .before .before .before .before .before .args .buffer .now) (c .before .before .write-byte2 .last .0) 0 (c .before .before .write-byte2 .result) (listingText (refused k))) (c .before .before .before .before .before .before .before .refusal-number .ensures) (left-none _ _ _ (refusal-room (c .before .before .before .before .before .before .before .before .before .before .before .before .before .before .args .refusal) (c .before .before .before .before .before .before .before .refusal-number .result) (c .before .before .before .before .before .before .before .refusal-number .ensures) (c .before .before .before .before .before .before .before .before .before .before .before .before .before .before .args .buffer .now) (c .before .before .before .before .before .before .before .before .before .before .before .before .before .before .pre)) _ _ (left-more _ _ _ (refusal-room (c .before .before .before .before .before .before .before .before .before .before .before .before .before .before .args .refusal) (c .before .before .before .before .before .before .before .refusal-number .result) (c .before .before .before .before .before .before .before .refusal-number .ensures) (c .before .before .before .before .before .before .before .before .before .before .before .before .before .before .args .buffer .now) (c .before .before .before .before .before .before .before .before .before .before .before .before .before .before .pre)) _ _ (10 ∷ []) [] (left-more _ _ _ (refusal-room (c .before .before .before .before .before .before .before .before .before .before .before .before .before .before .args .refusal) (c .before .before .before .before .before .before .before .refusal-number .result) (c .before .before .before .before .before .before .before .refusal-number .ensures) (c .before .before .before .before .before .before .before .before .before .before .before .before .before .before .args .buffer .now) (c .before .before .before .before .before .before .before .before .before .before .before .before .before .before .pre)) _ _ (44 ∷ digits (c .before .before .before .before .before .before .before .refusal-number .result)) ((10 ∷ []) ++ []) (left-more (c .before .before .before .before .before .before .before .before .before .before .before .before .before .before .args .buffer .now) 0 (listingText (refused (c .before .before .before .before .before .before .before .refusal-number .result))) (refusal-room (c .before .before .before .before .before .before .before .before .before .before .before .before .before .before .args .refusal) (c .before .before .before .before .before .before .before .refusal-number .result) (c .before .before .before .before .before .before .before .refusal-number .ensures) (c .before .before .before .before .before .before .before .before .before .before .before .before .before .before .args .buffer .now) (c .before .before .before .before .before .before .before .before .before .before .before .before .before .before .pre)) _ _ (88 ∷ []) ((44 ∷ digits (c .before .before .before .before .before .before .before .refusal-number .result)) ++ ((10 ∷ []) ++ [])) (left-all _ _ _) _ _ (c .before .before .before .before .before .before .before .before .before .before .before .write-byte .ensures)) _ _ (c .before .before .before .before .before .before .write-field .ensures)) _ _ (c .before .before .write-byte2 .ensures)))

@@ -12,43 +12,33 @@ use borrow.Author.Needs.{needs}
 use Rattle.listing.proofs.write_survey.Statement.{statement}
 use Rattle.listing.proofs.write_survey.Tie as tie
 
--- src/lib.rt:164:16
 mul-size : tie.Need-mul-size
 mul-size c = omega (arith, (square-most (c .before .before .before .args .n) (c .before .before .before .pre .1)))
 
--- src/lib.rt:172:9
 array-borrow-prefix-full : tie.Need-array-borrow-prefix-full
 array-borrow-prefix-full c = (square-most (c .before .before .before .args .n) (c .before .before .before .pre .1))
 
--- src/lib.rt:172:9
 slice-aggregate-write-tables : tie.Need-slice-aggregate-write-tables
 slice-aggregate-write-tables c = sym (length-take-le ((c .before .before .before .before .args .n) * (c .before .before .before .before .args .n)) (replicate {A = ℕ} 16384 0) (omega (arith, length-replicate {A = ℕ} 16384 0, (square-most (c .before .before .before .before .args .n) (c .before .before .before .before .pre .1)))))
 
--- src/lib.rt:173:9
 array-borrow-prefix-low : tie.Need-array-borrow-prefix-low
 array-borrow-prefix-low c = (square-most (c .before .before .before .before .args .n) (c .before .before .before .before .pre .1))
 
--- src/lib.rt:173:9
 slice-aggregate-write-tables-2 : tie.Need-slice-aggregate-write-tables-2
 slice-aggregate-write-tables-2 c = sym (length-take-le ((c .before .before .before .before .before .args .n) * (c .before .before .before .before .before .args .n)) (replicate {A = ℕ} 16384 0) (omega (arith, length-replicate {A = ℕ} 16384 0, (square-most (c .before .before .before .before .before .args .n) (c .before .before .before .before .before .pre .1)))))
 
--- src/lib.rt:174:9
 array-borrow-prefix-report : tie.Need-array-borrow-prefix-report
 array-borrow-prefix-report c = (square-most (c .before .before .before .before .before .args .n) (c .before .before .before .before .before .pre .1))
 
--- src/lib.rt:174:9
 slice-aggregate-write-tables-3 : tie.Need-slice-aggregate-write-tables-3
 slice-aggregate-write-tables-3 c = sym (length-take-le ((c .before .before .before .before .before .before .args .n) * (c .before .before .before .before .before .before .args .n)) (replicate {A = ℕ} 16384 0) (omega (arith, length-replicate {A = ℕ} 16384 0, (square-most (c .before .before .before .before .before .before .args .n) (c .before .before .before .before .before .before .pre .1)))))
 
--- src/lib.rt:168:5
 write-tables-requires : tie.Need-write-tables-requires
 write-tables-requires c κs = (((c .before .before .before .before .before .before .before .pre .0), (c .before .before .before .before .before .before .before .pre .1), (length-take-le ((c .before .before .before .before .before .before .before .args .n) * (c .before .before .before .before .before .before .before .args .n)) (replicate {A = ℕ} 16384 0) (omega (arith, length-replicate {A = ℕ} 16384 0, (square-most (c .before .before .before .before .before .before .before .args .n) (c .before .before .before .before .before .before .before .pre .1))))), (length-take-le ((c .before .before .before .before .before .before .before .args .n) * (c .before .before .before .before .before .before .before .args .n)) (replicate {A = ℕ} 16384 0) (omega (arith, length-replicate {A = ℕ} 16384 0, (square-most (c .before .before .before .before .before .before .before .args .n) (c .before .before .before .before .before .before .before .pre .1))))), (length-take-le ((c .before .before .before .before .before .before .before .args .n) * (c .before .before .before .before .before .before .before .args .n)) (replicate {A = ℕ} 16384 0) (omega (arith, length-replicate {A = ℕ} 16384 0, (square-most (c .before .before .before .before .before .before .before .args .n) (c .before .before .before .before .before .before .before .pre .1)))))), omega (arith, listing-few (c .before .before .before .before .before .before .before .args .n) (neighboursOf (c .before .before .before .before .before .before .before .args .starts .now) (c .before .before .before .before .before .before .before .args .neighbours .now)) (c .before .before .before .before .before .before .before .pre .0 .lists .graph) (c .before .before .before .before .before .before .before .pre .1), (c .before .before .before .before .before .before .before .pre .2)))
 
--- src/lib.rt:160:1
 same-length : tie.Need-same-length
 same-length c = search needs
 
--- src/lib.rt:160:1
 returns : tie.Need-returns
 returns c = search needs
 

@@ -12,55 +12,42 @@ use borrow.Author.Needs.{needs}
 use Rattle.listing.proofs.write_text.Statement.{statement}
 use Rattle.listing.proofs.write_text.Tie as tie
 
--- src/lib.rt:196:49
 slice-aggregate-read-within : tie.Need-slice-aggregate-read-within
 slice-aggregate-read-within c = search needs
 
--- src/lib.rt:196:62
 slice-aggregate-read-within-2 : tie.Need-slice-aggregate-read-within-2
 slice-aggregate-read-within-2 c = search needs
 
--- src/lib.rt:196:11
 read-within-requires : tie.Need-read-within-requires
 read-within-requires c κs = search needs
 
--- src/lib.rt:197:26
 enum-known-r : tie.Need-enum-known-r
 enum-known-r c = search needs
 
--- src/lib.rt:197:32
 write-refusal-requires : tie.Need-write-refusal-requires
 write-refusal-requires c κs = search needs
 
--- src/lib.rt:198:23
 enum-known-size : tie.Need-enum-known-size
 enum-known-size c = search needs
 
--- src/lib.rt:198:57
 slice-aggregate-write-survey : tie.Need-slice-aggregate-write-survey
 slice-aggregate-write-survey c = search needs
 
--- src/lib.rt:198:66
 slice-aggregate-write-survey-2 : tie.Need-slice-aggregate-write-survey-2
 slice-aggregate-write-survey-2 c = search needs
 
--- src/lib.rt:198:32
 write-survey-requires : tie.Need-write-survey-requires
 write-survey-requires c κs = ((listing-read (c .before .before .before .before .before .before .before .before .before .before .before .before .before .args .text .now) _ _ (length-replicate {A = ℕ} 129 0) (length-replicate {A = ℕ} 4096 0) (c .before .before .before .before .before .before .before .before .read-within .last .1 .1 .1 .0) (c .before .before .before .before .before .before .before .before .read-within .last .1 .1 .1 .1 .0) (c .before .before .before .before .size .given .0 .0) (sym (ap (λ (z : Reading). returned z (c .before .before .before .before .before .before .before .before .read-within .last .1 .1 .1 .0) (c .before .before .before .before .before .before .before .before .read-within .last .1 .1 .1 .1 .0)) (c .before .before .before .before .size .given .1)) ∙ (c .before .before .before .before .before .before .before .before .read-within .ensures))) .survey, (listing-read (c .before .before .before .before .before .before .before .before .before .before .before .before .before .args .text .now) _ _ (length-replicate {A = ℕ} 129 0) (length-replicate {A = ℕ} 4096 0) (c .before .before .before .before .before .before .before .before .read-within .last .1 .1 .1 .0) (c .before .before .before .before .before .before .before .before .read-within .last .1 .1 .1 .1 .0) (c .before .before .before .before .size .given .0 .0) (sym (ap (λ (z : Reading). returned z (c .before .before .before .before .before .before .before .before .read-within .last .1 .1 .1 .0) (c .before .before .before .before .before .before .before .before .read-within .last .1 .1 .1 .1 .0)) (c .before .before .before .before .size .given .1)) ∙ (c .before .before .before .before .before .before .before .before .read-within .ensures))) .few, (c .before .before .before .before .before .before .before .before .before .before .before .before .before .pre))
 
--- src/lib.rt:190:1
 same-length : tie.Need-same-length
 same-length c = search needs
 
--- src/lib.rt:190:1
 returns : tie.Need-returns
 returns c = subst (λ (t : List ℕ). Wrote (c .before .before .before .before .before .before .before .before .before .before .before .before .before .before .args .buffer .now) (c .before .before .write-refusal .last .1 .0) 0 (c .before .before .write-refusal .result) t) (listing-refused (c .before .before .before .before .before .before .before .before .before .before .before .before .before .before .args .text .now) _ _ (length-replicate {A = ℕ} 129 0) (length-replicate {A = ℕ} 4096 0) (c .before .before .before .before .before .before .before .before .before .read-within .last .1 .1 .1 .0) (c .before .before .before .before .before .before .before .before .before .read-within .last .1 .1 .1 .1 .0) (c .before .before .before .before .before .r .given .0 .0) (sym (ap (λ (z : Reading). returned z (c .before .before .before .before .before .before .before .before .before .read-within .last .1 .1 .1 .0) (c .before .before .before .before .before .before .before .before .before .read-within .last .1 .1 .1 .1 .0)) (c .before .before .before .before .before .r .given .1)) ∙ (c .before .before .before .before .before .before .before .before .before .read-within .ensures))) (c .before .before .write-refusal .ensures)
 
--- src/lib.rt:190:1
 same-length-2 : tie.Need-same-length-2
 same-length-2 c = search needs
 
--- src/lib.rt:190:1
 returns-2 : tie.Need-returns-2
 returns-2 c = subst (λ (t : List ℕ). Wrote (c .before .before .before .before .before .before .before .before .before .before .before .before .before .before .before .before .args .buffer .now) (c .before .before .write-survey .last .1 .1 .1 .0) 0 (c .before .before .write-survey .result) t) ((listing-read (c .before .before .before .before .before .before .before .before .before .before .before .before .before .before .before .before .args .text .now) _ _ (length-replicate {A = ℕ} 129 0) (length-replicate {A = ℕ} 4096 0) (c .before .before .before .before .before .before .before .before .before .before .before .read-within .last .1 .1 .1 .0) (c .before .before .before .before .before .before .before .before .before .before .before .read-within .last .1 .1 .1 .1 .0) (c .before .before .before .before .before .before .before .size .given .0 .0) (sym (ap (λ (z : Reading). returned z (c .before .before .before .before .before .before .before .before .before .before .before .read-within .last .1 .1 .1 .0) (c .before .before .before .before .before .before .before .before .before .before .before .read-within .last .1 .1 .1 .1 .0)) (c .before .before .before .before .before .before .before .size .given .1)) ∙ (c .before .before .before .before .before .before .before .before .before .before .before .read-within .ensures))) .lines) (c .before .before .write-survey .ensures)
 

@@ -15,35 +15,27 @@ Inv-loop list₀ value i₀ list i = Filled value list₀ list i
 abbrev μ-loop : tie.MeasureT-loop
 μ-loop list₀ value i₀ list i = length list₀ - i
 
--- src/lib.rt:20:5
 loop-holds : tie.Need-loop-holds Inv-loop μ-loop
 loop-holds c = filled-none (c .args .value) _
 
--- src/lib.rt:21:9
 mul-list : tie.Need-mul-list Inv-loop μ-loop
 mul-list c = search needs
 
--- src/lib.rt:21:9
 slice-write-list : tie.Need-slice-write-list Inv-loop μ-loop
 slice-write-list c = search needs
 
--- src/lib.rt:22:9
 add-i : tie.Need-add-i Inv-loop μ-loop
 add-i c = search needs
 
--- src/lib.rt:20:5
 loop-less : tie.Need-loop-less Inv-loop μ-loop
 loop-less c = search needs
 
--- src/lib.rt:20:5
 loop-again : tie.Need-loop-again Inv-loop μ-loop
 loop-again c = filled-more (c .before .before .args .value) _ _ _ (c .before .loop .inv) (c .loop-test .taken)
 
--- src/lib.rt:16:1
 same-length : tie.Need-same-length Inv-loop μ-loop
 same-length c = (c .before .loop .inv .same)
 
--- src/lib.rt:16:1
 returns : tie.Need-returns Inv-loop μ-loop
 returns c = filled-all (c .before .before .args .value) _ _ _ (c .before .loop .inv) (c .loop-test .left)
 

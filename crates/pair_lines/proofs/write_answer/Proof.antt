@@ -12,40 +12,31 @@ use borrow.Author.Needs.{needs}
 use Rattle.pair_lines.proofs.write_answer.Statement.{statement}
 use Rattle.pair_lines.proofs.write_answer.Tie as tie
 
--- src/lib.rt:87:11
 pair-answer-requires : tie.Need-pair-answer-requires
 pair-answer-requires c κs = search needs
 
--- src/lib.rt:88:31
 enum-told : tie.Need-enum-told
 enum-told c = search needs
 
--- src/lib.rt:89:26
 enum-known-x : tie.Need-enum-known-x
 enum-known-x c = search needs
 
--- src/lib.rt:89:55
 cast-write-pair : tie.Need-cast-write-pair
 cast-write-pair c = search needs
 
--- src/lib.rt:89:65
 cast-write-pair-2 : tie.Need-cast-write-pair-2
 cast-write-pair-2 c = search needs
 
--- src/lib.rt:89:32
 write-pair-requires : tie.Need-write-pair-requires
 write-pair-requires c κs = subst (λ (o : Outcome Answer). (c .before .before .before .before .before .before .before .before .before .args .at) + length (pairLine ((c .before .before .before .before .before .before .before .before .before .args .a), (c .before .before .before .before .before .before .before .before .before .args .b)) o) ≤ length (c .before .before .before .before .before .before .before .before .before .args .buffer .now)) (sym (sym (ap pairAnswer (c .before .before .x .given .1)) ∙ (c .before .before .before .before .pair-answer .ensures))) (c .before .before .before .before .before .before .before .before .before .pre .1)
 
--- src/lib.rt:73:1
 returns : tie.Need-returns
 unfolding pairLine
 returns c = subst (λ (o : Outcome Answer). Wrote (c .before .before .before .before .before .before .before .args .buffer .now) (c .before .before .before .before .before .before .before .args .buffer .now) (c .before .before .before .before .before .before .before .args .at) (c .before .before .before .before .before .before .before .args .at) (pairLine ((c .before .before .before .before .before .before .before .args .a), (c .before .before .before .before .before .before .before .args .b)) o)) (sym (ap pairAnswer (c .enum-told .given .1)) ∙ (c .before .before .pair-answer .ensures)) (wrote-none (c .before .before .before .before .before .before .before .args .buffer .now) (c .before .before .before .before .before .before .before .args .at))
 
--- src/lib.rt:73:1
 same-length : tie.Need-same-length
 same-length c = search needs
 
--- src/lib.rt:73:1
 returns-2 : tie.Need-returns-2
 returns-2 c = subst (λ (o : Outcome Answer). Wrote (c .before .before .before .before .before .before .before .before .before .before .before .before .args .buffer .now) (c .before .before .write-pair .last .0) (c .before .before .before .before .before .before .before .before .before .before .before .before .args .at) (c .before .before .write-pair .result) (pairLine ((c .before .before .before .before .before .before .before .before .before .before .before .before .args .a), (c .before .before .before .before .before .before .before .before .before .before .before .before .args .b)) o)) (sym (ap pairAnswer (c .before .before .before .before .before .x .given .1)) ∙ (c .before .before .before .before .before .before .before .pair-answer .ensures)) (c .before .before .write-pair .ensures)
 

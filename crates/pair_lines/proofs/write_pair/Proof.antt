@@ -8,41 +8,33 @@ use borrow.Author.Needs.{needs}
 use Rattle.pair_lines.proofs.write_pair.Statement.{statement}
 use Rattle.pair_lines.proofs.write_pair.Tie as tie
 
--- src/lib.rt:64:9
 write-byte-requires : tie.Need-write-byte-requires
 unfolding pairLine
 write-byte-requires c κs = left-fits (c .before .before .args .buffer .now) (c .before .before .args .at) _ (c .before .before .pre) _ _ (80 ∷ []) ((44 ∷ digits (c .before .before .args .a)) ++ ((44 ∷ digits (c .before .before .args .b)) ++ ((44 ∷ reportText (c .before .before .args .answer .report)) ++ ((44 ∷ routeText (c .before .before .args .answer .route)) ++ ((10 ∷ []) ++ []))))) (left-all _ _ _)
 
--- src/lib.rt:65:9
 write-field-requires : tie.Need-write-field-requires
 unfolding pairLine
 write-field-requires c κs = left-fits _ _ _ (c .before .before .before .before .before .before .pre) _ _ (44 ∷ digits (c .before .before .before .before .before .before .args .a)) ((44 ∷ digits (c .before .before .before .before .before .before .args .b)) ++ ((44 ∷ reportText (c .before .before .before .before .before .before .args .answer .report)) ++ ((44 ∷ routeText (c .before .before .before .before .before .before .args .answer .route)) ++ ((10 ∷ []) ++ [])))) (left-more _ _ _ (c .before .before .before .before .before .before .pre) _ _ (80 ∷ []) ((44 ∷ digits (c .before .before .before .before .before .before .args .a)) ++ ((44 ∷ digits (c .before .before .before .before .before .before .args .b)) ++ ((44 ∷ reportText (c .before .before .before .before .before .before .args .answer .report)) ++ ((44 ∷ routeText (c .before .before .before .before .before .before .args .answer .route)) ++ ((10 ∷ []) ++ []))))) (left-all _ _ _) _ _ (c .before .before .before .write-byte .ensures))
 
--- src/lib.rt:66:9
 write-field-requires-2 : tie.Need-write-field-requires-2
 unfolding pairLine
 write-field-requires-2 c κs = left-fits _ _ _ (c .before .before .before .before .before .before .before .before .before .before .pre) _ _ (44 ∷ digits (c .before .before .before .before .before .before .before .before .before .before .args .b)) ((44 ∷ reportText (c .before .before .before .before .before .before .before .before .before .before .args .answer .report)) ++ ((44 ∷ routeText (c .before .before .before .before .before .before .before .before .before .before .args .answer .route)) ++ ((10 ∷ []) ++ []))) (left-more _ _ _ (c .before .before .before .before .before .before .before .before .before .before .pre) _ _ (44 ∷ digits (c .before .before .before .before .before .before .before .before .before .before .args .a)) ((44 ∷ digits (c .before .before .before .before .before .before .before .before .before .before .args .b)) ++ ((44 ∷ reportText (c .before .before .before .before .before .before .before .before .before .before .args .answer .report)) ++ ((44 ∷ routeText (c .before .before .before .before .before .before .before .before .before .before .args .answer .route)) ++ ((10 ∷ []) ++ [])))) (left-more _ _ _ (c .before .before .before .before .before .before .before .before .before .before .pre) _ _ (80 ∷ []) ((44 ∷ digits (c .before .before .before .before .before .before .before .before .before .before .args .a)) ++ ((44 ∷ digits (c .before .before .before .before .before .before .before .before .before .before .args .b)) ++ ((44 ∷ reportText (c .before .before .before .before .before .before .before .before .before .before .args .answer .report)) ++ ((44 ∷ routeText (c .before .before .before .before .before .before .before .before .before .before .args .answer .route)) ++ ((10 ∷ []) ++ []))))) (left-all _ _ _) _ _ (c .before .before .before .before .before .before .before .write-byte .ensures)) _ _ (c .before .before .before .write-field .ensures))
 
--- src/lib.rt:67:9
 write-report-requires : tie.Need-write-report-requires
 unfolding pairLine
 write-report-requires c κs = left-fits _ _ _ (c .before .before .before .before .before .before .before .before .before .before .before .before .before .before .pre) _ _ (44 ∷ reportText (c .before .before .before .before .before .before .before .before .before .before .before .before .before .before .args .answer .report)) ((44 ∷ routeText (c .before .before .before .before .before .before .before .before .before .before .before .before .before .before .args .answer .route)) ++ ((10 ∷ []) ++ [])) (left-more _ _ _ (c .before .before .before .before .before .before .before .before .before .before .before .before .before .before .pre) _ _ (44 ∷ digits (c .before .before .before .before .before .before .before .before .before .before .before .before .before .before .args .b)) ((44 ∷ reportText (c .before .before .before .before .before .before .before .before .before .before .before .before .before .before .args .answer .report)) ++ ((44 ∷ routeText (c .before .before .before .before .before .before .before .before .before .before .before .before .before .before .args .answer .route)) ++ ((10 ∷ []) ++ []))) (left-more _ _ _ (c .before .before .before .before .before .before .before .before .before .before .before .before .before .before .pre) _ _ (44 ∷ digits (c .before .before .before .before .before .before .before .before .before .before .before .before .before .before .args .a)) ((44 ∷ digits (c .before .before .before .before .before .before .before .before .before .before .before .before .before .before .args .b)) ++ ((44 ∷ reportText (c .before .before .before .before .before .before .before .before .before .before .before .before .before .before .args .answer .report)) ++ ((44 ∷ routeText (c .before .before .before .before .before .before .before .before .before .before .before .before .before .before .args .answer .route)) ++ ((10 ∷ []) ++ [])))) (left-more _ _ _ (c .before .before .before .before .before .before .before .before .before .before .before .before .before .before .pre) _ _ (80 ∷ []) ((44 ∷ digits (c .before .before .before .before .before .before .before .before .before .before .before .before .before .before .args .a)) ++ ((44 ∷ digits (c .before .before .before .before .before .before .before .before .before .before .before .before .before .before .args .b)) ++ ((44 ∷ reportText (c .before .before .before .before .before .before .before .before .before .before .before .before .before .before .args .answer .report)) ++ ((44 ∷ routeText (c .before .before .before .before .before .before .before .before .before .before .before .before .before .before .args .answer .route)) ++ ((10 ∷ []) ++ []))))) (left-all _ _ _) _ _ (c .before .before .before .before .before .before .before .before .before .before .before .write-byte .ensures)) _ _ (c .before .before .before .before .before .before .before .write-field .ensures)) _ _ (c .before .before .before .write-field2 .ensures))
 
--- src/lib.rt:68:9
 write-route-requires : tie.Need-write-route-requires
 unfolding pairLine
 write-route-requires c κs = left-fits _ _ _ (c .before .before .before .before .before .before .before .before .before .before .before .before .before .before .before .before .before .before .pre) _ _ (44 ∷ routeText (c .before .before .before .before .before .before .before .before .before .before .before .before .before .before .before .before .before .before .args .answer .route)) ((10 ∷ []) ++ []) (left-more _ _ _ (c .before .before .before .before .before .before .before .before .before .before .before .before .before .before .before .before .before .before .pre) _ _ (44 ∷ reportText (c .before .before .before .before .before .before .before .before .before .before .before .before .before .before .before .before .before .before .args .answer .report)) ((44 ∷ routeText (c .before .before .before .before .before .before .before .before .before .before .before .before .before .before .before .before .before .before .args .answer .route)) ++ ((10 ∷ []) ++ [])) (left-more _ _ _ (c .before .before .before .before .before .before .before .before .before .before .before .before .before .before .before .before .before .before .pre) _ _ (44 ∷ digits (c .before .before .before .before .before .before .before .before .before .before .before .before .before .before .before .before .before .before .args .b)) ((44 ∷ reportText (c .before .before .before .before .before .before .before .before .before .before .before .before .before .before .before .before .before .before .args .answer .report)) ++ ((44 ∷ routeText (c .before .before .before .before .before .before .before .before .before .before .before .before .before .before .before .before .before .before .args .answer .route)) ++ ((10 ∷ []) ++ []))) (left-more _ _ _ (c .before .before .before .before .before .before .before .before .before .before .before .before .before .before .before .before .before .before .pre) _ _ (44 ∷ digits (c .before .before .before .before .before .before .before .before .before .before .before .before .before .before .before .before .before .before .args .a)) ((44 ∷ digits (c .before .before .before .before .before .before .before .before .before .before .before .before .before .before .before .before .before .before .args .b)) ++ ((44 ∷ reportText (c .before .before .before .before .before .before .before .before .before .before .before .before .before .before .before .before .before .before .args .answer .report)) ++ ((44 ∷ routeText (c .before .before .before .before .before .before .before .before .before .before .before .before .before .before .before .before .before .before .args .answer .route)) ++ ((10 ∷ []) ++ [])))) (left-more _ _ _ (c .before .before .before .before .before .before .before .before .before .before .before .before .before .before .before .before .before .before .pre) _ _ (80 ∷ []) ((44 ∷ digits (c .before .before .before .before .before .before .before .before .before .before .before .before .before .before .before .before .before .before .args .a)) ++ ((44 ∷ digits (c .before .before .before .before .before .before .before .before .before .before .before .before .before .before .before .before .before .before .args .b)) ++ ((44 ∷ reportText (c .before .before .before .before .before .before .before .before .before .before .before .before .before .before .before .before .before .before .args .answer .report)) ++ ((44 ∷ routeText (c .before .before .before .before .before .before .before .before .before .before .before .before .before .before .before .before .before .before .args .answer .route)) ++ ((10 ∷ []) ++ []))))) (left-all _ _ _) _ _ (c .before .before .before .before .before .before .before .before .before .before .before .before .before .before .before .write-byte .ensures)) _ _ (c .before .before .before .before .before .before .before .before .before .before .before .write-field .ensures)) _ _ (c .before .before .before .before .before .before .before .write-field2 .ensures)) _ _ (c .before .before .before .write-report .ensures))
 
--- src/lib.rt:69:5
 write-byte-requires-2 : tie.Need-write-byte-requires-2
 unfolding pairLine
 write-byte-requires-2 c κs = left-fits _ _ _ (c .before .before .before .before .before .before .before .before .before .before .before .before .before .before .before .before .before .before .before .before .before .before .pre) _ _ (10 ∷ []) [] (left-more _ _ _ (c .before .before .before .before .before .before .before .before .before .before .before .before .before .before .before .before .before .before .before .before .before .before .pre) _ _ (44 ∷ routeText (c .before .before .before .before .before .before .before .before .before .before .before .before .before .before .before .before .before .before .before .before .before .before .args .answer .route)) ((10 ∷ []) ++ []) (left-more _ _ _ (c .before .before .before .before .before .before .before .before .before .before .before .before .before .before .before .before .before .before .before .before .before .before .pre) _ _ (44 ∷ reportText (c .before .before .before .before .before .before .before .before .before .before .before .before .before .before .before .before .before .before .before .before .before .before .args .answer .report)) ((44 ∷ routeText (c .before .before .before .before .before .before .before .before .before .before .before .before .before .before .before .before .before .before .before .before .before .before .args .answer .route)) ++ ((10 ∷ []) ++ [])) (left-more _ _ _ (c .before .before .before .before .before .before .before .before .before .before .before .before .before .before .before .before .before .before .before .before .before .before .pre) _ _ (44 ∷ digits (c .before .before .before .before .before .before .before .before .before .before .before .before .before .before .before .before .before .before .before .before .before .before .args .b)) ((44 ∷ reportText (c .before .before .before .before .before .before .before .before .before .before .before .before .before .before .before .before .before .before .before .before .before .before .args .answer .report)) ++ ((44 ∷ routeText (c .before .before .before .before .before .before .before .before .before .before .before .before .before .before .before .before .before .before .before .before .before .before .args .answer .route)) ++ ((10 ∷ []) ++ []))) (left-more _ _ _ (c .before .before .before .before .before .before .before .before .before .before .before .before .before .before .before .before .before .before .before .before .before .before .pre) _ _ (44 ∷ digits (c .before .before .before .before .before .before .before .before .before .before .before .before .before .before .before .before .before .before .before .before .before .before .args .a)) ((44 ∷ digits (c .before .before .before .before .before .before .before .before .before .before .before .before .before .before .before .before .before .before .before .before .before .before .args .b)) ++ ((44 ∷ reportText (c .before .before .before .before .before .before .before .before .before .before .before .before .before .before .before .before .before .before .before .before .before .before .args .answer .report)) ++ ((44 ∷ routeText (c .before .before .before .before .before .before .before .before .before .before .before .before .before .before .before .before .before .before .before .before .before .before .args .answer .route)) ++ ((10 ∷ []) ++ [])))) (left-more _ _ _ (c .before .before .before .before .before .before .before .before .before .before .before .before .before .before .before .before .before .before .before .before .before .before .pre) _ _ (80 ∷ []) ((44 ∷ digits (c .before .before .before .before .before .before .before .before .before .before .before .before .before .before .before .before .before .before .before .before .before .before .args .a)) ++ ((44 ∷ digits (c .before .before .before .before .before .before .before .before .before .before .before .before .before .before .before .before .before .before .before .before .before .before .args .b)) ++ ((44 ∷ reportText (c .before .before .before .before .before .before .before .before .before .before .before .before .before .before .before .before .before .before .before .before .before .before .args .answer .report)) ++ ((44 ∷ routeText (c .before .before .before .before .before .before .before .before .before .before .before .before .before .before .before .before .before .before .before .before .before .before .args .answer .route)) ++ ((10 ∷ []) ++ []))))) (left-all _ _ _) _ _ (c .before .before .before .before .before .before .before .before .before .before .before .before .before .before .before .before .before .before .before .write-byte .ensures)) _ _ (c .before .before .before .before .before .before .before .before .before .before .before .before .before .before .before .write-field .ensures)) _ _ (c .before .before .before .before .before .before .before .before .before .before .before .write-field2 .ensures)) _ _ (c .before .before .before .before .before .before .before .write-report .ensures)) _ _ (c .before .before .before .write-route .ensures))
 
--- src/lib.rt:59:1
 same-length : tie.Need-same-length
 same-length c = search needs
 
--- src/lib.rt:59:1
 returns : tie.Need-returns
 unfolding pairLine
 returns c = left-none _ _ _ (c .before .before .before .before .before .before .before .before .before .before .before .before .before .before .before .before .before .before .before .before .before .before .before .before .before .pre) _ _ (left-more _ _ _ (c .before .before .before .before .before .before .before .before .before .before .before .before .before .before .before .before .before .before .before .before .before .before .before .before .before .pre) _ _ (10 ∷ []) [] (left-more _ _ _ (c .before .before .before .before .before .before .before .before .before .before .before .before .before .before .before .before .before .before .before .before .before .before .before .before .before .pre) _ _ (44 ∷ routeText (c .before .before .before .before .before .before .before .before .before .before .before .before .before .before .before .before .before .before .before .before .before .before .before .before .before .args .answer .route)) ((10 ∷ []) ++ []) (left-more _ _ _ (c .before .before .before .before .before .before .before .before .before .before .before .before .before .before .before .before .before .before .before .before .before .before .before .before .before .pre) _ _ (44 ∷ reportText (c .before .before .before .before .before .before .before .before .before .before .before .before .before .before .before .before .before .before .before .before .before .before .before .before .before .args .answer .report)) ((44 ∷ routeText (c .before .before .before .before .before .before .before .before .before .before .before .before .before .before .before .before .before .before .before .before .before .before .before .before .before .args .answer .route)) ++ ((10 ∷ []) ++ [])) (left-more _ _ _ (c .before .before .before .before .before .before .before .before .before .before .before .before .before .before .before .before .before .before .before .before .before .before .before .before .before .pre) _ _ (44 ∷ digits (c .before .before .before .before .before .before .before .before .before .before .before .before .before .before .before .before .before .before .before .before .before .before .before .before .before .args .b)) ((44 ∷ reportText (c .before .before .before .before .before .before .before .before .before .before .before .before .before .before .before .before .before .before .before .before .before .before .before .before .before .args .answer .report)) ++ ((44 ∷ routeText (c .before .before .before .before .before .before .before .before .before .before .before .before .before .before .before .before .before .before .before .before .before .before .before .before .before .args .answer .route)) ++ ((10 ∷ []) ++ []))) (left-more _ _ _ (c .before .before .before .before .before .before .before .before .before .before .before .before .before .before .before .before .before .before .before .before .before .before .before .before .before .pre) _ _ (44 ∷ digits (c .before .before .before .before .before .before .before .before .before .before .before .before .before .before .before .before .before .before .before .before .before .before .before .before .before .args .a)) ((44 ∷ digits (c .before .before .before .before .before .before .before .before .before .before .before .before .before .before .before .before .before .before .before .before .before .before .before .before .before .args .b)) ++ ((44 ∷ reportText (c .before .before .before .before .before .before .before .before .before .before .before .before .before .before .before .before .before .before .before .before .before .before .before .before .before .args .answer .report)) ++ ((44 ∷ routeText (c .before .before .before .before .before .before .before .before .before .before .before .before .before .before .before .before .before .before .before .before .before .before .before .before .before .args .answer .route)) ++ ((10 ∷ []) ++ [])))) (left-more _ _ _ (c .before .before .before .before .before .before .before .before .before .before .before .before .before .before .before .before .before .before .before .before .before .before .before .before .before .pre) _ _ (80 ∷ []) ((44 ∷ digits (c .before .before .before .before .before .before .before .before .before .before .before .before .before .before .before .before .before .before .before .before .before .before .before .before .before .args .a)) ++ ((44 ∷ digits (c .before .before .before .before .before .before .before .before .before .before .before .before .before .before .before .before .before .before .before .before .before .before .before .before .before .args .b)) ++ ((44 ∷ reportText (c .before .before .before .before .before .before .before .before .before .before .before .before .before .before .before .before .before .before .before .before .before .before .before .before .before .args .answer .report)) ++ ((44 ∷ routeText (c .before .before .before .before .before .before .before .before .before .before .before .before .before .before .before .before .before .before .before .before .before .before .before .before .before .args .answer .route)) ++ ((10 ∷ []) ++ []))))) (left-all _ _ _) _ _ (c .before .before .before .before .before .before .before .before .before .before .before .before .before .before .before .before .before .before .before .before .before .before .write-byte .ensures)) _ _ (c .before .before .before .before .before .before .before .before .before .before .before .before .before .before .before .before .before .before .write-field .ensures)) _ _ (c .before .before .before .before .before .before .before .before .before .before .before .before .before .before .write-field2 .ensures)) _ _ (c .before .before .before .before .before .before .before .before .before .before .write-report .ensures)) _ _ (c .before .before .before .before .before .before .write-route .ensures)) _ _ (c .before .before .write-byte2 .ensures))

@@ -10,27 +10,21 @@ use borrow.Author.Needs.{needs}
 use Rattle.pair_lines.proofs.write_report.Statement.{statement}
 use Rattle.pair_lines.proofs.write_report.Tie as tie
 
--- src/lib.rt:37:9
 write-two-requires : tie.Need-write-two-requires
 write-two-requires c κs = subst (λ (t : List ℕ). (c .before .before .before .args .at) + length (44 ∷ t) ≤ length (c .before .before .before .args .buffer .now)) (report-none (c .before .before .before .args .report) (c .before .if1 .taken)) (c .before .before .before .pre)
 
--- src/lib.rt:37:9
 same-length : tie.Need-same-length
 same-length c = search needs
 
--- src/lib.rt:37:9
 returns : tie.Need-returns
 returns c = subst (λ (t : List ℕ). Wrote (c .before .before .before .before .before .before .args .buffer .now) (c .before .before .write-two .last .0) (c .before .before .before .before .before .before .args .at) (c .before .before .write-two .result) (44 ∷ t)) (sym (report-none (c .before .before .before .before .before .before .args .report) (c .before .before .before .before .if1 .taken))) (c .before .before .write-two .ensures)
 
--- src/lib.rt:39:5
 write-field-requires : tie.Need-write-field-requires
 write-field-requires c κs = subst (λ (t : List ℕ). (c .before .before .before .args .at) + length (44 ∷ t) ≤ length (c .before .before .before .args .buffer .now)) (report-some (c .before .before .before .args .report) (c .before .if1 .left)) (c .before .before .before .pre)
 
--- src/lib.rt:32:1
 same-length-2 : tie.Need-same-length-2
 same-length-2 c = search needs
 
--- src/lib.rt:32:1
 returns-2 : tie.Need-returns-2
 returns-2 c = subst (λ (t : List ℕ). Wrote (c .before .before .before .before .before .before .args .buffer .now) (c .before .before .write-field .last .0) (c .before .before .before .before .before .before .args .at) (c .before .before .write-field .result) (44 ∷ t)) (sym (report-some (c .before .before .before .before .before .before .args .report) (c .before .before .before .before .if1 .left))) (c .before .before .write-field .ensures)
 

@@ -16,35 +16,27 @@ Inv-loop n full low report a buffer₀ at i₀ b₀ buffer i b = (b ≤ n) × Le
 abbrev μ-loop : tie.MeasureT-loop
 μ-loop n full low report a buffer₀ at i₀ b₀ buffer i b = n - b
 
--- src/lib.rt:108:17
 add-b : tie.Need-add-b Inv-loop μ-loop
 add-b c = omega (arith, (c .before .before .before .before .pre .0))
 
--- src/lib.rt:109:5
 loop-holds : tie.Need-loop-holds Inv-loop μ-loop
 loop-holds c = (omega (arith, (c .before .before .before .before .pre .0)), left-all _ _ _)
 
--- src/lib.rt:110:9
 write-answer-requires : tie.Need-write-answer-requires Inv-loop μ-loop
 write-answer-requires c κs = (((c .before .before .before .before .before .before .before .pre .0 .0), (c .before .before .before .before .before .before .before .pre .0 .1), (c .before .before .before .before .before .before .before .pre .0 .2), (c .before .before .before .before .before .before .before .pre .0 .3), (c .before .before .before .before .before .before .before .pre .0 .4), (c .before .loop-test .taken)), left-fits _ _ _ (c .before .before .before .before .before .before .before .pre .1) _ _ (answerText (c .before .before .before .before .before .before .before .args .n) (c .before .before .before .before .before .before .before .args .full .now) (c .before .before .before .before .before .before .before .args .low .now) (c .before .before .before .before .before .before .before .args .report .now) (c .before .before .before .before .before .before .before .args .a) (c .before .before .loop .b)) (rowText (c .before .before .before .before .before .before .before .args .n) (c .before .before .before .before .before .before .before .args .full .now) (c .before .before .before .before .before .before .before .args .low .now) (c .before .before .before .before .before .before .before .args .report .now) (c .before .before .before .before .before .before .before .args .a) ((c .before .before .loop .b) + 1)) (subst (λ (t : List ℕ). Left (c .before .before .before .before .before .before .before .args .buffer .now) (c .before .before .loop .buffer) (c .before .before .before .before .before .before .before .args .at) (c .before .before .loop .i) (rowText (c .before .before .before .before .before .before .before .args .n) (c .before .before .before .before .before .before .before .args .full .now) (c .before .before .before .before .before .before .before .args .low .now) (c .before .before .before .before .before .before .before .args .report .now) (c .before .before .before .before .before .before .before .args .a) ((c .before .before .before .before .before .before .before .args .a) + 1)) t) (row-next (c .before .before .before .before .before .before .before .args .n) (c .before .before .before .before .before .before .before .args .full .now) (c .before .before .before .before .before .before .before .args .low .now) (c .before .before .before .before .before .before .before .args .report .now) (c .before .before .before .before .before .before .before .args .a) (c .before .before .loop .b) (c .before .loop-test .taken)) (c .before .before .loop .inv .1)))
 
--- src/lib.rt:111:9
 add-b-2 : tie.Need-add-b-2 Inv-loop μ-loop
 add-b-2 c = omega (arith, (c .before .before .before .before .before .before .before .before .before .before .pre .0), (c .before .before .before .before .loop-test .taken))
 
--- src/lib.rt:109:5
 loop-less : tie.Need-loop-less Inv-loop μ-loop
 loop-less c = omega (arith, (c .before .before .before .before .loop-test .taken))
 
--- src/lib.rt:109:5
 loop-again : tie.Need-loop-again Inv-loop μ-loop
 loop-again c = (omega (arith, (c .before .before .before .before .loop-test .taken)), left-more _ _ _ (c .before .before .before .before .before .before .before .before .before .before .pre .1) _ _ (answerText (c .before .before .before .before .before .before .before .before .before .before .args .n) (c .before .before .before .before .before .before .before .before .before .before .args .full .now) (c .before .before .before .before .before .before .before .before .before .before .args .low .now) (c .before .before .before .before .before .before .before .before .before .before .args .report .now) (c .before .before .before .before .before .before .before .before .before .before .args .a) (c .before .before .before .before .before .loop .b)) (rowText (c .before .before .before .before .before .before .before .before .before .before .args .n) (c .before .before .before .before .before .before .before .before .before .before .args .full .now) (c .before .before .before .before .before .before .before .before .before .before .args .low .now) (c .before .before .before .before .before .before .before .before .before .before .args .report .now) (c .before .before .before .before .before .before .before .before .before .before .args .a) ((c .before .before .before .before .before .loop .b) + 1)) (subst (λ (t : List ℕ). Left (c .before .before .before .before .before .before .before .before .before .before .args .buffer .now) (c .before .before .before .before .before .loop .buffer) (c .before .before .before .before .before .before .before .before .before .before .args .at) (c .before .before .before .before .before .loop .i) (rowText (c .before .before .before .before .before .before .before .before .before .before .args .n) (c .before .before .before .before .before .before .before .before .before .before .args .full .now) (c .before .before .before .before .before .before .before .before .before .before .args .low .now) (c .before .before .before .before .before .before .before .before .before .before .args .report .now) (c .before .before .before .before .before .before .before .before .before .before .args .a) ((c .before .before .before .before .before .before .before .before .before .before .args .a) + 1)) t) (row-next (c .before .before .before .before .before .before .before .before .before .before .args .n) (c .before .before .before .before .before .before .before .before .before .before .args .full .now) (c .before .before .before .before .before .before .before .before .before .before .args .low .now) (c .before .before .before .before .before .before .before .before .before .before .args .report .now) (c .before .before .before .before .before .before .before .before .before .before .args .a) (c .before .before .before .before .before .loop .b) (c .before .before .before .before .loop-test .taken)) (c .before .before .before .before .before .loop .inv .1)) _ _ (c .before .before .write-answer .ensures))
 
--- src/lib.rt:94:1
 same-length : tie.Need-same-length Inv-loop μ-loop
 same-length c = left-length _ _ _ (c .before .before .before .before .before .before .pre .1) _ _ _ (c .before .loop .inv .1)
 
--- src/lib.rt:94:1
 returns : tie.Need-returns Inv-loop μ-loop
 returns c = left-none _ _ _ (c .before .before .before .before .before .before .pre .1) _ _ (subst (λ (t : List ℕ). Left (c .before .before .before .before .before .before .args .buffer .now) (c .before .loop .buffer) (c .before .before .before .before .before .before .args .at) (c .before .loop .i) (rowText (c .before .before .before .before .before .before .args .n) (c .before .before .before .before .before .before .args .full .now) (c .before .before .before .before .before .before .args .low .now) (c .before .before .before .before .before .before .args .report .now) (c .before .before .before .before .before .before .args .a) ((c .before .before .before .before .before .before .args .a) + 1)) t) (row-end (c .before .before .before .before .before .before .args .n) (c .before .before .before .before .before .before .args .full .now) (c .before .before .before .before .before .before .args .low .now) (c .before .before .before .before .before .before .args .report .now) (c .before .before .before .before .before .before .args .a) (c .before .loop .b) (c .loop-test .left)) (c .before .loop .inv .1))
 

@@ -6,19 +6,15 @@ use borrow.Author.Needs.{needs}
 use Rattle.pair_lines.proofs.write_two.Statement.{statement}
 use Rattle.pair_lines.proofs.write_two.Tie as tie
 
--- src/lib.rt:27:9
 write-byte-requires : tie.Need-write-byte-requires
 write-byte-requires c κs = search needs
 
--- src/lib.rt:28:5
 write-byte-requires-2 : tie.Need-write-byte-requires-2
 write-byte-requires-2 c κs = search needs
 
--- src/lib.rt:23:1
 same-length : tie.Need-same-length
 same-length c = search needs
 
--- src/lib.rt:23:1
 returns : tie.Need-returns
 returns c = wrote-then (omega (arith, (c .before .before .before .before .before .before .before .before .before .pre))) (c .before .before .before .before .before .before .write-byte .ensures) (c .before .before .write-byte2 .ensures)
 

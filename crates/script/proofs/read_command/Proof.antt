@@ -10,30 +10,24 @@ use Rattle.script.proofs.read_command.Reads as reads
 use Rattle.script.proofs.read_command.Lts as lts
 use Rattle.text.proofs.line_at.Reads as line-at-reads
 
--- src/lib.rt:30:22
 shared-slice-read-letter : tie.Need-shared-slice-read-letter
 shared-slice-read-letter c = search needs
 
--- src/lib.rt:31:41
 line-at-requires : tie.Need-line-at-requires
 line-at-requires c κs = search needs
 
--- src/lib.rt:31:27
 enum-known-x : tie.Need-enum-known-x
 enum-known-x c = search needs
 
--- src/lib.rt:32:13
 returns : tie.Need-returns
 returns c = line-found (c .before .before .before .before .before .before .before .args .script .now) (c .before .before .before .before .before .before .before .args .at) _ _ _ (sym (c .before .before .before .line-at .ensures) ∙ ap (found (c .before .before .before .before .before .before .before .args .script .now)) (c .before .x .given .1))
 
 enum-told : tie.Need-enum-told
 enum-told c = search needs
 
--- src/lib.rt:26:1
 returns-2 : tie.Need-returns-2
 returns-2 c = line-missing (c .before .before .before .before .before .before .args .script .now) (c .before .before .before .before .before .before .args .at) _ (sym (c .before .before .line-at .ensures) ∙ ap (found (c .before .before .before .before .before .before .args .script .now)) (c .enum-told .given .1))
 
--- src/lib.rt:26:1
 returns-3 : tie.Need-returns-3
 returns-3 c = line-past (c .before .before .args .script .now) (c .before .before .args .at) _ (c .if1 .left)
 

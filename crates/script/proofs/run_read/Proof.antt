@@ -13,79 +13,60 @@ use Rattle.script.proofs.at_most.Reads as at-most-reads
 use Rattle.script.proofs.print_read.Reads as print-read-reads
 use Rattle.script.proofs.read_command.Reads as read-command-reads
 
--- src/lib.rt:168:9
 at-most-requires : tie.Need-at-most-requires
 at-most-requires c κs = search needs
 
--- src/lib.rt:169:9
 at-most-requires-2 : tie.Need-at-most-requires-2
 at-most-requires-2 c κs = search needs
 
--- src/lib.rt:170:9
 read-command-requires : tie.Need-read-command-requires
 read-command-requires c κs = search needs
 
--- src/lib.rt:171:9
 at-most-requires-3 : tie.Need-at-most-requires-3
 at-most-requires-3 c κs = search needs
 
--- src/lib.rt:172:36
 sub-at-most : tie.Need-sub-at-most
 sub-at-most c = search needs
 
--- src/lib.rt:172:23
 at-most-requires-4 : tie.Need-at-most-requires-4
 at-most-requires-4 c κs = search needs
 
--- src/lib.rt:172:15
 add-end : tie.Need-add-end
 add-end c = search needs
 
--- src/lib.rt:173:39
 sub-read-survey : tie.Need-sub-read-survey
 sub-read-survey c = search needs
 
--- src/lib.rt:173:39
 part-read-survey-start : tie.Need-part-read-survey-start
 part-read-survey-start c = search needs
 
--- src/lib.rt:173:39
 part-read-survey-end : tie.Need-part-read-survey-end
 part-read-survey-end c = search needs
 
--- src/lib.rt:173:60
 slice-relend-prefix-read-survey : tie.Need-slice-relend-prefix-read-survey
 slice-relend-prefix-read-survey c = search needs
 
--- src/lib.rt:173:60
 slice-aggregate-read-survey : tie.Need-slice-aggregate-read-survey
 slice-aggregate-read-survey c = sym (length-take-le (c .before .before .before .before .before .before .at-most .result) (c .before .before .before .before .before .before .before .before .before .before .args .starts .now) (omega (arith, (c .before .before .before .before .before .before .at-most .ensures))))
 
--- src/lib.rt:173:78
 slice-relend-prefix-read-survey-2 : tie.Need-slice-relend-prefix-read-survey-2
 slice-relend-prefix-read-survey-2 c = search needs
 
--- src/lib.rt:173:78
 slice-aggregate-read-survey-2 : tie.Need-slice-aggregate-read-survey-2
 slice-aggregate-read-survey-2 c = sym (length-take-le (c .before .before .before .before .before .before .at-most2 .result) (c .before .before .before .before .before .before .before .before .before .before .before .args .neighbours .now) (omega (arith, (c .before .before .before .before .before .before .at-most2 .ensures))))
 
--- src/lib.rt:173:9
 read-survey-requires : tie.Need-read-survey-requires
 read-survey-requires c κs = search needs
 
--- src/lib.rt:174:5
 print-read-requires : tie.Need-print-read-requires
 print-read-requires c κs = search needs
 
--- src/lib.rt:167:1
 same-length : tie.Need-same-length
 same-length c = search needs
 
--- src/lib.rt:167:1
 same-length-2 : tie.Need-same-length-2
 same-length-2 c = search needs
 
--- src/lib.rt:167:1
 returns : tie.Need-returns
 returns c = search needs
 

@@ -15,59 +15,45 @@ use borrow.Author.Needs.{needs}
 use Rattle.verdict.proofs.find_sources.Statement.{statement}
 use Rattle.verdict.proofs.find_sources.Tie as tie
 
--- src/lib.rt:53:47
 slice-aggregate-low-nodes : tie.Need-slice-aggregate-low-nodes
 slice-aggregate-low-nodes c = search needs
 
--- src/lib.rt:53:5
 low-nodes-requires : tie.Need-low-nodes-requires
 low-nodes-requires c κs = search needs
 
--- src/lib.rt:54:31
 slice-aggregate-smallest : tie.Need-slice-aggregate-smallest
 slice-aggregate-smallest c = sym (((c .before .before .low-nodes .kept .1 .1 .1 .1 .0)) ∙ length-replicate {A = ℕ} 16 0)
 
--- src/lib.rt:54:9
 smallest-requires : tie.Need-smallest-requires
 smallest-requires c κs = omega (arith, (((c .before .before .low-nodes .kept .1 .1 .1 .1 .0)) ∙ length-replicate {A = ℕ} 16 0))
 
--- src/lib.rt:56:9
 choose-hubs-requires : tie.Need-choose-hubs-requires
 choose-hubs-requires c κs = search needs
 
--- src/lib.rt:56:9
 same-length : tie.Need-same-length
 same-length c = search needs
 
--- src/lib.rt:56:9
 returns : tie.Need-returns
 returns c = ((c .before .before .choose-hubs .ensures .0) ∙ ap length (sym (sources-hubs ((c .before .before .before .before .before .before .before .before .before .before .before .before .before .args .n)) ((c .before .before .before .before .before .before .before .before .before .before .before .before .before .args .s)) (neighboursOf ((c .before .before .before .before .before .before .before .before .before .before .before .before .before .args .starts .now)) ((c .before .before .before .before .before .before .before .before .before .before .before .before .before .args .neighbours .now))) ((c .before .before .before .before .before .before .before .before .before .before .before .before .before .pre .0 .size)) (member ((c .before .before .before .before .before .before .before .before .low-nodes .last .1 .1 .1 .1 .0))) ((c .before .before .before .before .before .before .before .before .low-nodes .ensures)) (64 * length ((c .before .before .before .before .before .before .before .before .low-nodes .last .1 .1 .1 .1 .0))) ((c .before .before .before .before .before .smallest .result)) (omega (arith, (((c .before .before .before .before .before .before .before .before .low-nodes .kept .1 .1 .1 .1 .0)) ∙ length-replicate {A = ℕ} 16 0), (c .before .before .before .before .before .before .before .before .before .before .before .before .before .pre .0 .size))) ((c .before .before .before .before .before .smallest .ensures)) ((c .before .before .before .before .if1 .taken)))), hubs-front ((c .before .before .before .before .before .before .before .before .before .before .before .before .before .args .n)) ((c .before .before .before .before .before .before .before .before .before .before .before .before .before .args .s)) (neighboursOf ((c .before .before .before .before .before .before .before .before .before .before .before .before .before .args .starts .now)) ((c .before .before .before .before .before .before .before .before .before .before .before .before .before .args .neighbours .now))) ((c .before .before .before .before .before .before .before .before .before .before .before .before .before .args .list .now)) _ _ ((c .before .before .choose-hubs .ensures .0)) ((c .before .before .choose-hubs .ensures .1)) ∙ sym (sources-hubs ((c .before .before .before .before .before .before .before .before .before .before .before .before .before .args .n)) ((c .before .before .before .before .before .before .before .before .before .before .before .before .before .args .s)) (neighboursOf ((c .before .before .before .before .before .before .before .before .before .before .before .before .before .args .starts .now)) ((c .before .before .before .before .before .before .before .before .before .before .before .before .before .args .neighbours .now))) ((c .before .before .before .before .before .before .before .before .before .before .before .before .before .pre .0 .size)) (member ((c .before .before .before .before .before .before .before .before .low-nodes .last .1 .1 .1 .1 .0))) ((c .before .before .before .before .before .before .before .before .low-nodes .ensures)) (64 * length ((c .before .before .before .before .before .before .before .before .low-nodes .last .1 .1 .1 .1 .0))) ((c .before .before .before .before .before .smallest .result)) (omega (arith, (((c .before .before .before .before .before .before .before .before .low-nodes .kept .1 .1 .1 .1 .0)) ∙ length-replicate {A = ℕ} 16 0), (c .before .before .before .before .before .before .before .before .before .before .before .before .before .pre .0 .size))) ((c .before .before .before .before .before .smallest .ensures)) ((c .before .before .before .before .if1 .taken))))
 
--- src/lib.rt:58:15
 cast-list : tie.Need-cast-list
 cast-list c = search needs
 
--- src/lib.rt:58:5
 slice-write-list : tie.Need-slice-write-list
 slice-write-list c = search needs
 
--- src/lib.rt:59:9
 own-requires : tie.Need-own-requires
 own-requires c κs = (rows-of ((c .before .before .before .before .before .before .before .before .before .pre .0)), (c .if1 .left))
 
--- src/lib.rt:60:5
 copy16-requires : tie.Need-copy16-requires
 copy16-requires c κs = omega (arith, ap length ((c .before .own .ensures)), few-neighbours ((c .before .before .before .before .before .before .before .before .before .before .before .args .n)) ((c .before .before .before .before .before .before .before .before .before .before .before .args .starts .now)) ((c .before .before .before .before .before .before .before .before .before .before .before .args .neighbours .now)) ((c .before .before .before .before .before .before .before .before .before .before .before .pre .0)) ((c .before .before .before .smallest .result)) ((c .before .before .if1 .left)), (c .before .before .before .before .before .before .before .before .before .before .before .pre .1), length-set ((c .before .before .before .before .before .before .before .before .before .before .before .args .list .now)) 0 ((c .before .before .before .smallest .result)))
 
--- src/lib.rt:61:5
 add-result : tie.Need-add-result
 add-result c = search needs
 
--- src/lib.rt:47:1
 same-length-2 : tie.Need-same-length-2
 same-length-2 c = ((c .before .before .copy16 .kept .1 .0)) ∙ length-set ((c .before .before .before .before .before .before .before .before .before .before .before .before .before .before .args .list .now)) 0 ((c .before .before .before .before .before .before .smallest .result))
 
--- src/lib.rt:47:1
 returns-2 : tie.Need-returns-2
 returns-2 c = (omega (arith, ap length ((c .before .before .before .before .own .ensures)), ap length (sources-low ((c .before .before .before .before .before .before .before .before .before .before .before .before .before .before .args .n)) ((c .before .before .before .before .before .before .before .before .before .before .before .before .before .before .args .s)) (neighboursOf ((c .before .before .before .before .before .before .before .before .before .before .before .before .before .before .args .starts .now)) ((c .before .before .before .before .before .before .before .before .before .before .before .before .before .before .args .neighbours .now))) ((c .before .before .before .before .before .before .before .before .before .before .before .before .before .before .pre .0 .size)) (member ((c .before .before .before .before .before .before .before .before .before .low-nodes .last .1 .1 .1 .1 .0))) ((c .before .before .before .before .before .before .before .before .before .low-nodes .ensures)) (64 * length ((c .before .before .before .before .before .before .before .before .before .low-nodes .last .1 .1 .1 .1 .0))) ((c .before .before .before .before .before .before .smallest .result)) (omega (arith, (((c .before .before .before .before .before .before .before .before .before .low-nodes .kept .1 .1 .1 .1 .0)) ∙ length-replicate {A = ℕ} 16 0), (c .before .before .before .before .before .before .before .before .before .before .before .before .before .before .pre .0 .size))) ((c .before .before .before .before .before .before .smallest .ensures)) ((c .before .before .before .before .before .if1 .left)))), two-written ((c .before .before .before .before .before .before .before .before .before .before .before .before .before .before .args .list .now)) _ _ ((c .before .before .before .before .before .before .smallest .result)) _ (omega (arith, ap length ((c .before .before .before .before .own .ensures)), few-neighbours ((c .before .before .before .before .before .before .before .before .before .before .before .before .before .before .args .n)) ((c .before .before .before .before .before .before .before .before .before .before .before .before .before .before .args .starts .now)) ((c .before .before .before .before .before .before .before .before .before .before .before .before .before .before .args .neighbours .now)) ((c .before .before .before .before .before .before .before .before .before .before .before .before .before .before .pre .0)) ((c .before .before .before .before .before .before .smallest .result)) ((c .before .before .before .before .before .if1 .left)), (c .before .before .before .before .before .before .before .before .before .before .before .before .before .before .pre .1))) ((c .before .before .copy16 .ensures)) ∙ ap (λ (l : List ℕ). ((c .before .before .before .before .before .before .smallest .result)) ∷ l) ((c .before .before .before .before .own .ensures)) ∙ sym (sources-low ((c .before .before .before .before .before .before .before .before .before .before .before .before .before .before .args .n)) ((c .before .before .before .before .before .before .before .before .before .before .before .before .before .before .args .s)) (neighboursOf ((c .before .before .before .before .before .before .before .before .before .before .before .before .before .before .args .starts .now)) ((c .before .before .before .before .before .before .before .before .before .before .before .before .before .before .args .neighbours .now))) ((c .before .before .before .before .before .before .before .before .before .before .before .before .before .before .pre .0 .size)) (member ((c .before .before .before .before .before .before .before .before .before .low-nodes .last .1 .1 .1 .1 .0))) ((c .before .before .before .before .before .before .before .before .before .low-nodes .ensures)) (64 * length ((c .before .before .before .before .before .before .before .before .before .low-nodes .last .1 .1 .1 .1 .0))) ((c .before .before .before .before .before .before .smallest .result)) (omega (arith, (((c .before .before .before .before .before .before .before .before .before .low-nodes .kept .1 .1 .1 .1 .0)) ∙ length-replicate {A = ℕ} 16 0), (c .before .before .before .before .before .before .before .before .before .before .before .before .before .before .pre .0 .size))) ((c .before .before .before .before .before .before .smallest .ensures)) ((c .before .before .before .before .before .if1 .left))))
 

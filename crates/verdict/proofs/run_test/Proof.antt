@@ -13,31 +13,24 @@ use borrow.Author.Needs.{needs}
 use Rattle.verdict.proofs.run_test.Statement.{statement}
 use Rattle.verdict.proofs.run_test.Tie as tie
 
--- src/lib.rt:104:59
 slice-aggregate-find-sources : tie.Need-slice-aggregate-find-sources
 slice-aggregate-find-sources c = search needs
 
--- src/lib.rt:104:9
 find-sources-requires : tie.Need-find-sources-requires
 find-sources-requires c κs = ((c .before .before .before .pre), omega (arith, (c .before .before .before .pre .size)))
 
--- src/lib.rt:105:53
 array-share-prefix-list : tie.Need-array-share-prefix-list
 array-share-prefix-list c = sources-fit ((c .before .before .before .before .before .args .n)) ((c .before .before .before .before .before .args .s)) (neighboursOf ((c .before .before .before .before .before .args .starts .now)) ((c .before .before .before .before .before .args .neighbours .now))) ((c .before .find-sources .last .1 .1 .1 .1 .0)) ((c .before .find-sources .result)) ((c .before .find-sources .ensures .0)) ((c .before .find-sources .ensures .1))
 
--- src/lib.rt:105:53
 slice-aggregate-search-depth : tie.Need-slice-aggregate-search-depth
 slice-aggregate-search-depth c = sources-long ((c .before .before .before .before .before .before .args .n)) ((c .before .before .before .before .before .before .args .s)) (neighboursOf ((c .before .before .before .before .before .before .args .starts .now)) ((c .before .before .before .before .before .before .args .neighbours .now))) ((c .before .before .find-sources .last .1 .1 .1 .1 .0)) ((c .before .before .find-sources .result)) ((c .before .before .find-sources .ensures .0)) ((c .before .before .find-sources .ensures .1))
 
--- src/lib.rt:105:9
 search-depth-requires : tie.Need-search-depth-requires
 search-depth-requires c κs = ((c .before .before .before .before .before .before .pre), subst (λ (l : List ℕ). (h : ℕ) → T (has h l) → h < ((c .before .before .before .before .before .before .args .n))) (sym ((c .before .before .find-sources .ensures .1))) (source-below _ _ _ _ _ (source-cases ((c .before .before .before .before .before .before .args .n)) ((c .before .before .before .before .before .before .args .s)) (neighboursOf ((c .before .before .before .before .before .before .args .starts .now)) ((c .before .before .before .before .before .before .args .neighbours .now))) ((c .before .before .before .before .before .before .pre .lists .graph)) ((c .before .before .before .before .before .before .pre .size)))))
 
--- src/lib.rt:107:18
 verdict-on-requires : tie.Need-verdict-on-requires
 verdict-on-requires c κs = search needs
 
--- src/lib.rt:99:1
 returns : tie.Need-returns
 returns c = tested-is ((c .before .before .before .before .before .before .before .before .args .n)) ((c .before .before .before .before .before .before .before .before .args .s)) (neighboursOf ((c .before .before .before .before .before .before .before .before .args .starts .now)) ((c .before .before .before .before .before .before .before .before .args .neighbours .now))) ((c .before .before .before .before .find-sources .last .1 .1 .1 .1 .0)) ((c .before .before .before .before .find-sources .result)) ((c .before .before .before .before .find-sources .ensures .0)) ((c .before .before .before .before .find-sources .ensures .1)) ((c .before .before .before .before .before .before .before .before .pre .size)) _ _ ((c .verdict-on .ensures)) ((c .before .search-depth .ensures))
 

@@ -8,31 +8,24 @@ use borrow.Author.Needs.{needs}
 use Rattle.verdict.proofs.test.Statement.{statement}
 use Rattle.verdict.proofs.test.Tie as tie
 
--- src/lib.rt:118:11
 accept-requires : tie.Need-accept-requires
 accept-requires c κs = search needs
 
--- src/lib.rt:119:28
 enum-known-r : tie.Need-enum-known-r
 enum-known-r c = search needs
 
--- src/lib.rt:121:17
 enum-told : tie.Need-enum-told
 enum-told c = search needs
 
--- src/lib.rt:121:17
 threshold-at-requires : tie.Need-threshold-at-requires
 threshold-at-requires c κs = ((accepting-facts ((c .before .before .before .before .before .args .n)) ((c .before .before .before .before .before .args .starts .now)) ((c .before .before .before .before .before .args .neighbours .now)) tt (sym (sym (ap acceptAnswer ((c .enum-told .given .1))) ∙ ((c .before .before .accept .ensures))))) .some-node, (accepting-facts ((c .before .before .before .before .before .args .n)) ((c .before .before .before .before .before .args .starts .now)) ((c .before .before .before .before .before .args .neighbours .now)) tt (sym (sym (ap acceptAnswer ((c .enum-told .given .1))) ∙ ((c .before .before .accept .ensures))))) .size)
 
--- src/lib.rt:122:29
 run-test-requires : tie.Need-run-test-requires
 run-test-requires c κs = (accepting-facts ((c .before .before .before .before .before .before .args .n)) ((c .before .before .before .before .before .before .args .starts .now)) ((c .before .before .before .before .before .before .args .neighbours .now)) tt (sym (sym (ap acceptAnswer ((c .before .enum-told .given .1))) ∙ ((c .before .before .before .accept .ensures)))))
 
--- src/lib.rt:113:1
 returns : tie.Need-returns
 returns c = test-refused ((c .before .before .before .before .before .before .args .n)) ((c .before .before .before .before .before .before .args .starts .now)) ((c .before .before .before .before .before .before .args .neighbours .now)) ((c .before .r .given .0 .0)) (sym (ap acceptAnswer ((c .before .r .given .1))) ∙ ((c .before .before .before .accept .ensures)))
 
--- src/lib.rt:113:1
 returns-2 : tie.Need-returns-2
 returns-2 c = test-done ((c .before .before .before .before .before .before .before .args .n)) ((c .before .before .before .before .before .before .before .args .starts .now)) ((c .before .before .before .before .before .before .before .args .neighbours .now)) (sym (ap acceptAnswer ((c .before .before .enum-told .given .1))) ∙ ((c .before .before .before .before .accept .ensures))) _ _ ((c .before .threshold-at .ensures)) ((c .run-test .ensures))
 

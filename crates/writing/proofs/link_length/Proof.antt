@@ -8,19 +8,15 @@ use borrow.Author.Needs.{needs}
 use Rattle.writing.proofs.link_length.Statement.{statement}
 use Rattle.writing.proofs.link_length.Tie as tie
 
--- src/lib.rt:21:34
 cast-line-length : tie.Need-cast-line-length
 cast-line-length c = search needs
 
--- src/lib.rt:21:9
 line-length-requires : tie.Need-line-length-requires
 line-length-requires c κs = search needs
 
--- src/lib.rt:21:9
 returns : tie.Need-returns
 returns c = (((c .line-length .ensures .0)) 76 ∙ ap length (sym (line-taken ((c .before .before .args .a)) ((c .before .before .args .b)) ((c .before .if1 .taken)))), (c .line-length .ensures .1))
 
--- src/lib.rt:16:1
 returns-2 : tie.Need-returns-2
 returns-2 c = (ap length (sym (line-left ((c .before .args .a)) ((c .before .args .b)) ((c .if1 .left)))), omega arith)
 

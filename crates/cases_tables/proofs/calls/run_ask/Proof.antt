@@ -12,55 +12,42 @@ use Rattle.pairs.proofs.ask.Reads as ask-reads
 use Rattle.script.proofs.at_most.Reads as at-most-reads
 use Rattle.script.proofs.print_answer.Reads as print-answer-reads
 
--- src/calls.rt:38:21
 element-copy-out-at-most : tie.Need-element-copy-out-at-most
 element-copy-out-at-most c = search needs
 
--- src/calls.rt:38:9
 at-most-requires : tie.Need-at-most-requires
 at-most-requires c κs = search needs
 
--- src/calls.rt:39:21
 element-copy-out-at-most-2 : tie.Need-element-copy-out-at-most-2
 element-copy-out-at-most-2 c = search needs
 
--- src/calls.rt:39:9
 at-most-requires-2 : tie.Need-at-most-requires-2
 at-most-requires-2 c κs = search needs
 
--- src/calls.rt:40:21
 element-copy-out-at-most-3 : tie.Need-element-copy-out-at-most-3
 element-copy-out-at-most-3 c = search needs
 
--- src/calls.rt:40:9
 at-most-requires-3 : tie.Need-at-most-requires-3
 at-most-requires-3 c κs = search needs
 
--- src/calls.rt:42:9
 element-copy-out-ask : tie.Need-element-copy-out-ask
 element-copy-out-ask c = search needs
 
--- src/calls.rt:43:9
 slice-aggregate-ask : tie.Need-slice-aggregate-ask
 slice-aggregate-ask c = sym (length-take-le (c .before .before .before .before .before .before .at-most .result) (c .before .before .before .before .before .before .before .before .before .before .before .args .full .now) (omega (arith, c .before .before .before .before .before .before .at-most .ensures)))
 
--- src/calls.rt:44:9
 slice-aggregate-ask-2 : tie.Need-slice-aggregate-ask-2
 slice-aggregate-ask-2 c = sym (length-take-le (c .before .before .before .before .before .at-most2 .result) (c .before .before .before .before .before .before .before .before .before .before .before .before .args .low .now) (omega (arith, c .before .before .before .before .before .at-most2 .ensures)))
 
--- src/calls.rt:45:9
 slice-aggregate-ask-3 : tie.Need-slice-aggregate-ask-3
 slice-aggregate-ask-3 c = sym (length-take-le (c .before .before .before .before .at-most3 .result) (c .before .before .before .before .before .before .before .before .before .before .before .before .before .args .report .now) (omega (arith, c .before .before .before .before .at-most3 .ensures)))
 
--- src/calls.rt:41:9
 ask-requires : tie.Need-ask-requires
 ask-requires c κs = search needs
 
--- src/calls.rt:49:5
 print-answer-requires : tie.Need-print-answer-requires
 print-answer-requires c κs = search needs
 
--- src/calls.rt:37:1
 returns : tie.Need-returns
 returns c = search needs
 

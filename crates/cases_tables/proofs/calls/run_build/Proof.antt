@@ -12,123 +12,93 @@ use Rattle.script.proofs.at_most.Reads as at-most-reads
 use Rattle.script.proofs.print_built.Reads as print-built-reads
 use Rattle.tables.proofs.build.Reads as build-reads
 
--- src/calls.rt:18:21
 element-copy-out-at-most : tie.Need-element-copy-out-at-most
 element-copy-out-at-most c = search needs
 
--- src/calls.rt:18:9
 at-most-requires : tie.Need-at-most-requires
 at-most-requires c κs = search needs
 
--- src/calls.rt:19:21
 element-copy-out-at-most-2 : tie.Need-element-copy-out-at-most-2
 element-copy-out-at-most-2 c = search needs
 
--- src/calls.rt:19:9
 at-most-requires-2 : tie.Need-at-most-requires-2
 at-most-requires-2 c κs = search needs
 
--- src/calls.rt:20:21
 element-copy-out-at-most-3 : tie.Need-element-copy-out-at-most-3
 element-copy-out-at-most-3 c = search needs
 
--- src/calls.rt:20:9
 at-most-requires-3 : tie.Need-at-most-requires-3
 at-most-requires-3 c κs = search needs
 
--- src/calls.rt:21:21
 element-copy-out-at-most-4 : tie.Need-element-copy-out-at-most-4
 element-copy-out-at-most-4 c = search needs
 
--- src/calls.rt:21:9
 at-most-requires-4 : tie.Need-at-most-requires-4
 at-most-requires-4 c κs = search needs
 
--- src/calls.rt:22:21
 element-copy-out-at-most-5 : tie.Need-element-copy-out-at-most-5
 element-copy-out-at-most-5 c = search needs
 
--- src/calls.rt:22:9
 at-most-requires-5 : tie.Need-at-most-requires-5
 at-most-requires-5 c κs = search needs
 
--- src/calls.rt:23:21
 element-copy-out-at-most-6 : tie.Need-element-copy-out-at-most-6
 element-copy-out-at-most-6 c = search needs
 
--- src/calls.rt:23:9
 at-most-requires-6 : tie.Need-at-most-requires-6
 at-most-requires-6 c κs = search needs
 
--- src/calls.rt:25:9
 element-copy-out-build : tie.Need-element-copy-out-build
 element-copy-out-build c = search needs
 
--- src/calls.rt:26:9
 slice-aggregate-build : tie.Need-slice-aggregate-build
 slice-aggregate-build c = sym (length-take-le (c .before .before .before .before .before .before .before .before .before .before .before .before .at-most .result) (c .before .before .before .before .before .before .before .before .before .before .before .before .before .before .before .before .before .before .before .before .args .starts .now) (omega (arith, c .before .before .before .before .before .before .before .before .before .before .before .before .at-most .ensures)))
 
--- src/calls.rt:27:9
 slice-aggregate-build-2 : tie.Need-slice-aggregate-build-2
 slice-aggregate-build-2 c = sym (length-take-le (c .before .before .before .before .before .before .before .before .before .before .before .at-most2 .result) (c .before .before .before .before .before .before .before .before .before .before .before .before .before .before .before .before .before .before .before .before .before .args .neighbours .now) (omega (arith, c .before .before .before .before .before .before .before .before .before .before .before .at-most2 .ensures)))
 
--- src/calls.rt:28:9
 slice-relend-prefix-build : tie.Need-slice-relend-prefix-build
 slice-relend-prefix-build c = search needs
 
--- src/calls.rt:28:9
 slice-aggregate-build-3 : tie.Need-slice-aggregate-build-3
 slice-aggregate-build-3 c = sym (length-take-le (c .before .before .before .before .before .before .before .before .before .before .at-most3 .result) (c .before .before .before .before .before .before .before .before .before .before .before .before .before .before .before .before .before .before .before .before .before .before .args .full .now) (omega (arith, c .before .before .before .before .before .before .before .before .before .before .at-most3 .ensures)))
 
--- src/calls.rt:29:9
 slice-relend-prefix-build-2 : tie.Need-slice-relend-prefix-build-2
 slice-relend-prefix-build-2 c = search needs
 
--- src/calls.rt:29:9
 slice-aggregate-build-4 : tie.Need-slice-aggregate-build-4
 slice-aggregate-build-4 c = sym (length-take-le (c .before .before .before .before .before .before .before .before .before .at-most4 .result) (c .before .before .before .before .before .before .before .before .before .before .before .before .before .before .before .before .before .before .before .before .before .before .before .args .low .now) (omega (arith, c .before .before .before .before .before .before .before .before .before .at-most4 .ensures)))
 
--- src/calls.rt:30:9
 slice-relend-prefix-build-3 : tie.Need-slice-relend-prefix-build-3
 slice-relend-prefix-build-3 c = search needs
 
--- src/calls.rt:30:9
 slice-aggregate-build-5 : tie.Need-slice-aggregate-build-5
 slice-aggregate-build-5 c = sym (length-take-le (c .before .before .before .before .before .before .before .before .at-most5 .result) (c .before .before .before .before .before .before .before .before .before .before .before .before .before .before .before .before .before .before .before .before .before .before .before .before .args .report .now) (omega (arith, c .before .before .before .before .before .before .before .before .at-most5 .ensures)))
 
--- src/calls.rt:31:9
 slice-relend-prefix-build-4 : tie.Need-slice-relend-prefix-build-4
 slice-relend-prefix-build-4 c = search needs
 
--- src/calls.rt:31:9
 slice-aggregate-build-6 : tie.Need-slice-aggregate-build-6
 slice-aggregate-build-6 c = sym (length-take-le (c .before .before .before .before .before .before .before .at-most6 .result) (c .before .before .before .before .before .before .before .before .before .before .before .before .before .before .before .before .before .before .before .before .before .before .before .before .before .args .hubs .now) (omega (arith, c .before .before .before .before .before .before .before .at-most6 .ensures)))
 
--- src/calls.rt:24:9
 build-requires : tie.Need-build-requires
 build-requires c κs = search needs
 
--- src/calls.rt:33:5
 print-built-requires : tie.Need-print-built-requires
 print-built-requires c κs = search needs
 
--- src/calls.rt:9:1
 same-length : tie.Need-same-length
 same-length c = search needs
 
--- src/calls.rt:9:1
 same-length-2 : tie.Need-same-length-2
 same-length-2 c = search needs
 
--- src/calls.rt:9:1
 same-length-3 : tie.Need-same-length-3
 same-length-3 c = search needs
 
--- src/calls.rt:9:1
 same-length-4 : tie.Need-same-length-4
 same-length-4 c = search needs
 
--- src/calls.rt:9:1
 returns : tie.Need-returns
 returns c = search needs
 

@@ -12,43 +12,33 @@ use Rattle.script.proofs.at_most.Reads as at-most-reads
 use Rattle.script.proofs.print_tested.Reads as print-tested-reads
 use Rattle.verdict.proofs.test.Reads as test-reads
 
--- src/calls.rt:84:21
 element-copy-out-at-most : tie.Need-element-copy-out-at-most
 element-copy-out-at-most c = search needs
 
--- src/calls.rt:84:9
 at-most-requires : tie.Need-at-most-requires
 at-most-requires c κs = search needs
 
--- src/calls.rt:85:21
 element-copy-out-at-most-2 : tie.Need-element-copy-out-at-most-2
 element-copy-out-at-most-2 c = search needs
 
--- src/calls.rt:85:9
 at-most-requires-2 : tie.Need-at-most-requires-2
 at-most-requires-2 c κs = search needs
 
--- src/calls.rt:86:32
 element-copy-out-test : tie.Need-element-copy-out-test
 element-copy-out-test c = search needs
 
--- src/calls.rt:86:53
 slice-aggregate-test : tie.Need-slice-aggregate-test
 slice-aggregate-test c = sym (length-take-le (c .before .before .before .before .at-most .result) (c .before .before .before .before .before .before .before .before .args .starts .now) (omega (arith, c .before .before .before .before .at-most .ensures)))
 
--- src/calls.rt:86:67
 slice-aggregate-test-2 : tie.Need-slice-aggregate-test-2
 slice-aggregate-test-2 c = sym (length-take-le (c .before .before .before .at-most2 .result) (c .before .before .before .before .before .before .before .before .before .args .neighbours .now) (omega (arith, c .before .before .before .at-most2 .ensures)))
 
--- src/calls.rt:86:9
 test-requires : tie.Need-test-requires
 test-requires c κs = search needs
 
--- src/calls.rt:87:5
 print-tested-requires : tie.Need-print-tested-requires
 print-tested-requires c κs = search needs
 
--- src/calls.rt:83:1
 returns : tie.Need-returns
 returns c = search needs
 

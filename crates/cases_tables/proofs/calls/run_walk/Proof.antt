@@ -13,103 +13,78 @@ use Rattle.script.proofs.print_answer.Reads as print-answer-reads
 use Rattle.script.proofs.sum16.Reads as sum16-reads
 use Rattle.walks.proofs.write_walk.Reads as write-walk-reads
 
--- src/calls.rt:62:21
 element-copy-out-at-most : tie.Need-element-copy-out-at-most
 element-copy-out-at-most c = search needs
 
--- src/calls.rt:62:9
 at-most-requires : tie.Need-at-most-requires
 at-most-requires c κs = search needs
 
--- src/calls.rt:63:21
 element-copy-out-at-most-2 : tie.Need-element-copy-out-at-most-2
 element-copy-out-at-most-2 c = search needs
 
--- src/calls.rt:63:9
 at-most-requires-2 : tie.Need-at-most-requires-2
 at-most-requires-2 c κs = search needs
 
--- src/calls.rt:64:21
 element-copy-out-at-most-3 : tie.Need-element-copy-out-at-most-3
 element-copy-out-at-most-3 c = search needs
 
--- src/calls.rt:64:9
 at-most-requires-3 : tie.Need-at-most-requires-3
 at-most-requires-3 c κs = search needs
 
--- src/calls.rt:65:21
 element-copy-out-at-most-4 : tie.Need-element-copy-out-at-most-4
 element-copy-out-at-most-4 c = search needs
 
--- src/calls.rt:65:9
 at-most-requires-4 : tie.Need-at-most-requires-4
 at-most-requires-4 c κs = search needs
 
--- src/calls.rt:66:21
 element-copy-out-at-most-5 : tie.Need-element-copy-out-at-most-5
 element-copy-out-at-most-5 c = search needs
 
--- src/calls.rt:66:9
 at-most-requires-5 : tie.Need-at-most-requires-5
 at-most-requires-5 c κs = search needs
 
--- src/calls.rt:67:21
 element-copy-out-at-most-6 : tie.Need-element-copy-out-at-most-6
 element-copy-out-at-most-6 c = search needs
 
--- src/calls.rt:67:9
 at-most-requires-6 : tie.Need-at-most-requires-6
 at-most-requires-6 c κs = search needs
 
--- src/calls.rt:69:9
 element-copy-out-write-walk : tie.Need-element-copy-out-write-walk
 element-copy-out-write-walk c = search needs
 
--- src/calls.rt:70:9
 slice-aggregate-write-walk : tie.Need-slice-aggregate-write-walk
 slice-aggregate-write-walk c = sym (length-take-le (c .before .before .before .before .before .before .before .before .before .before .before .before .at-most .result) (c .before .before .before .before .before .before .before .before .before .before .before .before .before .before .before .before .before .before .before .before .args .starts .now) (omega (arith, c .before .before .before .before .before .before .before .before .before .before .before .before .at-most .ensures)))
 
--- src/calls.rt:71:9
 slice-aggregate-write-walk-2 : tie.Need-slice-aggregate-write-walk-2
 slice-aggregate-write-walk-2 c = sym (length-take-le (c .before .before .before .before .before .before .before .before .before .before .before .at-most2 .result) (c .before .before .before .before .before .before .before .before .before .before .before .before .before .before .before .before .before .before .before .before .before .args .neighbours .now) (omega (arith, c .before .before .before .before .before .before .before .before .before .before .before .at-most2 .ensures)))
 
--- src/calls.rt:72:9
 slice-aggregate-write-walk-3 : tie.Need-slice-aggregate-write-walk-3
 slice-aggregate-write-walk-3 c = sym (length-take-le (c .before .before .before .before .before .before .before .before .before .before .at-most3 .result) (c .before .before .before .before .before .before .before .before .before .before .before .before .before .before .before .before .before .before .before .before .before .before .args .full .now) (omega (arith, c .before .before .before .before .before .before .before .before .before .before .at-most3 .ensures)))
 
--- src/calls.rt:73:9
 slice-aggregate-write-walk-4 : tie.Need-slice-aggregate-write-walk-4
 slice-aggregate-write-walk-4 c = sym (length-take-le (c .before .before .before .before .before .before .before .before .before .at-most4 .result) (c .before .before .before .before .before .before .before .before .before .before .before .before .before .before .before .before .before .before .before .before .before .before .before .args .low .now) (omega (arith, c .before .before .before .before .before .before .before .before .before .at-most4 .ensures)))
 
--- src/calls.rt:74:9
 slice-aggregate-write-walk-5 : tie.Need-slice-aggregate-write-walk-5
 slice-aggregate-write-walk-5 c = sym (length-take-le (c .before .before .before .before .before .before .before .before .at-most5 .result) (c .before .before .before .before .before .before .before .before .before .before .before .before .before .before .before .before .before .before .before .before .before .before .before .before .args .report .now) (omega (arith, c .before .before .before .before .before .before .before .before .at-most5 .ensures)))
 
--- src/calls.rt:77:9
 slice-relend-prefix-write-walk : tie.Need-slice-relend-prefix-write-walk
 slice-relend-prefix-write-walk c = search needs
 
--- src/calls.rt:77:9
 slice-aggregate-write-walk-6 : tie.Need-slice-aggregate-write-walk-6
 slice-aggregate-write-walk-6 c = sym (length-take-le (c .before .before .before .before .before .before .before .at-most6 .result) (c .before .before .before .before .before .before .before .before .before .before .before .before .before .before .before .before .before .before .before .before .before .before .before .before .before .args .walk .now) (omega (arith, c .before .before .before .before .before .before .before .at-most6 .ensures)))
 
--- src/calls.rt:68:9
 write-walk-requires : tie.Need-write-walk-requires
 write-walk-requires c κs = search needs
 
--- src/calls.rt:79:9
 sum16-requires : tie.Need-sum16-requires
 sum16-requires c κs = search needs
 
--- src/calls.rt:80:5
 print-answer-requires : tie.Need-print-answer-requires
 print-answer-requires c κs = search needs
 
--- src/calls.rt:52:1
 same-length : tie.Need-same-length
 same-length c = search needs
 
--- src/calls.rt:52:1
 returns : tie.Need-returns
 returns c = search needs
 

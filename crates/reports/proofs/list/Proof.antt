@@ -1,0 +1,76 @@
+-- `reports::list` is safe: the length that listing answers is within its buffer.
+-- Assumes nothing.
+use mathlib.Core.Path.{sym, ap, _∙_}
+use lib.Seq.{length-take-le}
+use Rattle.model.specs.declared.Counting.{Counting}
+use Rattle.model.specs.Listing.{listing}
+use Rattle.model.specs.Writing.{returned}
+use Rattle.model.proofs.ReadBack.{write-fits}
+use borrow.Author.Needs.{needs}
+use Rattle.reports.proofs.list.Statement.{statement}
+use Rattle.reports.proofs.list.Tie as tie
+
+read-full-requires : tie.Need-read-full-requires
+read-full-requires c κs = search needs
+
+slice-reshare-prefix-write-listing : tie.Need-slice-reshare-prefix-write-listing
+slice-reshare-prefix-write-listing c = search needs
+
+slice-aggregate-write-listing : tie.Need-slice-aggregate-write-listing
+slice-aggregate-write-listing c = search needs
+
+write-listing-requires : tie.Need-write-listing-requires
+write-listing-requires c κs = search needs
+
+enum-told : tie.Need-enum-told
+enum-told c = search needs
+
+enum-known-k : tie.Need-enum-known-k
+enum-known-k c = search needs
+
+slice-reshare-prefix-write-all : tie.Need-slice-reshare-prefix-write-all
+slice-reshare-prefix-write-all c = write-fits (listing _) _ (c .before .k .given .0 .0) (c .before .before .before .before .before .write-listing .last .1 .0) (sym (ap (λ (z : Counting). returned z (c .before .before .before .before .before .write-listing .last .1 .0)) (c .before .k .given .1)) ∙ (c .before .before .before .before .before .write-listing .ensures .0))
+
+slice-aggregate-write-all : tie.Need-slice-aggregate-write-all
+slice-aggregate-write-all c = sym (length-take-le (c .before .before .k .given .0 .0) (c .before .before .before .before .before .before .write-listing .last .1 .0) (write-fits (listing _) _ (c .before .before .k .given .0 .0) (c .before .before .before .before .before .before .write-listing .last .1 .0) (sym (ap (λ (z : Counting). returned z (c .before .before .before .before .before .before .write-listing .last .1 .0)) (c .before .before .k .given .1)) ∙ (c .before .before .before .before .before .before .write-listing .ensures .0))))
+
+write-all-requires : tie.Need-write-all-requires
+write-all-requires c κs = search needs
+
+same-length : tie.Need-same-length
+same-length c = search needs
+
+same-length-2 : tie.Need-same-length-2
+same-length-2 c = search needs
+
+returns : tie.Need-returns
+returns c = search needs
+
+same-length-3 : tie.Need-same-length-3
+same-length-3 c = search needs
+
+same-length-4 : tie.Need-same-length-4
+same-length-4 c = search needs
+
+returns-2 : tie.Need-returns-2
+returns-2 c = search needs
+
+pub list-spec : {M : Type 1} → statement M
+list-spec =
+    tie.close
+    (tie.spec
+    read-full-requires
+    slice-reshare-prefix-write-listing
+    slice-aggregate-write-listing
+    write-listing-requires
+    enum-told
+    enum-known-k
+    slice-reshare-prefix-write-all
+    slice-aggregate-write-all
+    write-all-requires
+    same-length
+    same-length-2
+    returns
+    same-length-3
+    same-length-4
+    returns-2)
