@@ -10,8 +10,6 @@
 //   Q,a,b                   asks nodes a and b
 //   W,a,b                   writes their walk
 //   T,0,0                   tests
-mod calls;
-
 use script::Command;
 use script::read_command;
 use script::run_read;
@@ -44,23 +42,23 @@ fn run_call(
     walk: &mut [u16],
 ) {
     if c.letter == b'B' {
-        calls::run_build(numbers, starts, neighbours, full, low, report, hubs);
+        script_calls::run_build(numbers, starts, neighbours, full, low, report, hubs);
         return;
     }
     if c.letter == b'V' {
-        calls::run_print(c, numbers, full, low, report, hubs);
+        script_calls::run_print(c, numbers, full, low, report, hubs);
         return;
     }
     if c.letter == b'Q' {
-        calls::run_ask(c, numbers, full, low, report);
+        script_calls::run_ask(c, numbers, full, low, report);
         return;
     }
     if c.letter == b'W' {
-        calls::run_walk(c, numbers, starts, neighbours, full, low, report, walk);
+        script_calls::run_walk(c, numbers, starts, neighbours, full, low, report, walk);
         return;
     }
     if c.letter == b'T' {
-        calls::run_test(numbers, starts, neighbours);
+        script_calls::run_test(numbers, starts, neighbours);
     }
 }
 

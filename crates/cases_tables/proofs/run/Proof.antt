@@ -3,9 +3,6 @@
 use borrow.Author.Needs.{needs}
 use Rattle.cases_tables.proofs.run.Statement.{statement}
 use Rattle.cases_tables.proofs.run.Tie as tie
-use Rattle.cases_tables.proofs.run.Reads as reads
-use Rattle.cases_tables.proofs.run.Lts as lts
-use Rattle.cases_tables.proofs.step.Reads as step-reads
 
 abbrev Inv-loop : tie.InvT-loop
 Inv-loop script numbers₀ starts₀ neighbours₀ full₀ low₀ report₀ hubs₀ walk₀ at₀ turns₀ numbers starts neighbours full low report hubs walk at turns =

@@ -4,13 +4,8 @@ use mathlib.Core.Path.{sym}
 use native.Mathlib.Omega.{arith}
 use lib.Seq.{length-take-le}
 use borrow.Author.Needs.{needs}
-use Rattle.cases_tables.proofs.calls.run_ask.Statement.{statement}
-use Rattle.cases_tables.proofs.calls.run_ask.Tie as tie
-use Rattle.cases_tables.proofs.calls.run_ask.Reads as reads
-use Rattle.cases_tables.proofs.calls.run_ask.Lts as lts
-use Rattle.pairs.proofs.ask.Reads as ask-reads
-use Rattle.script.proofs.at_most.Reads as at-most-reads
-use Rattle.script.proofs.print_answer.Reads as print-answer-reads
+use Rattle.script_calls.proofs.run_ask.Statement.{statement}
+use Rattle.script_calls.proofs.run_ask.Tie as tie
 
 element-copy-out-at-most : tie.Need-element-copy-out-at-most
 element-copy-out-at-most c = search needs

@@ -1,4 +1,4 @@
-// The calls of a script, each with what it prints. `numbers` are those that main.rt's command N sets.
+// The calls of a script, each with what it prints. `numbers` are those that command N of the program `cases_tables` sets.
 use script::Command;
 use script::at_most;
 use script::print_answer;

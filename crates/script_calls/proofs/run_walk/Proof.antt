@@ -4,14 +4,8 @@ use mathlib.Core.Path.{sym}
 use native.Mathlib.Omega.{arith}
 use lib.Seq.{length-take-le}
 use borrow.Author.Needs.{needs}
-use Rattle.cases_tables.proofs.calls.run_walk.Statement.{statement}
-use Rattle.cases_tables.proofs.calls.run_walk.Tie as tie
-use Rattle.cases_tables.proofs.calls.run_walk.Reads as reads
-use Rattle.cases_tables.proofs.calls.run_walk.Lts as lts
-use Rattle.script.proofs.at_most.Reads as at-most-reads
-use Rattle.script.proofs.print_answer.Reads as print-answer-reads
-use Rattle.script.proofs.sum16.Reads as sum16-reads
-use Rattle.walks.proofs.write_walk.Reads as write-walk-reads
+use Rattle.script_calls.proofs.run_walk.Statement.{statement}
+use Rattle.script_calls.proofs.run_walk.Tie as tie
 
 element-copy-out-at-most : tie.Need-element-copy-out-at-most
 element-copy-out-at-most c = search needs
