@@ -5,7 +5,7 @@
  * list which is written overlaps no other list of the call. Calls allocate nothing and keep nothing; they may run in several threads
  * on different lists. They use less than 256 kB of stack.
  *
- * The answer is one number of 64 bits: `code` of crates/library/specs/Code.antt, taken apart by the functions below. */
+ * The answer is one number of 64 bits: `code` of crates/codes/specs/Code.antt, taken apart by the functions below. */
 #ifndef PUXERDAU_H
 #define PUXERDAU_H
 
