@@ -92,7 +92,7 @@ report-most n s G g size a b ha hb =
     (λ c. omega (arith, r .no-route .1 (c .1)))
     (fewest-cases (linked n G) n a (linked-ends n G) ha b)
 
-pub listing-few : (n : ℕ) (G : Graph) → IsGraph n G → n ≤ 128 → length (listingOf n G) ≤ most
+pub listing-few : (n : ℕ) (G : Graph) → IsGraph n G → n ≤ 128 → length (listingOf n (threshold n) G) ≤ most
 unfolding listingOf pairLines upTo
 listing-few n G g size =
     let s = threshold n in

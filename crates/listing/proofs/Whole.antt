@@ -59,7 +59,7 @@ module _ (n s : ℕ) (G : Graph) (full low report list full′ low′ report′ 
     unfolding built reportTable
     report-is = ap (λ (b : Building). b .report) e ∙ over-whole (reportTable n s G) report (report-size ∙ sym (length-table n _))
 
-    pub listing-by-tables : lineOf 82 n count ++ pairLines n full′ low′ report′ ≡ listingOf n G
+    pub listing-by-tables : lineOf 82 n count ++ pairLines n full′ low′ report′ ≡ listingOf n (threshold n) G
     unfolding listingOf
     listing-by-tables = rw (count-is, full-is, low-is, report-is, s-is) refl
 
@@ -82,7 +82,7 @@ module _ (text : List ℕ) (p q : ℕ) (p-is : p ≡ 128 + 1) (q-is : q ≡ 2 * 
   pub record IsListed (n : ℕ) : Type 0 where
     pub survey : Accepted n starts neighbours
     pub few : n ≤ 128
-    pub lines : listingOf n (neighboursOf starts neighbours) ≡ listing text
+    pub lines : listingOf n (threshold n) (neighboursOf starts neighbours) ≡ listing text
 
   pub listing-read : (x : Size) → reading.returned (read.Read x) starts neighbours ≡ readingOf p q (parse 128 2048 p q text) → IsListed (x .nodes)
   unfolding readingOf listingText numberIn
@@ -98,7 +98,7 @@ module _ (text : List ℕ) (p q : ℕ) (p-is : p ≡ 128 + 1) (q-is : q ≡ 2 * 
                 (subst (λ (z : reading.Reading). Accepted (y .nodes) (z .starts) (z .neighbours)) (sym e) (read-accepted 128 2048 p q (omega arith) (omega arith) text y h));
             few = omega (arith, j, parse-sound 128 2048 p q text y h .within .size);
             lines =
-                ap₂ listingOf j (ap (λ (z : reading.Reading). neighboursOf (z .starts) (z .neighbours)) e ∙ read-graph 128 2048 p q (omega arith) (omega arith) text y h)
+                ap₂ (λ (k : ℕ) (G : Graph). listingOf k (threshold k) G) j (ap (λ (z : reading.Reading). neighboursOf (z .starts) (z .neighbours)) e ∙ read-graph 128 2048 p q (omega arith) (omega arith) text y h)
                 ∙ sym (listing-said ∙ ap listingText h);
           }
 

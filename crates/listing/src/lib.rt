@@ -8,6 +8,7 @@ ghost use lib.ListN.{length};
 ghost use Rattle.lists.specs.Writing.{Wrote};
 ghost use Rattle.model.specs.Answers.{number, refused, answered, countAnswer};
 ghost use Rattle.model.specs.Survey.{neighboursOf, Accepted};
+ghost use Rattle.model.specs.Threshold.{threshold};
 ghost use Rattle.model.specs.Listing.{listingOf, listingText, listing, writingListing};
 ghost use Rattle.model.specs.Writing.{returned};
 ghost use Rattle.listing.specs.Length.{most};
@@ -23,8 +24,8 @@ fn write_tables(
     buffer: &mut [u8],
 ) -> usize
     requires { ⌜ Accepted n (now starts) (now neighbours) × (n ≤ 128) × (length (now full) ≡ n * n) × (length (now low) ≡ n * n) × (length (now report) ≡ n * n) ⌝ }
-    requires { ⌜ length (listingOf n (neighboursOf (now starts) (now neighbours))) ≤ length (now buffer) ⌝ }
-    ensures { λ r. ⌜ Wrote (now (buffer .entry)) (now (buffer .exit)) 0 r (listingOf n (neighboursOf (now (starts .entry)) (now (neighbours .entry)))) ⌝ }
+    requires { ⌜ length (listingOf n (threshold n) (neighboursOf (now starts) (now neighbours))) ≤ length (now buffer) ⌝ }
+    ensures { λ r. ⌜ Wrote (now (buffer .entry)) (now (buffer .exit)) 0 r (listingOf n (threshold n) (neighboursOf (now (starts .entry)) (now (neighbours .entry)))) ⌝ }
 {
     let mut hubs = [0u16; 128];
     let s = threshold::threshold_at(n);
@@ -36,7 +37,7 @@ fn write_tables(
 // Writes the listing of a survey of at most 128 nodes from the first byte on, and returns its length.
 fn write_survey(n: usize, starts: &[u32], neighbours: &[u16], buffer: &mut [u8]) -> usize
     requires { ⌜ Accepted n (now starts) (now neighbours) × (n ≤ 128) × (most ≤ length (now buffer)) ⌝ }
-    ensures { λ r. ⌜ Wrote (now (buffer .entry)) (now (buffer .exit)) 0 r (listingOf n (neighboursOf (now (starts .entry)) (now (neighbours .entry)))) ⌝ }
+    ensures { λ r. ⌜ Wrote (now (buffer .entry)) (now (buffer .exit)) 0 r (listingOf n (threshold n) (neighboursOf (now (starts .entry)) (now (neighbours .entry)))) ⌝ }
 {
     let size = n * n;
     let mut full = [0u16; 16384];

@@ -1,4 +1,5 @@
 -- The answers of the open calls as document 01 gives them: a refusal's number, or a value.
+-- An open call is a function that a user calls, without a precondition; a list that is lent to it is a slice argument.
 -- Assumes nothing.
 use mathlib.Core.Bool.{Bool, true, false}
 use Prim.Native.Nat.{ℕ}
@@ -52,7 +53,7 @@ number NoNode = 10
 number NotAttained = 11
 number ShortBuffer = 12
 
--- what each case of a call's answer stands for
+-- what each case of a call's answer stands for. (Acceptance is a call of its own: docs/DECISIONS.md, 16.)
 abbrev pub acceptAnswer : Accepting → Outcome (Unit {0})
 acceptAnswer (accepting.Refused r) = refused (number r)
 acceptAnswer accepting.Accepted = answered tt

@@ -35,11 +35,17 @@ pub record Allowed (E : Edges) (a b r : ℕ) : Type 0 where
   pub no-route : (r ≡ none) ↔ Unjoined E a b
   pub near : (d : ℕ) → Fewest E a b d → (d ≤ r) × (r ≤ d + 2)
 
--- "The report is the one that asking a pair answers .. With such tables and nodes below n [it is not] refused": an allowed report
+-- "The report is the one that asking a pair answers .. With such tables and nodes below n [it is not] refused": an allowed report. An
+-- accepted survey, tables built from it and nodes below n are asked for where this is promised: `pairs::ask`, `walks::write_walk`
 pub record AllowedAnswer (E : Edges) (a b : ℕ) (o : Outcome Answer) : Type 0 where
   pub value : Answer
   pub given : o ≡ answered value
   pub allowed : Allowed E a b (value .report)
+
+-- "writing the walk answers the same. .. if the walk list is long enough: report + 1 entries or more, and any length where there is no
+-- route." w is its length
+abbrev pub WalkAnswers : ℕ → Outcome Answer → Walking → Type 0
+WalkAnswers w o r = (x : Answer) → o ≡ answered x → (x .report ≡ none) ⊎ (x .report < w) → r .answer ≡ answered x
 
 -- "The written walk is the first report + 1 entries: a first, b last, each linked to the next.": a chain of r links
 pub record IsWalk (E : Edges) (a b r : ℕ) (list : List ℕ) : Type 0 where
@@ -51,11 +57,6 @@ pub record IsWalk (E : Edges) (a b r : ℕ) (list : List ℕ) : Type 0 where
 abbrev pub WalkSound : Edges → (a b : ℕ) → Walking → Type 0
 WalkSound E a b r = (x : Answer) → r .answer ≡ answered x → (x .report ≡ none → ⊥) → IsWalk E a b (x .report) (r .walk)
 
--- "writing the walk answers the same. .. if the walk list is long enough: report + 1 entries or more, and any length where there is no
--- route." w is its length
-abbrev pub WalkAnswers : ℕ → Outcome Answer → Walking → Type 0
-WalkAnswers w o r = (x : Answer) → o ≡ answered x → (x .report ≡ none) ⊎ (x .report < w) → r .answer ≡ answered x
-
 -- a verdict: parted exactly when some two nodes are not joined, never short where some two are four or more apart, never long
 -- where all are within two
 pub record VerdictRight (n : ℕ) (E : Edges) (v : Verdict) : Type 0 where
@@ -63,7 +64,7 @@ pub record VerdictRight (n : ℕ) (E : Edges) (v : Verdict) : Type 0 where
   pub not-short : (a b d : ℕ) → a < n → b < n → Fewest E a b d → 4 ≤ d → v ≡ Short → ⊥
   pub not-long : ((a b : ℕ) → a < n → b < n → WithinTwo E a b) → v ≡ Long → ⊥
 
--- a test that is not refused, with a right verdict
+-- a test that is not refused, with a right verdict; `verdict::test` promises it for an accepted survey
 pub record RightVerdict (n : ℕ) (E : Edges) (o : Outcome Tested) : Type 0 where
   pub value : Tested
   pub given : o ≡ answered value

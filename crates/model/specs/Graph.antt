@@ -21,7 +21,8 @@ abbrev pub between : (ℕ → Bool) → Edges → Edges
 between p E a b = p a && p b && E a b
 
 -- "A chain is a list of one or more nodes, each linked to the next. It joins its first node and its last": a walk in the graph.
--- Chain E k a b is one of k links that joins a and b
+-- Chain E k a b is one of k links that joins a and b. (The nodes of a link are below n; a chain of no links is of any number, and every
+-- promise asks that a is a node.)
 pub data Chain (E : Edges) : ℕ → ℕ → ℕ → Type 0 where
   here : {a : ℕ} → Chain E 0 a a
   link : {k a b c : ℕ} → T (E a b) → Chain E k b c → Chain E (suc k) a c

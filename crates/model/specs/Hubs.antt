@@ -23,7 +23,7 @@ closed G v = v ∷ G v
 unfoldable pub gain : Graph → List ℕ → ℕ → ℕ
 gain G U v = length (keep (λ u. has u (closed G v)) U)
 
--- "the node, high or low, whose closed neighbourhood holds most uncovered high nodes, the smallest number on a tie"
+-- "the node, high or low, whose closed neighbourhood .. holds most uncovered high nodes, the smallest number on a tie"
 unfoldable pub best : ℕ → Graph → List ℕ → ℕ
 best n G U = firstOf (λ v. all (λ w. leb (gain G U w) (gain G U v)) (upTo n)) none (upTo n)
 

@@ -29,7 +29,7 @@ routeText Low = 108 ∷ 111 ∷ 119 ∷ []
 routeText (Through h) = digits h
 routeText NoRoute = 45 ∷ []
 
--- "`P`, a, b, the report and the route" (no pair is refused: `listing-lines` of proofs/Listing.antt)
+-- "`P`, a, b, the report .. and the route" (no pair is refused: `listing-lines` of proofs/Listing.antt)
 unfoldable pub pairLine : ℕ × ℕ → Outcome Answer → List ℕ
 pairLine p (refused k) = []
 pairLine p (answered x) =
@@ -44,21 +44,20 @@ unfoldable pub pairLines : ℕ → (full low report : List ℕ) → List ℕ
 pairLines n full low report = gather (λ p. pairLine p (pair n full low report (p .0) (p .1))) (pairsBelow n)
 
 -- "prints `R`, node count, hub count; then for each a < b .."
-unfoldable pub listingOf : ℕ → Graph → List ℕ
-listingOf n G =
-    let s = threshold n in
+unfoldable pub listingOf : ℕ → ℕ → Graph → List ℕ
+listingOf n s G =
     lineOf 82 n (length (hubs n s G)) ++ pairLines n (fullTable n s G) (lowTable n s G) (reportTable n s G)
 
 -- "otherwise prints one line only, `X,` and the refusal's number"
 unfoldable pub listingText : Outcome Parsed → List ℕ
 listingText (refused k) = 88 ∷ 44 ∷ (digits k ++ 10 ∷ [])
-listingText (answered x) = listingOf (x .nodes) (graphOf (x .nodes) (x .links))
+listingText (answered x) = listingOf (x .nodes) (threshold (x .nodes)) (graphOf (x .nodes) (x .links))
 
 -- "It takes up to 128 nodes and 2,048 links", for which it has lists that are long enough; "(2 and 3 for its own limits, in their places
 -- on the first line)"
 unfoldable pub listing : List ℕ → List ℕ
 listing text = listingText (parse 128 2048 (128 + 1) (2 * 2048) text)
 
--- the call that writes the listing into a lent buffer, as writing back does
+-- the call that writes the listing into a lent buffer, as writing back does. Document 01 has the program alone (docs/DECISIONS.md, 19)
 abbrev pub writingListing : (text buffer : List ℕ) → Writing
 writingListing text buffer = writingOf (answered tt) (listing text) buffer

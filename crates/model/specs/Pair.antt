@@ -15,7 +15,7 @@ use Rattle.model.specs.Tables.{entry, via}
 abbrev pub answer : ℕ → Route → Answer
 answer r t = record { report = r; route = t }
 
--- "the route is one of four: itself (a = b), low, through hub h, or no route. Low is preferred when it attains the report; else
+-- the route (how the estimate is attained): "the route is one of four: itself (a = b), low, through hub h, or no route. Low is preferred when it attains the report; else
 -- the smallest hub that does." r is the report, l the entry of Low, h the hub; "11 the report is not none and no route attains it,
 -- or a = b and it is not 0"
 unfoldable pub choose : (a b r l h : ℕ) → Outcome Answer

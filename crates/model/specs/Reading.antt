@@ -68,13 +68,15 @@ parseLinks o = andThen o (λ f. parsed (f .0) (readLinks (f .0) (f .1) [] (f .2)
 unfoldable pub parse : (mostNodes mostLinks p q : ℕ) → List ℕ → Outcome Parsed
 parse mostNodes mostLinks p q text = parseLinks (countsOf mostNodes mostLinks p q (line 83 text))
 
--- the two lists of n nodes with these links
+-- each node's neighbours by these links, ascending
 unfoldable pub graphOf : ℕ → List (ℕ × ℕ) → Graph
 graphOf n ls v = keep (named ls v) (upTo n)
 
+-- "`starts` .. has n + 1 entries, the first 0, never falling, the last 2m": where each node's neighbours begin
 unfoldable pub startsOf : ℕ → Graph → List ℕ
 startsOf n G = map (λ v. length (gather G (upTo v))) (upTo (n + 1))
 
+-- "`neighbours` .. has 2m entries": one node's after the other
 unfoldable pub neighboursFrom : ℕ → Graph → List ℕ
 neighboursFrom n G = gather G (upTo n)
 

@@ -58,7 +58,8 @@ abbrev pub least : (ℕ → ℕ) → ℕ → List ℕ → ℕ
 least f x hs = foldr (λ h y. min (f h) y) x hs
 
 -- Report (the estimated distances): "0 where a = b. Otherwise the least of Low(a, b) and, over all hubs h, Full(h, a) + Full(h, b),
--- leaving out candidates with a none; none if nothing is left." "Linked nodes get no special case." (None is above every sum.)
+-- leaving out candidates with a none; none if nothing is left." "Linked nodes get no special case." (In built tables, of at most
+-- 1,024 nodes, none is above every sum.)
 abbrev pub reportEntry : ℕ → (full low hs : List ℕ) → ℕ → ℕ → ℕ
 reportEntry n full low hs a b = if eqb a b then 0 else least (via n full a b) (entry n low a b) hs
 

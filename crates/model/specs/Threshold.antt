@@ -15,6 +15,6 @@ unfoldable pub threshold : ℕ → ℕ
 threshold n = let w = n * bitLength n in firstOf (λ s. leb w (s * s)) none (upTo (w + 1))
 
 -- "It is read from a stored table with one entry for each n from 1 to 1,024.": what the open call that reads it answers. Document 01 has
--- no such call; another n is refused 2, as everywhere
+-- no such call (docs/DECISIONS.md, 13); another n is refused 2, as everywhere
 unfoldable pub thresholdAnswer : ℕ → Outcome ℕ
 thresholdAnswer n = if badSize n then refused 2 else answered (threshold n)

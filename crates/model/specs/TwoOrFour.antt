@@ -17,15 +17,15 @@ use Rattle.model.specs.Hubs.{isLow, closed, hubs}
 unfoldable pub sources : ℕ → ℕ → Graph → List ℕ
 sources n s G = let v = firstOf (isLow s G) none (upTo n) in if eqb v none then hubs n s G else closed G v
 
--- "`Parted` if a search misses a node, else `long` if a search goes deeper than 2, else `short`." (the graph is disconnected; of
+-- ""Parted" if a search misses a node, else "long" if a search goes deeper than 2, else "short"." (the graph is disconnected; of
 -- diameter more than two; of diameter less than four.) A search goes as deep as the greatest distance from its source
 unfoldable pub verdictOf : ℕ → Graph → List ℕ → Verdict
-verdictOf n G hs =
+verdictOf n G list =
     let distance : ℕ → ℕ → ℕ = fewest (linked n G) n in
-    if any (λ h. any (λ v. eqb (distance h v) none) (upTo n)) hs then Parted
-    else if any (λ h. any (λ v. ltb 2 (distance h v)) (upTo n)) hs then Long
+    if any (λ a. any (λ b. eqb (distance a b) none) (upTo n)) list then Parted
+    else if any (λ a. any (λ b. ltb 2 (distance a b)) (upTo n)) list then Long
     else Short
 
 -- "The count of searches is given too: that node's neighbours plus one, or the number of hubs, as those sets have it."
 unfoldable pub tested : ℕ → ℕ → Graph → Tested
-tested n s G = let hs = sources n s G in record { verdict = verdictOf n G hs; searches = length hs }
+tested n s G = let list = sources n s G in record { verdict = verdictOf n G list; searches = length list }

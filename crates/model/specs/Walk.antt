@@ -23,7 +23,8 @@ unfoldable pub next : Graph → (ℕ → Bool) → (ℕ → ℕ) → ℕ → ℕ
 next G may left d v = firstOf (λ x. may x && eqb (left x) d) none (G v)
 
 -- "Each step leaves one link fewer. A part takes exactly as many steps as its table entry says and must then stand at its goal."
--- d steps from v; missing where no step leads on or the steps end elsewhere
+-- A part is a segment of the walk: from a to b over low nodes, or from one of them to the hub. d steps from v; missing where no step leads
+-- on or the steps end elsewhere
 unfoldable pub steps : Graph → (ℕ → Bool) → (ℕ → ℕ) → ℕ → ℕ → ℕ → Option (List ℕ)
 steps G may left goal zero v = if eqb v goal then some (v ∷ []) else missing
 steps G may left goal (suc d) v =

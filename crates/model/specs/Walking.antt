@@ -21,8 +21,8 @@ pub record Walking : Type 0 where
   pub walk : List ℕ
 
 -- what a call of the code returned and left in the walk list
-abbrev pub walked : Asking → List ℕ → Walking
-walked r w = record { answer = pairAnswer r; walk = w }
+abbrev pub returned : Asking → List ℕ → Walking
+returned r w = record { answer = pairAnswer r; walk = w }
 
 -- "Refused, or with no route, every entry of the walk list is none; otherwise the entries after the walk are none." w is the list's
 -- length

@@ -64,7 +64,7 @@ pub struct Tested {
     pub searches: usize,
 }
 
-// What acceptance of lent lists answers (whether they are a valid survey).
+// What acceptance of lent lists answers (whether they are a valid survey). A lent list is a slice argument.
 pub enum Accepting {
     Refused(Refusal),
     Accepted,
@@ -76,7 +76,8 @@ pub enum Reading {
     Read(Size),
 }
 
-// What a call answers whose value is a count: building, the count of hubs; writing back, the text's length.
+// What a call answers whose value is one number: building, the count of hubs; writing back and the listing, the text's length; the
+// threshold.
 pub enum Counting {
     Refused(Refusal),
     Count(usize),
