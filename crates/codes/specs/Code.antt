@@ -11,7 +11,7 @@ use Rattle.model.specs.declared.Tested.{Tested}
 use Rattle.model.specs.Answers.{Outcome, refused, answered}
 
 -- the low 16 bits are document 01's number of the refusal, or 0 where there is an answer; above them stand the answer's values. That
--- each value fits its field is proved in proofs/Fits.antt
+-- each value fits its field is proved in library/proofs/Fits.antt
 abbrev pub code : {A : Type 0} → (values : A → ℕ) → Outcome A → ℕ
 code values (refused k) = k
 code values (answered x) = 65536 * values x

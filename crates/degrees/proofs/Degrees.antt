@@ -11,11 +11,9 @@ use lib.Dec.{eqb, ltb}
 use lib.ListN.{length, replicate}
 use Rattle.model.specs.Survey.{Graph}
 use Rattle.model.specs.Hubs.{isHigh, isLow}
-use Rattle.model.proofs.Tests.{eq-or}
-use Rattle.model.proofs.Lists.{nothing}
+use Rattle.model.proofs.Tests.{ltb-next, eq-or}
 use Rattle.nodeset.specs.NodeSet.{Nodes, member, emptySet, with, without}
 use Rattle.nodeset.proofs.Bits.{empty-words}
-use Rattle.nodeset.proofs.Words.{ltb-same}
 
 -- the high nodes below v are in the set
 pub record HighBelow (s : ℕ) (G : Graph) (ws : List ℕ) (v : ℕ) : Type 0 where
@@ -31,14 +29,11 @@ module _ (s : ℕ) (G : Graph) (ws : List ℕ) where
   }
 
   module _ (v : ℕ) (h : HighBelow s G ws v) where
-    other : (x : ℕ) → (x ≡ v → ⊥) → ltb x v ≡ ltb x (v + 1)
-    other x d = ltb-same x v x (v + 1) (λ l. omega arith) (λ l. omega arith)
-
     pub high-with : (ws′ : List ℕ) → s ≤ length (G v) → length ws′ ≡ length ws → member ws′ ≡ with (member ws) v → HighBelow s G ws′ (v + 1)
     unfolding with isHigh
     high-with ws′ l k e = record {
       long = k ∙ h .long;
-      says = e ∙ fun-ext (λ x. ap (λ (p : Nodes). eqb x v || p x) (h .says) ∙ ⊎-elim (λ q. at x q) (λ d. ap₂ (λ (a b : Bool). a || (b && isHigh s G x)) (ne-eqb x v d) (other x d)) (eq-or x v));
+      says = e ∙ fun-ext (λ x. ap (λ (p : Nodes). eqb x v || p x) (h .says) ∙ ⊎-elim (λ q. at x q) (λ d. ap₂ (λ (a b : Bool). a || (b && isHigh s G x)) (ne-eqb x v d) (ltb-next x v d)) (eq-or x v));
     }
       where
         at : (x : ℕ) → x ≡ v → (eqb x v || (ltb x v && isHigh s G x)) ≡ (ltb x (v + 1) && isHigh s G x)
@@ -50,7 +45,7 @@ module _ (s : ℕ) (G : Graph) (ws : List ℕ) where
     unfolding isHigh
     high-without l = record {
       long = h .long;
-      says = h .says ∙ fun-ext (λ x. ⊎-elim (λ q. at x q) (λ d. ap (λ (t : Bool). t && isHigh s G x) (other x d)) (eq-or x v));
+      says = h .says ∙ fun-ext (λ x. ⊎-elim (λ q. at x q) (λ d. ap (λ (t : Bool). t && isHigh s G x) (ltb-next x v d)) (eq-or x v));
     }
       where
         at : (x : ℕ) → x ≡ v → (ltb x v && isHigh s G x) ≡ (ltb x (v + 1) && isHigh s G x)

@@ -13,12 +13,11 @@ use lib.Seq.{take-at}
 use Rattle.model.specs.Basics.{none, if_then_else_, upTo, any, gather}
 use Rattle.model.specs.declared.Verdict.the-variants.{Parted, Long, Short}
 use Rattle.model.specs.Graph.{Edges, between, fewest, linked}
-use Rattle.model.specs.Answers.{number}
 use Rattle.model.specs.Survey.{Graph}
 use Rattle.model.specs.TwoOrFour.{verdictOf}
 use Rattle.model.proofs.Entries.{length-row}
 use Rattle.model.proofs.TableLaws.{all-allowed}
-use Rattle.model.proofs.Lists.{any-append, nothing, first-most}
+use Rattle.model.proofs.Lists.{any-append, first-most}
 use Rattle.model.proofs.Loops.{drop-next}
 use Rattle.model.proofs.Tests.{eq-or, lt-or}
 use Rattle.depths.specs.Depth.{greatest, distances, ofDepth}

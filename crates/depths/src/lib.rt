@@ -7,7 +7,6 @@ ghost use lib.Dec.{T};
 ghost use Rattle.model.specs.Basics.{has};
 ghost use Rattle.model.specs.Graph.{fewest, linked};
 ghost use Rattle.model.specs.Survey.{neighboursOf, Accepted};
-ghost use Rattle.model.specs.TwoOrFour.{sources};
 ghost use Rattle.depths.specs.Depth.{greatest, distances, ofDepth};
 
 // The greater of two numbers.

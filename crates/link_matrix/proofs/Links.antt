@@ -1,4 +1,4 @@
--- Links put into a matrix one by one.
+-- The links between allowed nodes, put into a matrix one by one.
 -- Assumes nothing.
 use mathlib.Core.Path.{_≡_, refl, sym, ap, _∙_, subst}
 use mathlib.Core.Logic.{⊎-elim}
@@ -14,7 +14,7 @@ use Rattle.model.specs.Graph.{Edges, between, linked}
 use Rattle.model.specs.Survey.{Graph, IsGraph}
 use Rattle.model.proofs.Acceptance.{linked-is, linked-has, linked-of}
 use Rattle.model.proofs.Loops.{drop-next}
-use Rattle.model.proofs.Tests.{and-l, and-r, and-i, true-T, same-test, eq-or, lt-or}
+use Rattle.model.proofs.Tests.{and-l, and-r, and-i, true-T, same-test, eq-or, ltb-next}
 use Rattle.nodeset.specs.NodeSet.{Nodes, member, with}
 use Rattle.nodeset.specs.Matrix.{edgesIn}
 use Rattle.nodeset.proofs.Matrix.{same-edges, edge-with, edges-none}
@@ -112,10 +112,7 @@ module _ (n : ℕ) (G : Graph) (g : IsGraph n G) (p : Nodes) (v : ℕ) where
       at u b q = rw (eq-eqb u v q, le-ltb u v (omega arith), lt-ltb u (v + 1) (omega arith)) (or-comm b false)
 
       other : (u : ℕ) (b : Bool) → (u ≡ v → ⊥) → ((eqb u v && b) || (ltb u v && b)) ≡ (ltb u (v + 1) && b)
-      other u b d = ⊎-elim
-          (λ l. rw (ne-eqb u v d, lt-ltb u v l, lt-ltb u (v + 1) (omega arith)) refl)
-          (λ l. rw (ne-eqb u v d, le-ltb u v l, le-ltb u (v + 1) (omega arith)) refl)
-          (lt-or u v)
+      other u b d = rw (ne-eqb u v d, ltb-next u v d) refl
 
 pub rows-none : (F : Edges) (ws : List ℕ) → ws ≡ replicate 16384 0 → edgesIn ws ≡ (λ u x. ltb u 0 && F u x)
 rows-none F ws e =

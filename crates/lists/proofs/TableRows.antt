@@ -1,7 +1,6 @@
 -- Tables of n rows of n entries: a row as a part of its table, a table of which one row is written, a table that is written row by row.
 -- Assumes nothing.
 use mathlib.Core.Path.{_≡_, refl, sym, ap, ap₂, _∙_}
-use mathlib.Core.Logic.{_⊎_, inl, inr}
 use mathlib.Core.Bool.{Bool}
 use mathlib.Core.List.{List, _∷_, _++_, map, append-assoc}
 use Prim.Native.Nat.{ℕ, zero, suc, _+_, _-_, _*_, _/_, _%_, _≤_, _<_}
@@ -16,7 +15,7 @@ use Rattle.model.specs.Basics.{if_then_else_, from, upTo, gather, over}
 use Rattle.model.specs.Tables.{table, entry}
 use Rattle.model.proofs.Entries.{rows, length-rows, length-row, getD-row, length-table, entry-table}
 use Rattle.model.proofs.Lists.{gather-append, gather-same, from-split, of-upTo, of-from}
-use Rattle.model.proofs.Tests.{lt-or}
+use Rattle.model.proofs.Tests.{ltb-next}
 use borrow.Rule.Slice.PartMut.{midOf, putMid, mid-len}
 use Rattle.lists.proofs.Writing.{put-written}
 
@@ -166,11 +165,7 @@ module _ (n : ℕ) (F : ℕ → ℕ → ℕ) (t : List ℕ) where
       let g : ℕ → ℕ → ℕ = λ u b. if ltb u (a + 1) then F u b else entry n t u b in
       ap (λ (x : List ℕ). written (rowsTo a) (a * n) x) (row-same n (F a) (g a) (λ b k. rw (lt-ltb a (a + 1) (omega arith)) refl))
       ∙ put-row n a h (λ u b. if ltb u a then F u b else entry n t u b) g t (λ u b hu hb d.
-      ap (λ (x : Bool). if x then F u b else entry n t u b) (passed u d (lt-or u a)))
-    where
-      passed : (u : ℕ) → (u ≡ a → ⊥) → (u < a) ⊎ (a ≤ u) → ltb u a ≡ ltb u (a + 1)
-      passed u d (inl k) = lt-ltb u a k ∙ sym (lt-ltb u (a + 1) (omega arith))
-      passed u d (inr k) = le-ltb u a k ∙ sym (le-ltb u (a + 1) (omega arith))
+      ap (λ (x : Bool). if x then F u b else entry n t u b) (ltb-next u a d))
 
   pub rows-done : (a : ℕ) → n ≤ a → rowsTo a ≡ over (table n F) t
   unfolding rowsTo

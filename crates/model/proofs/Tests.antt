@@ -1,9 +1,10 @@
 -- Laws of tests.
 -- Assumes nothing.
 use mathlib.Core.Path.{_≡_, refl, sym, ap, subst, _∙_}
-use mathlib.Core.Logic.{_⊎_, inl, inr}
+use mathlib.Core.Logic.{_⊎_, inl, inr, ⊎-elim}
 use mathlib.Core.Bool.{Bool, true, false, not, _&&_, _||_, or-assoc, or-comm, Bool·not-not}
-use Prim.Native.Nat.{ℕ, _≤_, _<_}
+use Prim.Native.Nat.{ℕ, _+_, _≤_, _<_}
+use native.Mathlib.Omega.{arith}
 use borrow.Author.Tests.{ltb-true, ltb-false, eqb-true, eqb-false, lt-ltb, le-ltb, lt-leb, le-leb}
 use lib.Dec.{T, eqb, ltb, leb, eqb-refl}
 use Rattle.model.specs.Basics.{if_then_else_}
@@ -96,6 +97,14 @@ lt-or x y = go (ltb x y) refl
     go : (b : Bool) → ltb x y ≡ b → (x < y) ⊎ (y ≤ x)
     go true e = inl (ltb-true x y e)
     go false e = inr (ltb-false x y e)
+
+-- two tests agree where each passes when the other does
+pub ltb-same : (x y z w : ℕ) → (x < y → z < w) → (y ≤ x → w ≤ z) → ltb x y ≡ ltb z w
+ltb-same x y z w f g = ⊎-elim (λ l. lt-ltb x y l ∙ sym (lt-ltb z w (f l))) (λ l. le-ltb x y l ∙ sym (le-ltb z w (g l))) (lt-or x y)
+
+-- below the next number, where it is not v itself
+pub ltb-next : (x v : ℕ) → (x ≡ v → ⊥) → ltb x v ≡ ltb x (v + 1)
+ltb-next x v d = ltb-same x v x (v + 1) (λ l. omega arith) (λ l. omega arith)
 
 -- not at least y: less than y; and the other way
 pub not-leb : (x y : ℕ) → not (leb y x) ≡ ltb x y

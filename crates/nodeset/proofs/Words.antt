@@ -15,7 +15,7 @@ use lib.ListN.{length, getD, set, length-set, length-append, replicate, List·ge
 use lib.Pow.{pow-pos}
 use lib.Seq.{getD-set-same, getD-set-other}
 use Rattle.model.specs.Basics.{if_then_else_, from, upTo, keep, firstOf}
-use Rattle.model.proofs.Tests.{picked, lt-or, eq-or}
+use Rattle.model.proofs.Tests.{picked, ltb-same, lt-or, eq-or}
 use Rattle.model.proofs.Lists.{First, found, nothing, first-of, keep-append, keep-length, length-upTo, upTo-add}
 use Rattle.model.proofs.Loops.{below-next}
 use Rattle.nodeset.specs.NodeSet.{Nodes, bit, member, emptySet, both, without, membersFrom}
@@ -194,10 +194,6 @@ past-smallest n ws long r e h x l t =
     at (nothing q miss) = miss x (omega arith) (omega arith) t
 
 -- ---- the nodes below n
-
--- two tests agree where each passes when the other does
-pub ltb-same : (x y z w : ℕ) → (x < y → z < w) → (y ≤ x → w ≤ z) → ltb x y ≡ ltb z w
-ltb-same x y z w f g = ⊎-elim (λ l. lt-ltb x y l ∙ sym (lt-ltb z w (f l))) (λ l. le-ltb x y l ∙ sym (le-ltb z w (g l))) (lt-or x y)
 
 -- the k lowest bits alone
 bit-low : (k j : ℕ) → bit (2 ^ k - 1) j ≡ ltb j k

@@ -7,7 +7,7 @@ ghost use Rattle.survey.specs.Rows.{Rows};
 ghost use Rattle.model.specs.Basics.{none, has, firstOf};
 ghost use Rattle.model.specs.Survey.{neighboursOf, Accepted};
 ghost use Rattle.model.specs.Threshold.{threshold};
-ghost use Rattle.model.specs.Walk.{byLow, toHub, nodes};
+ghost use Rattle.model.specs.Walk.{byLow, toHub};
 ghost use Rattle.parts.specs.Parts.{leftIn, leadsOn, stepsIn, Inside, given, Leaves, PartIs};
 
 // Whether a walk may go on to x: it is d links from the goal and has fewer than `limit` neighbours.

@@ -1,4 +1,4 @@
--- How the matrix gives the two lists that reading states.
+-- How the matrix gives the two lists that reading states, and what a whole text gives.
 -- Assumes nothing.
 use mathlib.Core.Path.{_≡_, refl, sym, ap, ap₂, _∙_, subst}
 use mathlib.Core.List.{List, []}

@@ -1,4 +1,4 @@
--- The links read so far as a bit matrix, and what the next line makes of them.
+-- What the first line says, the links read so far as a bit matrix, and what the next line makes of them.
 -- Assumes nothing.
 use mathlib.Core.Bool.{Bool}
 use mathlib.Core.List.{List, [], _∷_}

@@ -73,8 +73,8 @@ module _ (ws : List ℕ) (v : ℕ) (x₀ : List ℕ) (at : ℕ) where
 
 -- ---- both lists, row by row
 
-gather-next : (G : Graph) (v : ℕ) → gather G (upTo (v + 1)) ≡ gather G (upTo v) ++ G v
-gather-next G v = ap (λ (k : ℕ). gather G (upTo k)) (add-one v) ∙ gather-suc G v
+gather-more : (G : Graph) (v : ℕ) → gather G (upTo (v + 1)) ≡ gather G (upTo v) ++ G v
+gather-more G v = ap (λ (k : ℕ). gather G (upTo k)) (add-one v) ∙ gather-suc G v
 
 gather-mono : (G : Graph) (v n : ℕ) → v ≤ n → length (gather G (upTo v)) ≤ length (gather G (upTo n))
 gather-mono G v n h =
@@ -128,7 +128,7 @@ module _ (G : Graph) (n : ℕ) (s₀ x₀ : List ℕ) (hs : n + 1 ≤ length s�
     module _ (h : v < n) where
       row-room : 0 + length (gather G (upTo v)) + length (G v) ≤ length x₀
       unfolding neighboursFrom
-      row-room = omega (arith, ap length (gather-next G v) ∙ length-append (gather G (upTo v)) (G v), gather-mono G (v + 1) n (omega arith))
+      row-room = omega (arith, ap length (gather-more G v) ∙ length-append (gather G (upTo v)) (G v), gather-mono G (v + 1) n (omega arith))
 
       pub row-fits : pos + length (G v) ≤ length x
       row-fits = wrote-room (G v) row-room (l .neighbours)
@@ -137,7 +137,7 @@ module _ (G : Graph) (n : ℕ) (s₀ x₀ : List ℕ) (hs : n + 1 ≤ length s�
       lists-more x′ pos′ w = record {
         within = omega arith;
         starts = start-more;
-        neighbours = subst (λ (t : List ℕ). Wrote x₀ x′ 0 pos′ t) (sym (gather-next G v)) (wrote-then row-room (l .neighbours) w);
+        neighbours = subst (λ (t : List ℕ). Wrote x₀ x′ 0 pos′ t) (sym (gather-more G v)) (wrote-then row-room (l .neighbours) w);
       }
 
     -- after the last node, with its start behind the others

@@ -1,4 +1,4 @@
--- The refusals of building.
+-- The tables that building leaves, and its refusals.
 -- Assumes nothing.
 use mathlib.Core.Path.{_≡_, refl, sym, ap, ap₂, _∙_}
 use mathlib.Core.Bool.{Bool, true, false, not, _&&_, _||_}

@@ -3,9 +3,6 @@
 use borrow.Author.Needs.{needs}
 use Rattle.cases.proofs.run.Statement.{statement}
 use Rattle.cases.proofs.run.Tie as tie
-use Rattle.cases.proofs.run.Reads as reads
-use Rattle.cases.proofs.run.Lts as lts
-use Rattle.cases.proofs.step.Reads as step-reads
 
 abbrev Inv-loop : tie.InvT-loop
 Inv-loop script starts₀ neighbours₀ buffer₀ at₀ turns₀ starts neighbours buffer at turns = Unit {0}

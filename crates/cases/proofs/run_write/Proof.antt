@@ -6,14 +6,6 @@ use lib.Seq.{length-take-le}
 use borrow.Author.Needs.{needs}
 use Rattle.cases.proofs.run_write.Statement.{statement}
 use Rattle.cases.proofs.run_write.Tie as tie
-use Rattle.cases.proofs.run_write.Reads as reads
-use Rattle.cases.proofs.run_write.Lts as lts
-use Rattle.script.proofs.at_most.Reads as at-most-reads
-use Rattle.script.proofs.print_line.Reads as print-line-reads
-use Rattle.script.proofs.read_command.Reads as read-command-reads
-use Rattle.script.proofs.sum8.Reads as sum8-reads
-use Rattle.refusals.proofs.refusal_number.Reads as refusal-number-reads
-use Rattle.writing.proofs.write_survey.Reads as write-survey-reads
 
 read-command-requires : tie.Need-read-command-requires
 read-command-requires c κs = search needs

@@ -1,4 +1,4 @@
--- `library::asking_code` meets its contract: by cases of the answer.
+-- `codes::asking_code` meets its contract: by cases of the answer.
 -- Assumes nothing.
 use mathlib.Core.Path.{sym, ap, _∙_}
 use Rattle.model.specs.Answers.{pairAnswer}

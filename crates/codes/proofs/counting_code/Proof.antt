@@ -1,4 +1,4 @@
--- `library::counting_code` meets its contract: by cases of the answer.
+-- `codes::counting_code` meets its contract: by cases of the answer.
 -- Assumes nothing.
 use mathlib.Core.Path.{sym, ap}
 use Rattle.model.specs.Answers.{countAnswer}

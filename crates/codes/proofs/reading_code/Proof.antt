@@ -1,4 +1,4 @@
--- `library::reading_code` meets its contract: by cases of the answer.
+-- `codes::reading_code` meets its contract: by cases of the answer.
 -- Assumes nothing.
 use mathlib.Core.Path.{sym, ap}
 use Rattle.model.specs.Answers.{readAnswer}

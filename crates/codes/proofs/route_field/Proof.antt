@@ -1,4 +1,4 @@
--- `library::route_field` meets its contract: by cases of the route.
+-- `codes::route_field` meets its contract: by cases of the route.
 -- Assumes nothing.
 use mathlib.Core.Path.{sym, ap}
 use Rattle.codes.specs.Code.{routeField}

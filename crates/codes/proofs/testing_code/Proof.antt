@@ -1,4 +1,4 @@
--- `library::testing_code` meets its contract: by cases of the answer.
+-- `codes::testing_code` meets its contract: by cases of the answer.
 -- Assumes nothing.
 use mathlib.Core.Path.{sym, ap, _∙_}
 use Rattle.model.specs.Answers.{testAnswer}

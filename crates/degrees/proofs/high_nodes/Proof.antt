@@ -1,4 +1,4 @@
--- `hubs::high_nodes` meets its contract: the high nodes below v are in the set.
+-- `degrees::high_nodes` meets its contract: the high nodes below v are in the set.
 -- Assumes nothing.
 use mathlib.Core.Path.{sym, ap, _∙_}
 use mathlib.Core.Logic.{⊎-elim}

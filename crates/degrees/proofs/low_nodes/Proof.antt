@@ -1,4 +1,4 @@
--- `hubs::low_nodes` meets its contract: all nodes, without the high ones.
+-- `degrees::low_nodes` meets its contract: all nodes, without the high ones.
 -- Assumes nothing.
 use mathlib.Core.Path.{refl, sym, ap, _∙_}
 use Prim.Native.Nat.{ℕ}

@@ -1,4 +1,4 @@
--- `verdict::row_depth` meets its contract: the greatest so far, and that of what is left, are the greatest of all.
+-- `depths::row_depth` meets its contract: the greatest so far, and that of what is left, are the greatest of all.
 -- Assumes nothing.
 use mathlib.Core.Path.{_≡_, sym, subst}
 use Prim.Native.Nat.{ℕ, _+_, _-_, _≤_, max}

@@ -1,4 +1,4 @@
--- `verdict::search_depth` meets its contract: the greatest so far, and that of the searches left, are the greatest of all.
+-- `depths::search_depth` meets its contract: the greatest so far, and that of the searches left, are the greatest of all.
 -- Assumes nothing.
 use mathlib.Core.Path.{_≡_, refl, sym, ap, _∙_, subst}
 use mathlib.Core.Bool.{Bool}

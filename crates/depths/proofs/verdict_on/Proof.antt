@@ -1,4 +1,4 @@
--- `verdict::verdict_on` meets its contract.
+-- `depths::verdict_on` meets its contract.
 -- Assumes nothing.
 use mathlib.Core.Path.{refl}
 use borrow.Author.Tests.{eq-eqb, ne-eqb, lt-ltb, le-ltb}

@@ -1,4 +1,4 @@
--- `tables::fill_full` meets its contract: after i hubs the table has their rows.
+-- `distance_tables::fill_full` meets its contract: after i hubs the table has their rows.
 -- Assumes nothing.
 use mathlib.Core.Path.{_≡_, refl, sym, ap, _∙_, subst}
 use mathlib.Core.Bool.{Bool}

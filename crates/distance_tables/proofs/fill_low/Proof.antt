@@ -1,4 +1,4 @@
--- `tables::fill_low` meets its contract: after a rows the others are as they were.
+-- `distance_tables::fill_low` meets its contract: after a rows the others are as they were.
 -- Assumes nothing.
 use mathlib.Core.Path.{_≡_, refl, sym, ap, ap₂, _∙_}
 use mathlib.Core.List.{List, map}

@@ -1,4 +1,4 @@
--- `tables::low_row` meets its contract: a low node's row is searched, another one filled.
+-- `distance_tables::low_row` meets its contract: a low node's row is searched, another one filled.
 -- Assumes nothing.
 use mathlib.Core.Path.{sym, ap, _∙_}
 use mathlib.Core.Bool.{Bool}

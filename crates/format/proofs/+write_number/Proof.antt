@@ -1,4 +1,4 @@
--- `text::write_number` meets its contract: the digits of x / 10 are written by the call of itself, and the last digit behind them. The measure is x.
+-- `format::write_number` meets its contract: the digits of x / 10 are written by the call of itself, and the last digit behind them. The measure is x.
 -- Assumes nothing.
 use mathlib.Core.Path.{_∙_}
 use native.Mathlib.Omega.{arith}

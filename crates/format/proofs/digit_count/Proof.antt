@@ -1,4 +1,4 @@
--- `text::digit_count` meets its contract: the digits counted and those of what is left are one more than those of x. Assumes nothing.
+-- `format::digit_count` meets its contract: the digits counted and those of what is left are one more than those of x. Assumes nothing.
 use mathlib.Core.Path.{_≡_, refl}
 use Prim.Native.Nat.{_+_, _/_}
 use native.Mathlib.Omega.{arith}

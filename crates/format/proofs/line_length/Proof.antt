@@ -1,4 +1,4 @@
--- `text::line_length` meets its contract: two numbers of at most ten digits and four bytes.
+-- `format::line_length` meets its contract: two numbers of at most ten digits and four bytes.
 -- Assumes nothing.
 use native.Mathlib.Omega.{arith}
 use Rattle.model.proofs.Lines.{length-line}

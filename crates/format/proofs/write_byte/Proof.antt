@@ -1,4 +1,4 @@
--- `text::write_byte` meets its contract. Assumes nothing.
+-- `format::write_byte` meets its contract. Assumes nothing.
 use Rattle.lists.proofs.Writing.{wrote-one}
 use borrow.Author.Needs.{needs}
 use Rattle.format.proofs.write_byte.Statement.{statement}

@@ -1,4 +1,4 @@
--- `text::write_field` meets its contract: a comma, and the number behind it.
+-- `format::write_field` meets its contract: a comma, and the number behind it.
 -- Assumes nothing.
 use native.Mathlib.Omega.{arith}
 use Rattle.lists.proofs.Writing.{wrote-then}

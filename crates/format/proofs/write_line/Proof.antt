@@ -1,4 +1,4 @@
--- `text::write_line` meets its contract: the letter, a field for each number and the line feed, one behind the other.
+-- `format::write_line` meets its contract: the letter, a field for each number and the line feed, one behind the other.
 -- Assumes nothing.
 use mathlib.Core.List.{[], _∷_, _++_}
 use Rattle.model.specs.Numbers.{digits}

@@ -1,4 +1,4 @@
--- `layers::link` meets its contract: a node that is not allowed adds no link.
+-- `link_matrix::link` meets its contract: a node that is not allowed adds no link.
 -- Assumes nothing.
 use mathlib.Core.Path.{sym, _∙_}
 use borrow.Author.Tests.{not-true, not-false}

@@ -1,4 +1,4 @@
--- `layers::link_list` meets its contract: the links that are in the matrix and those to the rest of the list are all of them.
+-- `link_matrix::link_list` meets its contract: the links that are in the matrix and those to the rest of the list are all of them.
 -- Assumes nothing.
 use mathlib.Core.Path.{sym, _∙_}
 use Prim.Native.Nat.{_-_}

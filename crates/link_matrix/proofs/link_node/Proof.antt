@@ -1,4 +1,4 @@
--- `layers::link_node` meets its contract: a node that is not allowed has no link, another one those to its allowed neighbours.
+-- `link_matrix::link_node` meets its contract: a node that is not allowed has no link, another one those to its allowed neighbours.
 -- Assumes nothing.
 use mathlib.Core.Path.{sym, _∙_, subst}
 use mathlib.Core.List.{List}

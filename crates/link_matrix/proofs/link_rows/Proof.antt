@@ -1,4 +1,4 @@
--- `layers::link_rows` meets its contract: the matrix has the links of the nodes below v.
+-- `link_matrix::link_rows` meets its contract: the matrix has the links of the nodes below v.
 -- Assumes nothing.
 use mathlib.Core.Path.{_≡_, sym, ap, _∙_}
 use mathlib.Core.Bool.{_&&_}

@@ -4,8 +4,6 @@ use Rattle.nodeset.proofs.Bits.{set-without}
 use borrow.Author.Needs.{needs}
 use Rattle.nodeset.proofs.take_out.Statement.{statement}
 use Rattle.nodeset.proofs.take_out.Tie as tie
-use Rattle.nodeset.proofs.take_out.Reads as reads
-use Rattle.nodeset.proofs.take_out.Lts as lts
 
 mul-words : tie.Need-mul-words
 mul-words c = search needs

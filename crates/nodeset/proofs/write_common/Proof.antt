@@ -8,8 +8,6 @@ use Rattle.nodeset.proofs.Words.{Shared, shared-none, shared-more, shar
 use borrow.Author.Needs.{needs}
 use Rattle.nodeset.proofs.write_common.Statement.{statement}
 use Rattle.nodeset.proofs.write_common.Tie as tie
-use Rattle.nodeset.proofs.write_common.Reads as reads
-use Rattle.nodeset.proofs.write_common.Lts as lts
 
 abbrev Inv-loop : tie.InvT-loop
 Inv-loop a b into₀ i₀ into i = Shared a b into i

@@ -1,4 +1,4 @@
--- `listing::write_answer` meets its contract: the answer's line, or none where the tables attain no route.
+-- `pair_lines::write_answer` meets its contract: the answer's line, or none where the tables attain no route.
 -- Assumes nothing.
 use mathlib.Core.Path.{sym, ap, _∙_, subst}
 use Prim.Native.Nat.{_+_, _≤_}

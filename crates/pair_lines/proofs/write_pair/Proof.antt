@@ -1,4 +1,4 @@
--- `listing::write_pair` meets its contract: the letter, four fields and the line feed, one behind the other.
+-- `pair_lines::write_pair` meets its contract: the letter, four fields and the line feed, one behind the other.
 -- Assumes nothing.
 use mathlib.Core.List.{[], _∷_, _++_}
 use Rattle.model.specs.Numbers.{digits}

@@ -1,4 +1,4 @@
--- `listing::write_pairs` meets its contract: what is written, and the rows that are left, are the lines of all pairs.
+-- `pair_lines::write_pairs` meets its contract: what is written, and the rows that are left, are the lines of all pairs.
 -- Assumes nothing.
 use mathlib.Core.Path.{sym, subst}
 use mathlib.Core.List.{List}

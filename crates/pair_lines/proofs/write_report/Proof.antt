@@ -1,4 +1,4 @@
--- `listing::write_report` meets its contract: a comma and a dash, or a field.
+-- `pair_lines::write_report` meets its contract: a comma and a dash, or a field.
 -- Assumes nothing.
 use mathlib.Core.Path.{sym, subst}
 use mathlib.Core.List.{List, _∷_}

@@ -1,4 +1,4 @@
--- `listing::write_route` meets its contract: a comma and the text of each case.
+-- `pair_lines::write_route` meets its contract: a comma and the text of each case.
 -- Assumes nothing.
 use mathlib.Core.Path.{sym, subst}
 use mathlib.Core.List.{[], _∷_}

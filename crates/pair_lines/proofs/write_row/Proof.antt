@@ -1,4 +1,4 @@
--- `listing::write_row` meets its contract: what is written, and the pairs that are left, are the row.
+-- `pair_lines::write_row` meets its contract: what is written, and the pairs that are left, are the row.
 -- Assumes nothing.
 use mathlib.Core.Path.{subst}
 use mathlib.Core.List.{List}

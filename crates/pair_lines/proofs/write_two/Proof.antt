@@ -1,4 +1,4 @@
--- `listing::write_two` meets its contract: two bytes, one behind the other.
+-- `pair_lines::write_two` meets its contract: two bytes, one behind the other.
 -- Assumes nothing.
 use native.Mathlib.Omega.{arith}
 use Rattle.lists.proofs.Writing.{wrote-then}

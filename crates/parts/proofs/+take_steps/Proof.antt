@@ -1,4 +1,4 @@
--- `walks::take_steps` meets its contract: its calls of itself end, since the number of steps left falls by one.
+-- `parts::take_steps` meets its contract: its calls of itself end, since the number of steps left falls by one.
 -- Assumes nothing.
 use mathlib.Core.Path.{_∙_}
 use native.Mathlib.Omega.{arith}

@@ -1,4 +1,4 @@
--- `walks::hub_part` meets its contract.
+-- `parts::hub_part` meets its contract.
 -- Assumes nothing.
 use native.Mathlib.Omega.{arith}
 use Rattle.model.proofs.Entries.{place-inside, square-small}

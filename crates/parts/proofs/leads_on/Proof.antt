@@ -1,4 +1,4 @@
--- `walks::leads_on` meets its contract.
+-- `parts::leads_on` meets its contract.
 -- Assumes nothing.
 use native.Mathlib.Omega.{arith}
 use Prim.Native.Nat.{_*_}

@@ -1,4 +1,4 @@
--- `walks::low_part` meets its contract.
+-- `parts::low_part` meets its contract.
 -- Assumes nothing.
 use native.Mathlib.Omega.{arith}
 use Rattle.model.proofs.Entries.{place-inside}

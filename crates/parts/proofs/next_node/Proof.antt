@@ -1,4 +1,4 @@
--- `walks::next_node` meets its contract: the nodes that are left still say which is the first.
+-- `parts::next_node` meets its contract: the nodes that are left still say which is the first.
 -- Assumes nothing.
 use mathlib.Core.Path.{refl, sym, _∙_}
 use native.Mathlib.Omega.{arith}

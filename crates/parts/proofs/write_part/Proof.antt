@@ -1,4 +1,4 @@
--- `walks::write_part` meets its contract.
+-- `parts::write_part` meets its contract.
 -- Assumes nothing.
 use mathlib.Core.Path.{sym, _∙_}
 use native.Mathlib.Omega.{arith}

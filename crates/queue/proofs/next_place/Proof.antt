@@ -1,4 +1,4 @@
--- `search::next_place` meets its contract: the smallest unvisited node tells whether there is one.
+-- `queue::next_place` meets its contract: the smallest unvisited node tells whether there is one.
 -- Assumes nothing.
 use mathlib.Core.Path.{refl}
 use mathlib.Core.Logic.{inl, inr}

@@ -1,4 +1,4 @@
--- `search::unvisited_nodes` meets its contract: what is taken out of all nodes are those not allowed, and the source.
+-- `queue::unvisited_nodes` meets its contract: what is taken out of all nodes are those not allowed, and the source.
 -- Assumes nothing.
 use mathlib.Core.Path.{ap}
 use native.Mathlib.Omega.{arith}

@@ -1,4 +1,4 @@
--- `search::visit` meets its contract: each way out is a case of `visited`. The queue has room, since a node without a distance is left.
+-- `queue::visit` meets its contract: each way out is a case of `visited`. The queue has room, since a node without a distance is left.
 -- Assumes nothing.
 use mathlib.Core.Path.{sym, _∙_}
 use native.Mathlib.Omega.{arith}

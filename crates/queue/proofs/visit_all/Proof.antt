@@ -1,4 +1,4 @@
--- `search::visit_all` meets its contract: after i nodes, visiting the others gives what visiting all gives from the start.
+-- `queue::visit_all` meets its contract: after i nodes, visiting the others gives what visiting all gives from the start.
 -- Assumes nothing.
 use mathlib.Core.Path.{_≡_, sym, _∙_}
 use Prim.Native.Nat.{_-_}

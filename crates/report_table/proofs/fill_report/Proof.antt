@@ -1,4 +1,4 @@
--- `tables::fill_report` meets its contract: after a rows the others are as they were.
+-- `report_table::fill_report` meets its contract: after a rows the others are as they were.
 -- Assumes nothing.
 use mathlib.Core.Path.{_≡_, ap, _∙_}
 use mathlib.Core.List.{List, map}

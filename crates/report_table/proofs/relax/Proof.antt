@@ -1,4 +1,4 @@
--- `tables::relax` meets its contract: after b entries the front is improved.
+-- `report_table::relax` meets its contract: after b entries the front is improved.
 -- Assumes nothing.
 use mathlib.Core.Path.{_≡_, subst}
 use Prim.Native.Nat.{ℕ, _+_, _-_, min}

@@ -1,4 +1,4 @@
--- `tables::report_row` meets its contract: after k hubs each entry is the least over Low and those hubs.
+-- `report_table::report_row` meets its contract: after k hubs each entry is the least over Low and those hubs.
 -- Assumes nothing.
 use mathlib.Core.Path.{_≡_, sym, ap, ap₂, _∙_}
 use mathlib.Core.List.{List, map}

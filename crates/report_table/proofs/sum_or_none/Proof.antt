@@ -1,4 +1,4 @@
--- `tables::sum_or_none` meets its contract: a sum without a seventeenth bit fits in 16.
+-- `report_table::sum_or_none` meets its contract: a sum without a seventeenth bit fits in 16.
 -- Assumes nothing.
 use borrow.Author.Needs.{needs}
 use Rattle.report_table.proofs.sum_or_none.Statement.{statement}

@@ -1,4 +1,4 @@
--- `walks::write_low` meets its contract.
+-- `routes::write_low` meets its contract.
 -- Assumes nothing.
 use mathlib.Core.Path.{sym}
 use native.Mathlib.Omega.{arith}

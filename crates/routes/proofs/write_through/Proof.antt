@@ -1,4 +1,4 @@
--- `walks::write_through` meets its contract.
+-- `routes::write_through` meets its contract.
 -- Assumes nothing.
 use mathlib.Core.Path.{sym}
 use native.Mathlib.Omega.{arith}

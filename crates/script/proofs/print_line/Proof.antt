@@ -5,10 +5,6 @@ use Prim.Native.Nat.{_-_, _≤_}
 use lib.ListN.{length}
 use Rattle.script.proofs.print_line.Statement.{statement}
 use Rattle.script.proofs.print_line.Tie as tie
-use Rattle.script.proofs.print_line.Reads as reads
-use Rattle.script.proofs.print_line.Lts as lts
-use Rattle.io.proofs.print_decimal.Reads as print-decimal-reads
-use Rattle.io.proofs.write_all.Reads as write-all-reads
 
 abbrev Inv-loop : tie.InvT-loop
 Inv-loop letter numbers i₀ t4 t5 i = i ≤ length numbers

@@ -6,9 +6,6 @@ use Rattle.script.proofs.Lines.{line-found, line-missing, line-past}
 use borrow.Author.Needs.{needs}
 use Rattle.script.proofs.read_command.Statement.{statement}
 use Rattle.script.proofs.read_command.Tie as tie
-use Rattle.script.proofs.read_command.Reads as reads
-use Rattle.script.proofs.read_command.Lts as lts
-use Rattle.text.proofs.line_at.Reads as line-at-reads
 
 shared-slice-read-letter : tie.Need-shared-slice-read-letter
 shared-slice-read-letter c = search needs

@@ -6,12 +6,6 @@ use native.Mathlib.Omega.{arith}
 use borrow.Author.Needs.{needs}
 use Rattle.script.proofs.run_read.Statement.{statement}
 use Rattle.script.proofs.run_read.Tie as tie
-use Rattle.script.proofs.run_read.Reads as reads
-use Rattle.script.proofs.run_read.Lts as lts
-use Rattle.reading.proofs.read_survey.Reads as read-survey-reads
-use Rattle.script.proofs.at_most.Reads as at-most-reads
-use Rattle.script.proofs.print_read.Reads as print-read-reads
-use Rattle.script.proofs.read_command.Reads as read-command-reads
 
 at-most-requires : tie.Need-at-most-requires
 at-most-requires c κs = search needs

@@ -5,8 +5,6 @@ use Rattle.script.proofs.Summing.{replaced-there, replaced-past}
 use borrow.Author.Needs.{needs}
 use Rattle.script.proofs.set32.Statement.{statement}
 use Rattle.script.proofs.set32.Tie as tie
-use Rattle.script.proofs.set32.Reads as reads
-use Rattle.script.proofs.set32.Lts as lts
 
 cast-list : tie.Need-cast-list
 cast-list c = search needs

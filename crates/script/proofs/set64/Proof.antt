@@ -5,8 +5,6 @@ use Rattle.script.proofs.Summing.{replaced-there, replaced-past}
 use borrow.Author.Needs.{needs}
 use Rattle.script.proofs.set64.Statement.{statement}
 use Rattle.script.proofs.set64.Tie as tie
-use Rattle.script.proofs.set64.Reads as reads
-use Rattle.script.proofs.set64.Lts as lts
 
 mul-list : tie.Need-mul-list
 mul-list c = search needs

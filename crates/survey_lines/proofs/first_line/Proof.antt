@@ -1,4 +1,4 @@
--- `reading::first_line` meets its contract: at each `return` the tests that led there say which case holds.
+-- `survey_lines::first_line` meets its contract: at each `return` the tests that led there say which case holds.
 -- Assumes nothing.
 use mathlib.Core.Path.{sym, ap, _∙_}
 use Rattle.text.specs.Scan.{found}

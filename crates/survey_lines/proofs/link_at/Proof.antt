@@ -1,4 +1,4 @@
--- `reading::link_at` meets its contract: at each `return` the tests that led there say which case holds.
+-- `survey_lines::link_at` meets its contract: at each `return` the tests that led there say which case holds.
 -- Assumes nothing.
 use mathlib.Core.Path.{sym, ap, _∙_}
 use native.Mathlib.Omega.{arith}

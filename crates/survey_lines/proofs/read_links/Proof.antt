@@ -1,4 +1,4 @@
--- `reading::read_links` meets its contract: the lines still to come, after the links taken, say what all of them say.
+-- `survey_lines::read_links` meets its contract: the lines still to come, after the links taken, say what all of them say.
 -- Assumes nothing.
 use borrow.Author.Needs.{needs}
 use mathlib.Core.Path.{sym, ap, _∙_}

@@ -1,4 +1,4 @@
--- `reading::write_lists` meets its contract: after v nodes the lists have the starts and the rows of the nodes below v.
+-- `survey_lists::write_lists` meets its contract: after v nodes the lists have the starts and the rows of the nodes below v.
 -- Assumes nothing.
 use mathlib.Core.Path.{_∙_}
 use lib.ListN.{length-set}

@@ -1,4 +1,4 @@
--- `reading::write_row` meets its contract: after w words the row's part below 64 * w is written.
+-- `survey_lists::write_row` meets its contract: after w words the row's part below 64 * w is written.
 -- Assumes nothing.
 use Prim.Native.Nat.{_-_, _≤_}
 use native.Mathlib.Omega.{arith}

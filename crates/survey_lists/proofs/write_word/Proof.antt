@@ -1,4 +1,4 @@
--- `reading::write_word` meets its contract: what is written and the bits that are left are the bits of the word.
+-- `survey_lists::write_word` meets its contract: what is written and the bits that are left are the bits of the word.
 -- Assumes nothing.
 use native.Mathlib.Omega.{arith}
 use lib.Count.{trailingZeros}

@@ -1,4 +1,4 @@
--- `text::parse_number` meets its contract: each test is one of the text rule's (`proofs/Reading.antt`). Assumes nothing.
+-- `text::parse_number` meets its contract: each test is one of the text rule's (`proofs/Scanning.antt`). Assumes nothing.
 use mathlib.Core.Logic.{⊎-elim}
 use native.Mathlib.Omega.{arith}
 use Rattle.text.proofs.Scanning.{read-digits, read-within, read-empty, read-long, read-zero, read-found}
