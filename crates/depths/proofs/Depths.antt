@@ -20,7 +20,8 @@ use Rattle.model.proofs.TableLaws.{all-allowed}
 use Rattle.model.proofs.Lists.{any-append, first-most}
 use Rattle.model.proofs.Loops.{drop-next}
 use Rattle.model.proofs.Tests.{eq-or, lt-or}
-use Rattle.depths.specs.Depth.{greatest, distances, ofDepth}
+use Rattle.model.specs.Tables.{rowsOf}
+use Rattle.depths.specs.Depth.{greatest, ofDepth}
 
 -- ---- the greatest number
 
@@ -61,18 +62,18 @@ any-same p q (x ∷ l) e = ap₂ (λ (a b : Bool). a || b) (e x) (any-same p q l
 -- ---- the distances of all searches
 
 module _ (n : ℕ) (f : ℕ → ℕ → ℕ) where
-  any-distance : (p : ℕ → Bool) (hs : List ℕ) → any (λ h. any (λ v. p (f h v)) (upTo n)) hs ≡ any p (distances n f hs)
-  unfolding distances any gather
+  any-distance : (p : ℕ → Bool) (hs : List ℕ) → any (λ h. any (λ v. p (f h v)) (upTo n)) hs ≡ any p (rowsOf n f hs)
+  unfolding rowsOf any gather
   any-distance p [] = refl
   any-distance p (h ∷ hs) =
       ap₂ (λ (a b : Bool). a || b) (sym (any-map p (f h) (upTo n))) (any-distance p hs)
-      ∙ sym (any-append p (map (f h) (upTo n)) (distances n f hs))
+      ∙ sym (any-append p (map (f h) (upTo n)) (rowsOf n f hs))
 
   module _ (bounded : (h v : ℕ) → f h v ≤ none) where
-    greatest-bounded : (hs : List ℕ) → greatest (distances n f hs) ≤ none
-    unfolding distances gather greatest
+    greatest-bounded : (hs : List ℕ) → greatest (rowsOf n f hs) ≤ none
+    unfolding rowsOf gather greatest
     greatest-bounded [] = omega arith
-    greatest-bounded (h ∷ hs) = omega (arith, greatest-append (map (f h) (upTo n)) (distances n f hs), row (upTo n), greatest-bounded hs)
+    greatest-bounded (h ∷ hs) = omega (arith, greatest-append (map (f h) (upTo n)) (rowsOf n f hs), row (upTo n), greatest-bounded hs)
       where
         row : (l : List ℕ) → greatest (map (f h) l) ≤ none
         row [] = omega arith
@@ -80,18 +81,18 @@ module _ (n : ℕ) (f : ℕ → ℕ → ℕ) where
 
     -- what the tests of all distances say, the greatest says
     pub depth-verdict : (hs : List ℕ)
-        → ofDepth (greatest (distances n f hs))
+        → ofDepth (greatest (rowsOf n f hs))
         ≡ (if any (λ h. any (λ v. eqb (f h v) none) (upTo n)) hs then Parted else if any (λ h. any (λ v. ltb 2 (f h v)) (upTo n)) hs then Long else Short)
     unfolding ofDepth
     depth-verdict hs =
-        let d = greatest (distances n f hs) in
+        let d = greatest (rowsOf n f hs) in
         let none-is : eqb d none ≡ any (λ h. any (λ v. eqb (f h v) none) (upTo n)) hs =
         is-none d (greatest-bounded hs)
-        ∙ sym (greatest-any 65534 (distances n f hs))
+        ∙ sym (greatest-any 65534 (rowsOf n f hs))
         ∙ sym (any-distance (λ x. ltb 65534 x) hs)
         ∙ any-same _ _ hs (λ h. any-same _ _ (upTo n) (λ v. sym (is-none (f h v) (bounded h v)))) in
         let deep-is : ltb 2 d ≡ any (λ h. any (λ v. ltb 2 (f h v)) (upTo n)) hs =
-        sym (greatest-any 2 (distances n f hs)) ∙ sym (any-distance (λ x. ltb 2 x) hs) in
+        sym (greatest-any 2 (rowsOf n f hs)) ∙ sym (any-distance (λ x. ltb 2 x) hs) in
         ap₂ (λ (a b : Bool). if a then Parted else if b then Long else Short) none-is deep-is
 
 -- a distance is not above none
@@ -99,7 +100,7 @@ fewest-small : (E : Edges) (n a b : ℕ) → n ≤ none → fewest E n a b ≤ n
 unfolding fewest
 fewest-small E n a b h = first-most _ none n h
 
-pub verdict-is : (n : ℕ) (G : Graph) → n ≤ 1024 → (hs : List ℕ) → ofDepth (greatest (distances n (fewest (linked n G) n) hs)) ≡ verdictOf n G hs
+pub verdict-is : (n : ℕ) (G : Graph) → n ≤ 1024 → (hs : List ℕ) → ofDepth (greatest (rowsOf n (fewest (linked n G) n) hs)) ≡ verdictOf n G hs
 unfolding verdictOf
 verdict-is n G size hs = depth-verdict n (fewest (linked n G) n) (λ h v. fewest-small (linked n G) n h v (omega arith)) hs
 
@@ -115,22 +116,22 @@ unfolding greatest
 row-end row i most h e = omega (arith, e, ap greatest (drop-of-length-le row h))
 
 module _ (n : ℕ) (f : ℕ → ℕ → ℕ) (hs : List ℕ) where
-  pub search-turn : (i most : ℕ) → i < length hs → max most (greatest (distances n f (drop i hs))) ≡ greatest (distances n f hs)
-      → max (max most (greatest (map (f (getD hs i 0)) (upTo n)))) (greatest (distances n f (drop (i + 1) hs))) ≡ greatest (distances n f hs)
-  unfolding distances gather
+  pub search-turn : (i most : ℕ) → i < length hs → max most (greatest (rowsOf n f (drop i hs))) ≡ greatest (rowsOf n f hs)
+      → max (max most (greatest (map (f (getD hs i 0)) (upTo n)))) (greatest (rowsOf n f (drop (i + 1) hs))) ≡ greatest (rowsOf n f hs)
+  unfolding rowsOf gather
   search-turn i most h e =
       let row : List ℕ = map (f (getD hs i 0)) (upTo n) in
-      let next : distances n f (drop i hs) ≡ row ++ distances n f (drop (i + 1) hs) = ap (distances n f) (drop-next hs i h) in
-      omega (arith, e, ap greatest next ∙ greatest-append row (distances n f (drop (i + 1) hs)))
+      let next : rowsOf n f (drop i hs) ≡ row ++ rowsOf n f (drop (i + 1) hs) = ap (rowsOf n f) (drop-next hs i h) in
+      omega (arith, e, ap greatest next ∙ greatest-append row (rowsOf n f (drop (i + 1) hs)))
 
-  pub search-end : (i most : ℕ) → length hs ≤ i → max most (greatest (distances n f (drop i hs))) ≡ greatest (distances n f hs) → most ≡ greatest (distances n f hs)
-  unfolding distances gather greatest
-  search-end i most h e = omega (arith, e, ap (λ (l : List ℕ). greatest (distances n f l)) (drop-of-length-le hs h))
+  pub search-end : (i most : ℕ) → length hs ≤ i → max most (greatest (rowsOf n f (drop i hs))) ≡ greatest (rowsOf n f hs) → most ≡ greatest (rowsOf n f hs)
+  unfolding rowsOf gather greatest
+  search-end i most h e = omega (arith, e, ap (λ (l : List ℕ). greatest (rowsOf n f l)) (drop-of-length-le hs h))
 
 -- a node is missed: no other search says more
 pub search-none : (n : ℕ) (G : Graph) (hs : List ℕ) (i most : ℕ) → n ≤ 1024 → most ≡ none
-    → max most (greatest (distances n (fewest (linked n G) n) (drop i hs))) ≡ greatest (distances n (fewest (linked n G) n) hs)
-    → none ≡ greatest (distances n (fewest (linked n G) n) hs)
+    → max most (greatest (rowsOf n (fewest (linked n G) n) (drop i hs))) ≡ greatest (rowsOf n (fewest (linked n G) n) hs)
+    → none ≡ greatest (rowsOf n (fewest (linked n G) n) hs)
 search-none n G hs i most size e h =
     omega (arith, h, greatest-bounded n (fewest (linked n G) n) (λ a b. fewest-small (linked n G) n a b (omega arith)) (drop i hs))
 

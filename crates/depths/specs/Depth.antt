@@ -1,19 +1,15 @@
 -- How deep searches go, and what that says.
 -- Assumes nothing.
-use mathlib.Core.List.{List, map, foldr}
+use mathlib.Core.List.{List, foldr}
 use Prim.Native.Nat.{ℕ, max}
 use lib.Dec.{eqb, ltb}
 use Rattle.model.specs.declared.Verdict.{Verdict}
 use Rattle.model.specs.declared.Verdict.the-variants.{Parted, Long, Short}
-use Rattle.model.specs.Basics.{none, if_then_else_, upTo, gather}
+use Rattle.model.specs.Basics.{none, if_then_else_}
 
 -- the greatest number of a list
 unfoldable pub greatest : List ℕ → ℕ
 greatest l = foldr max 0 l
-
--- the distances f h from each of a list of nodes to all n nodes, one row after the other
-unfoldable pub distances : ℕ → (ℕ → ℕ → ℕ) → List ℕ → List ℕ
-distances n f hs = gather (λ h. map (f h) (upTo n)) hs
 
 -- the verdict on the greatest distance: none is above all others
 unfoldable pub ofDepth : ℕ → Verdict

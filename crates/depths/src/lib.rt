@@ -7,7 +7,8 @@ ghost use lib.Dec.{T};
 ghost use Rattle.model.specs.Basics.{has};
 ghost use Rattle.model.specs.Graph.{fewest, linked};
 ghost use Rattle.model.specs.Survey.{neighboursOf, Accepted};
-ghost use Rattle.depths.specs.Depth.{greatest, distances, ofDepth};
+ghost use Rattle.model.specs.Tables.{rowsOf};
+ghost use Rattle.depths.specs.Depth.{greatest, ofDepth};
 
 // The greater of two numbers.
 fn greater(a: u16, b: u16) -> u16
@@ -36,7 +37,7 @@ fn row_depth(row: &[u16]) -> u16
 pub fn search_depth(n: usize, starts: &[u32], neighbours: &[u16], sources: &[u16]) -> u16
     requires { ⌜ Accepted n (now starts) (now neighbours) ⌝ }
     requires { ⌜ ((h : ℕ) → T (has h (now sources)) → h < n) ⌝ }
-    ensures { λ r. ⌜ r ≡ greatest (distances n (fewest (linked n (neighboursOf (now (starts .entry)) (now (neighbours .entry)))) n) (now (sources .entry))) ⌝ }
+    ensures { λ r. ⌜ r ≡ greatest (rowsOf n (fewest (linked n (neighboursOf (now (starts .entry)) (now (neighbours .entry)))) n) (now (sources .entry))) ⌝ }
 {
     let mut all = [0u64; 16];
     nodeset::insert_below(&mut all, n);

@@ -12,7 +12,7 @@ use lib.ListN.{length, getD, take, drop, take-append-drop, length-append, length
 use lib.Seq.{take-at, drop-at, ext-getD, getD-take, length-take-le}
 use Rattle.lists.specs.Writing.{written}
 use Rattle.model.specs.Basics.{if_then_else_, from, upTo, gather, over}
-use Rattle.model.specs.Tables.{table, entry}
+use Rattle.model.specs.Tables.{rowsOf, table, entry}
 use Rattle.model.proofs.Entries.{rows, length-rows, length-row, getD-row, length-table, entry-table}
 use Rattle.model.proofs.Lists.{gather-append, gather-same, from-split, of-upTo, of-from}
 use Rattle.model.proofs.Tests.{ltb-next}
@@ -60,13 +60,13 @@ over-length n f t h =
 
 -- tables that agree
 pub table-same : (n : ℕ) (f g : ℕ → ℕ → ℕ) → ((a b : ℕ) → a < n → b < n → f a b ≡ g a b) → table n f ≡ table n g
-unfolding table
+unfolding table rowsOf
 table-same n f g e = gather-same (λ a. map (f a) (upTo n)) (λ a. map (g a) (upTo n)) (upTo n) (λ a h. row-same n (f a) (g a) (λ b k. e a b (of-upTo n a h) k))
 
 module _ (n a : ℕ) (h : a < n) where
   -- the rows before a, row a, and the rows after it
   split-rows : (f : ℕ → ℕ → ℕ) → table n f ≡ rows n f 0 a ++ (map (f a) (upTo n) ++ rows n f (suc a) (n - suc a))
-  unfolding table rows gather upTo
+  unfolding table rows gather upTo rowsOf
   split-rows f =
       let s : upTo n ≡ upTo a ++ a ∷ from (suc a) (n - suc a) = from-split a (n - suc a) n (omega arith) in
       ap (gather (λ u. map (f u) (upTo n))) s
@@ -75,7 +75,7 @@ module _ (n a : ℕ) (h : a < n) where
   -- row a written over
   pub put-row : (f g : ℕ → ℕ → ℕ) (t : List ℕ) → ((u b : ℕ) → u < n → b < n → (u ≡ a → ⊥) → f u b ≡ g u b)
       → written (over (table n f) t) (a * n) (map (g a) (upTo n)) ≡ over (table n g) t
-  unfolding written over rows
+  unfolding written over rows rowsOf
   put-row f g t e =
       let A : List ℕ = rows n f 0 a in
       let R : List ℕ = map (f a) (upTo n) in

@@ -11,7 +11,7 @@ use borrow.Author.Tests.{le-ltb, ltb-false}
 use lib.Dec.{ltb}
 use lib.Seq.{getD-append-add, getD-take, take-all}
 use Rattle.model.specs.Basics.{from, upTo, gather}
-use Rattle.model.specs.Tables.{table, entry, shortTables}
+use Rattle.model.specs.Tables.{rowsOf, table, entry, shortTables}
 use Rattle.model.proofs.Tests.{of-or-false}
 use Rattle.model.proofs.Lists.{length-upTo}
 
@@ -48,15 +48,15 @@ length-row g n = length-map (upTo n) g ∙ length-upTo n
 module _ (n : ℕ) (f : ℕ → ℕ → ℕ) where
   -- the m rows from row k on
   unfoldable pub rows : ℕ → ℕ → List ℕ
-  rows k m = gather (λ a. map (f a) (upTo n)) (from k m)
+  rows k m = rowsOf n f (from k m)
 
   pub length-rows : (k m : ℕ) → length (rows k m) ≡ m * n
-  unfolding rows from gather
+  unfolding rows from gather rowsOf
   length-rows k zero = sym (zero-mul n)
   length-rows k (suc m) = length-append (map (f k) (upTo n)) (rows (suc k) m) ∙ omega (arith, length-row (f k) n, length-rows (suc k) m, suc-mul m n)
 
   getD-rows : (k m i j : ℕ) → i < m → j < n → getD (rows k m) (i * n + j) 0 ≡ f (k + i) j
-  unfolding rows from gather
+  unfolding rows from gather rowsOf
   getD-rows k zero i j hi hj = absurd (not-suc-le-zero hi)
   getD-rows k (suc m) zero j hi hj =
       let row = map (f k) (upTo n) in
@@ -75,11 +75,11 @@ module _ (n : ℕ) (f : ℕ → ℕ → ℕ) where
       ∙ ap (λ (x : ℕ). f x j) (suc-add k i ∙ sym (add-suc k i))
 
   pub length-table : length (table n f) ≡ n * n
-  unfolding table upTo rows
+  unfolding table upTo rows rowsOf
   length-table = length-rows 0 n
 
   pub entry-table : (a b : ℕ) → a < n → b < n → entry n (table n f) a b ≡ f a b
-  unfolding table upTo rows entry
+  unfolding table upTo rows entry rowsOf
   entry-table a b ha hb = getD-rows 0 n a b ha hb ∙ ap (λ (x : ℕ). f x b) (zero-add a)
 
 -- an entry's place in its table; and a table has at most 1,048,576 entries

@@ -18,7 +18,7 @@ use Rattle.model.specs.Survey.{Graph, neighboursOf, ascending, badSize, 
 use Rattle.model.specs.Threshold.{bitLength, threshold}
 use Rattle.model.specs.Hubs.{isHigh, isLow, closed, gain, best, greedy, hubs}
 use Rattle.model.specs.Graph.{reach, fewest, linked}
-use Rattle.model.specs.Tables.{table, entry, fullTable, lowLinks, lowTable, sum, via, reportTable, hubList}
+use Rattle.model.specs.Tables.{rowsOf, table, entry, fullTable, lowLinks, lowTable, sum, via, reportTable, hubList}
 use Rattle.model.specs.Pair.{taken, attaining, choose, pairBy, pair}
 use Rattle.model.specs.Walk.{before, next, steps, byLow, toHub, join, nodes}
 use Rattle.model.specs.TwoOrFour.{sources, verdictOf, tested}
@@ -132,7 +132,7 @@ pub starred-cases : T (allHold starred)
 unfolding starred allHold holds graph longAtAll shortAfter isLong isShort reported tables lists triangle chain single course
     from upTo has any all keep firstOf gather same over isDigit isNumber valueFrom valueOf digitsWithin digits
     onFirst split onFront cut twoNumbers withRest lineIn line lineOf linkLines surveyText neighboursOf linked ascending badSize isSurvey accepting
-    bitLength threshold isHigh isLow closed gain best greedy hubs hubList reach fewest table entry fullTable lowLinks lowTable sum via reportTable
+    bitLength threshold isHigh isLow closed gain best greedy hubs hubList reach fewest rowsOf table entry fullTable lowLinks lowTable sum via reportTable
     taken attaining choose pairBy pair before next steps byLow toHub join nodes sources verdictOf tested
     named onLinks linkOf readOn readLinks parsed countsOf parseLinks parse graphOf startsOf neighboursFrom readingOf reading
     built building asking refuseWalk fit walkOf walking testing

@@ -11,9 +11,13 @@ use Rattle.model.specs.Graph.{Edges, between, fewest, linked}
 use Rattle.model.specs.Survey.{Graph}
 use Rattle.model.specs.Hubs.{isLow, hubs}
 
+-- the rows f a of some nodes a, of n entries each, one after the other
+unfoldable pub rowsOf : ℕ → (ℕ → ℕ → ℕ) → List ℕ → List ℕ
+rowsOf n f list = gather (λ a. map (f a) (upTo n)) list
+
 -- "Tables of n × n 16-bit entries, row by row": f a b for all nodes a and b; and the entry (a, b) of a table
 unfoldable pub table : ℕ → (ℕ → ℕ → ℕ) → List ℕ
-table n f = gather (λ a. map (f a) (upTo n)) (upTo n)
+table n f = rowsOf n f (upTo n)
 
 unfoldable pub entry : ℕ → List ℕ → ℕ → ℕ → ℕ
 entry n t a b = getD t (a * n + b) 0

@@ -25,7 +25,8 @@ use Rattle.model.specs.TwoOrFour.{sources, verdictOf, tested}
 use Rattle.model.proofs.Demand.{testing-right}
 use Rattle.model.proofs.Lists.{First, found, nothing, first-below, first-of, first-is}
 use Rattle.degrees.proofs.Degrees.{low-are}
-use Rattle.depths.specs.Depth.{greatest, distances, ofDepth}
+use Rattle.model.specs.Tables.{rowsOf}
+use Rattle.depths.specs.Depth.{greatest, ofDepth}
 use Rattle.depths.proofs.Depths.{verdict-is}
 
 -- ---- the nodes to search from
@@ -76,12 +77,12 @@ module _ (n s : ℕ) (G : Graph) (list : List ℕ) (count : ℕ) (c : count ≡ 
   pub sources-long : count ≡ length (take count list)
   sources-long = c ∙ ap length (sym front)
 
-  pub tested-is : n ≤ 1024 → (v : Verdict) (d : ℕ) → v ≡ ofDepth d → d ≡ greatest (distances n (fewest (linked n G) n) (take count list))
+  pub tested-is : n ≤ 1024 → (v : Verdict) (d : ℕ) → v ≡ ofDepth d → d ≡ greatest (rowsOf n (fewest (linked n G) n) (take count list))
       → record { verdict = v; searches = count } ≡ tested n s G
   unfolding tested
   tested-is size v d e f =
       let right : v ≡ verdictOf n G (sources n s G) =
-      e ∙ ap ofDepth (f ∙ ap (λ (l : List ℕ). greatest (distances n (fewest (linked n G) n) l)) front) ∙ verdict-is n G size (sources n s G) in
+      e ∙ ap ofDepth (f ∙ ap (λ (l : List ℕ). greatest (rowsOf n (fewest (linked n G) n) l)) front) ∙ verdict-is n G size (sources n s G) in
       ap₂ (λ (x : Verdict) (k : ℕ). record { verdict = x; searches = k }) right c
 
 module _ (n : ℕ) (starts neighbours : List ℕ) where

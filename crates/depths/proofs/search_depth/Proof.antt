@@ -11,7 +11,8 @@ use Rattle.model.specs.Graph.{fewest, linked}
 use Rattle.model.specs.Survey.{neighboursOf}
 use Rattle.model.proofs.Ascending.{getD-has}
 use Rattle.nodeset.specs.NodeSet.{member}
-use Rattle.depths.specs.Depth.{greatest, distances}
+use Rattle.model.specs.Tables.{rowsOf}
+use Rattle.depths.specs.Depth.{greatest}
 use Rattle.model.proofs.Entries.{length-row}
 use Rattle.depths.proofs.Depths.{row-searched, row-kept, search-turn, search-end, search-none}
 use borrow.Author.Needs.{needs}
@@ -19,7 +20,7 @@ use Rattle.depths.proofs.search_depth.Statement.{statement}
 use Rattle.depths.proofs.search_depth.Tie as tie
 
 abbrev Inv-loop : tie.InvT-loop
-Inv-loop n starts neighbours sources all row₀ most₀ i₀ row most i = (i ≤ length sources) × (length row ≡ 1024) × (max most (greatest (distances n (fewest (linked n (neighboursOf starts neighbours)) n) (drop i sources))) ≡ greatest (distances n (fewest (linked n (neighboursOf starts neighbours)) n) sources))
+Inv-loop n starts neighbours sources all row₀ most₀ i₀ row most i = (i ≤ length sources) × (length row ≡ 1024) × (max most (greatest (rowsOf n (fewest (linked n (neighboursOf starts neighbours)) n) (drop i sources))) ≡ greatest (rowsOf n (fewest (linked n (neighboursOf starts neighbours)) n) sources))
 
 abbrev μ-loop : tie.MeasureT-loop
 μ-loop n starts neighbours sources all row₀ most₀ i₀ row most i = length sources - i
@@ -67,7 +68,7 @@ greater-requires : tie.Need-greater-requires Inv-loop μ-loop
 greater-requires c κs = search needs
 
 returns : tie.Need-returns Inv-loop μ-loop
-returns c = search-none ((c .before .before .before .before .before .before .before .before .before .before .before .before .before .before .before .before .before .args .n)) (neighboursOf ((c .before .before .before .before .before .before .before .before .before .before .before .before .before .before .before .before .before .args .starts .now)) ((c .before .before .before .before .before .before .before .before .before .before .before .before .before .before .before .before .before .args .neighbours .now))) ((c .before .before .before .before .before .before .before .before .before .before .before .before .before .before .before .before .before .args .sources .now)) ((c .before .before .before .before .before .before .before .before .before .before .loop .i) + 1) ((c .before .greater .result)) ((c .before .before .before .before .before .before .before .before .before .before .before .before .before .before .before .before .before .pre .0 .size)) ((c .if1 .taken)) (subst (λ (m : ℕ). max m (greatest (distances ((c .before .before .before .before .before .before .before .before .before .before .before .before .before .before .before .before .before .args .n)) (fewest (linked ((c .before .before .before .before .before .before .before .before .before .before .before .before .before .before .before .before .before .args .n)) (neighboursOf ((c .before .before .before .before .before .before .before .before .before .before .before .before .before .before .before .before .before .args .starts .now)) ((c .before .before .before .before .before .before .before .before .before .before .before .before .before .before .before .before .before .args .neighbours .now)))) ((c .before .before .before .before .before .before .before .before .before .before .before .before .before .before .before .before .before .args .n))) (drop ((c .before .before .before .before .before .before .before .before .before .before .loop .i) + 1) ((c .before .before .before .before .before .before .before .before .before .before .before .before .before .before .before .before .before .args .sources .now))))) ≡ greatest (distances ((c .before .before .before .before .before .before .before .before .before .before .before .before .before .before .before .before .before .args .n)) (fewest (linked ((c .before .before .before .before .before .before .before .before .before .before .before .before .before .before .before .before .before .args .n)) (neighboursOf ((c .before .before .before .before .before .before .before .before .before .before .before .before .before .before .before .before .before .args .starts .now)) ((c .before .before .before .before .before .before .before .before .before .before .before .before .before .before .before .before .before .args .neighbours .now)))) ((c .before .before .before .before .before .before .before .before .before .before .before .before .before .before .before .before .before .args .n))) ((c .before .before .before .before .before .before .before .before .before .before .before .before .before .before .before .before .before .args .sources .now)))) (sym (((c .before .greater .ensures)) ∙ ap (max ((c .before .before .before .before .before .before .before .before .before .before .loop .most))) (((c .before .before .row-depth .ensures)) ∙ ap greatest (row-searched ((c .before .before .before .before .before .before .before .before .before .before .before .before .before .before .before .before .before .args .n)) (neighboursOf ((c .before .before .before .before .before .before .before .before .before .before .before .before .before .before .before .before .before .args .starts .now)) ((c .before .before .before .before .before .before .before .before .before .before .before .before .before .before .before .before .before .args .neighbours .now))) (member ((c .before .before .before .before .before .before .before .before .before .before .before .before .insert-below .last .0))) ((c .before .before .before .before .before .before .before .before .before .before .before .before .insert-below .ensures)) (getD ((c .before .before .before .before .before .before .before .before .before .before .before .before .before .before .before .before .before .args .sources .now)) ((c .before .before .before .before .before .before .before .before .before .before .loop .i)) 0) ((c .before .before .before .before .before .before .before .before .before .before .loop .row)) ((c .before .before .before .before .before .search .last .1 .1 .1 .1 .1 .0)) ((c .before .before .before .before .before .search .ensures)))))) (search-turn ((c .before .before .before .before .before .before .before .before .before .before .before .before .before .before .before .before .before .args .n)) (fewest (linked ((c .before .before .before .before .before .before .before .before .before .before .before .before .before .before .before .before .before .args .n)) (neighboursOf ((c .before .before .before .before .before .before .before .before .before .before .before .before .before .before .before .before .before .args .starts .now)) ((c .before .before .before .before .before .before .before .before .before .before .before .before .before .before .before .before .before .args .neighbours .now)))) ((c .before .before .before .before .before .before .before .before .before .before .before .before .before .before .before .before .before .args .n))) ((c .before .before .before .before .before .before .before .before .before .before .before .before .before .before .before .before .before .args .sources .now)) ((c .before .before .before .before .before .before .before .before .before .before .loop .i)) ((c .before .before .before .before .before .before .before .before .before .before .loop .most)) ((c .before .before .before .before .before .before .before .before .before .loop-test .taken)) ((c .before .before .before .before .before .before .before .before .before .before .loop .inv .2))))
+returns c = search-none ((c .before .before .before .before .before .before .before .before .before .before .before .before .before .before .before .before .before .args .n)) (neighboursOf ((c .before .before .before .before .before .before .before .before .before .before .before .before .before .before .before .before .before .args .starts .now)) ((c .before .before .before .before .before .before .before .before .before .before .before .before .before .before .before .before .before .args .neighbours .now))) ((c .before .before .before .before .before .before .before .before .before .before .before .before .before .before .before .before .before .args .sources .now)) ((c .before .before .before .before .before .before .before .before .before .before .loop .i) + 1) ((c .before .greater .result)) ((c .before .before .before .before .before .before .before .before .before .before .before .before .before .before .before .before .before .pre .0 .size)) ((c .if1 .taken)) (subst (λ (m : ℕ). max m (greatest (rowsOf ((c .before .before .before .before .before .before .before .before .before .before .before .before .before .before .before .before .before .args .n)) (fewest (linked ((c .before .before .before .before .before .before .before .before .before .before .before .before .before .before .before .before .before .args .n)) (neighboursOf ((c .before .before .before .before .before .before .before .before .before .before .before .before .before .before .before .before .before .args .starts .now)) ((c .before .before .before .before .before .before .before .before .before .before .before .before .before .before .before .before .before .args .neighbours .now)))) ((c .before .before .before .before .before .before .before .before .before .before .before .before .before .before .before .before .before .args .n))) (drop ((c .before .before .before .before .before .before .before .before .before .before .loop .i) + 1) ((c .before .before .before .before .before .before .before .before .before .before .before .before .before .before .before .before .before .args .sources .now))))) ≡ greatest (rowsOf ((c .before .before .before .before .before .before .before .before .before .before .before .before .before .before .before .before .before .args .n)) (fewest (linked ((c .before .before .before .before .before .before .before .before .before .before .before .before .before .before .before .before .before .args .n)) (neighboursOf ((c .before .before .before .before .before .before .before .before .before .before .before .before .before .before .before .before .before .args .starts .now)) ((c .before .before .before .before .before .before .before .before .before .before .before .before .before .before .before .before .before .args .neighbours .now)))) ((c .before .before .before .before .before .before .before .before .before .before .before .before .before .before .before .before .before .args .n))) ((c .before .before .before .before .before .before .before .before .before .before .before .before .before .before .before .before .before .args .sources .now)))) (sym (((c .before .greater .ensures)) ∙ ap (max ((c .before .before .before .before .before .before .before .before .before .before .loop .most))) (((c .before .before .row-depth .ensures)) ∙ ap greatest (row-searched ((c .before .before .before .before .before .before .before .before .before .before .before .before .before .before .before .before .before .args .n)) (neighboursOf ((c .before .before .before .before .before .before .before .before .before .before .before .before .before .before .before .before .before .args .starts .now)) ((c .before .before .before .before .before .before .before .before .before .before .before .before .before .before .before .before .before .args .neighbours .now))) (member ((c .before .before .before .before .before .before .before .before .before .before .before .before .insert-below .last .0))) ((c .before .before .before .before .before .before .before .before .before .before .before .before .insert-below .ensures)) (getD ((c .before .before .before .before .before .before .before .before .before .before .before .before .before .before .before .before .before .args .sources .now)) ((c .before .before .before .before .before .before .before .before .before .before .loop .i)) 0) ((c .before .before .before .before .before .before .before .before .before .before .loop .row)) ((c .before .before .before .before .before .search .last .1 .1 .1 .1 .1 .0)) ((c .before .before .before .before .before .search .ensures)))))) (search-turn ((c .before .before .before .before .before .before .before .before .before .before .before .before .before .before .before .before .before .args .n)) (fewest (linked ((c .before .before .before .before .before .before .before .before .before .before .before .before .before .before .before .before .before .args .n)) (neighboursOf ((c .before .before .before .before .before .before .before .before .before .before .before .before .before .before .before .before .before .args .starts .now)) ((c .before .before .before .before .before .before .before .before .before .before .before .before .before .before .before .before .before .args .neighbours .now)))) ((c .before .before .before .before .before .before .before .before .before .before .before .before .before .before .before .before .before .args .n))) ((c .before .before .before .before .before .before .before .before .before .before .before .before .before .before .before .before .before .args .sources .now)) ((c .before .before .before .before .before .before .before .before .before .before .loop .i)) ((c .before .before .before .before .before .before .before .before .before .before .loop .most)) ((c .before .before .before .before .before .before .before .before .before .loop-test .taken)) ((c .before .before .before .before .before .before .before .before .before .before .loop .inv .2))))
 
 add-i : tie.Need-add-i Inv-loop μ-loop
 add-i c = search needs
@@ -76,7 +77,7 @@ loop-less : tie.Need-loop-less Inv-loop μ-loop
 loop-less c = search needs
 
 loop-again : tie.Need-loop-again Inv-loop μ-loop
-loop-again c = (omega arith, (row-kept ((c .before .before .before .before .before .before .before .before .before .before .before .before .before .before .before .before .before .args .n)) ((c .before .before .before .before .before .before .before .before .before .before .loop .row)) ((c .before .before .before .before .before .search .last .1 .1 .1 .1 .1 .0)) ((c .before .before .before .before .before .before .before .before .before .before .before .before .before .before .before .before .before .pre .0 .size)) ((c .before .before .before .before .before .before .before .before .before .before .loop .inv .1)) (((c .before .before .before .before .before .search .kept .1 .1 .1 .1 .1 .0)) ∙ length-take-le ((c .before .before .before .before .before .before .before .before .before .before .before .before .before .before .before .before .before .args .n)) ((c .before .before .before .before .before .before .before .before .before .before .loop .row)) (omega (arith, (c .before .before .before .before .before .before .before .before .before .before .before .before .before .before .before .before .before .pre .0 .size), (c .before .before .before .before .before .before .before .before .before .before .loop .inv .1))))), (subst (λ (m : ℕ). max m (greatest (distances ((c .before .before .before .before .before .before .before .before .before .before .before .before .before .before .before .before .before .args .n)) (fewest (linked ((c .before .before .before .before .before .before .before .before .before .before .before .before .before .before .before .before .before .args .n)) (neighboursOf ((c .before .before .before .before .before .before .before .before .before .before .before .before .before .before .before .before .before .args .starts .now)) ((c .before .before .before .before .before .before .before .before .before .before .before .before .before .before .before .before .before .args .neighbours .now)))) ((c .before .before .before .before .before .before .before .before .before .before .before .before .before .before .before .before .before .args .n))) (drop ((c .before .before .before .before .before .before .before .before .before .before .loop .i) + 1) ((c .before .before .before .before .before .before .before .before .before .before .before .before .before .before .before .before .before .args .sources .now))))) ≡ greatest (distances ((c .before .before .before .before .before .before .before .before .before .before .before .before .before .before .before .before .before .args .n)) (fewest (linked ((c .before .before .before .before .before .before .before .before .before .before .before .before .before .before .before .before .before .args .n)) (neighboursOf ((c .before .before .before .before .before .before .before .before .before .before .before .before .before .before .before .before .before .args .starts .now)) ((c .before .before .before .before .before .before .before .before .before .before .before .before .before .before .before .before .before .args .neighbours .now)))) ((c .before .before .before .before .before .before .before .before .before .before .before .before .before .before .before .before .before .args .n))) ((c .before .before .before .before .before .before .before .before .before .before .before .before .before .before .before .before .before .args .sources .now)))) (sym (((c .before .greater .ensures)) ∙ ap (max ((c .before .before .before .before .before .before .before .before .before .before .loop .most))) (((c .before .before .row-depth .ensures)) ∙ ap greatest (row-searched ((c .before .before .before .before .before .before .before .before .before .before .before .before .before .before .before .before .before .args .n)) (neighboursOf ((c .before .before .before .before .before .before .before .before .before .before .before .before .before .before .before .before .before .args .starts .now)) ((c .before .before .before .before .before .before .before .before .before .before .before .before .before .before .before .before .before .args .neighbours .now))) (member ((c .before .before .before .before .before .before .before .before .before .before .before .before .insert-below .last .0))) ((c .before .before .before .before .before .before .before .before .before .before .before .before .insert-below .ensures)) (getD ((c .before .before .before .before .before .before .before .before .before .before .before .before .before .before .before .before .before .args .sources .now)) ((c .before .before .before .before .before .before .before .before .before .before .loop .i)) 0) ((c .before .before .before .before .before .before .before .before .before .before .loop .row)) ((c .before .before .before .before .before .search .last .1 .1 .1 .1 .1 .0)) ((c .before .before .before .before .before .search .ensures)))))) (search-turn ((c .before .before .before .before .before .before .before .before .before .before .before .before .before .before .before .before .before .args .n)) (fewest (linked ((c .before .before .before .before .before .before .before .before .before .before .before .before .before .before .before .before .before .args .n)) (neighboursOf ((c .before .before .before .before .before .before .before .before .before .before .before .before .before .before .before .before .before .args .starts .now)) ((c .before .before .before .before .before .before .before .before .before .before .before .before .before .before .before .before .before .args .neighbours .now)))) ((c .before .before .before .before .before .before .before .before .before .before .before .before .before .before .before .before .before .args .n))) ((c .before .before .before .before .before .before .before .before .before .before .before .before .before .before .before .before .before .args .sources .now)) ((c .before .before .before .before .before .before .before .before .before .before .loop .i)) ((c .before .before .before .before .before .before .before .before .before .before .loop .most)) ((c .before .before .before .before .before .before .before .before .before .loop-test .taken)) ((c .before .before .before .before .before .before .before .before .before .before .loop .inv .2)))))
+loop-again c = (omega arith, (row-kept ((c .before .before .before .before .before .before .before .before .before .before .before .before .before .before .before .before .before .args .n)) ((c .before .before .before .before .before .before .before .before .before .before .loop .row)) ((c .before .before .before .before .before .search .last .1 .1 .1 .1 .1 .0)) ((c .before .before .before .before .before .before .before .before .before .before .before .before .before .before .before .before .before .pre .0 .size)) ((c .before .before .before .before .before .before .before .before .before .before .loop .inv .1)) (((c .before .before .before .before .before .search .kept .1 .1 .1 .1 .1 .0)) ∙ length-take-le ((c .before .before .before .before .before .before .before .before .before .before .before .before .before .before .before .before .before .args .n)) ((c .before .before .before .before .before .before .before .before .before .before .loop .row)) (omega (arith, (c .before .before .before .before .before .before .before .before .before .before .before .before .before .before .before .before .before .pre .0 .size), (c .before .before .before .before .before .before .before .before .before .before .loop .inv .1))))), (subst (λ (m : ℕ). max m (greatest (rowsOf ((c .before .before .before .before .before .before .before .before .before .before .before .before .before .before .before .before .before .args .n)) (fewest (linked ((c .before .before .before .before .before .before .before .before .before .before .before .before .before .before .before .before .before .args .n)) (neighboursOf ((c .before .before .before .before .before .before .before .before .before .before .before .before .before .before .before .before .before .args .starts .now)) ((c .before .before .before .before .before .before .before .before .before .before .before .before .before .before .before .before .before .args .neighbours .now)))) ((c .before .before .before .before .before .before .before .before .before .before .before .before .before .before .before .before .before .args .n))) (drop ((c .before .before .before .before .before .before .before .before .before .before .loop .i) + 1) ((c .before .before .before .before .before .before .before .before .before .before .before .before .before .before .before .before .before .args .sources .now))))) ≡ greatest (rowsOf ((c .before .before .before .before .before .before .before .before .before .before .before .before .before .before .before .before .before .args .n)) (fewest (linked ((c .before .before .before .before .before .before .before .before .before .before .before .before .before .before .before .before .before .args .n)) (neighboursOf ((c .before .before .before .before .before .before .before .before .before .before .before .before .before .before .before .before .before .args .starts .now)) ((c .before .before .before .before .before .before .before .before .before .before .before .before .before .before .before .before .before .args .neighbours .now)))) ((c .before .before .before .before .before .before .before .before .before .before .before .before .before .before .before .before .before .args .n))) ((c .before .before .before .before .before .before .before .before .before .before .before .before .before .before .before .before .before .args .sources .now)))) (sym (((c .before .greater .ensures)) ∙ ap (max ((c .before .before .before .before .before .before .before .before .before .before .loop .most))) (((c .before .before .row-depth .ensures)) ∙ ap greatest (row-searched ((c .before .before .before .before .before .before .before .before .before .before .before .before .before .before .before .before .before .args .n)) (neighboursOf ((c .before .before .before .before .before .before .before .before .before .before .before .before .before .before .before .before .before .args .starts .now)) ((c .before .before .before .before .before .before .before .before .before .before .before .before .before .before .before .before .before .args .neighbours .now))) (member ((c .before .before .before .before .before .before .before .before .before .before .before .before .insert-below .last .0))) ((c .before .before .before .before .before .before .before .before .before .before .before .before .insert-below .ensures)) (getD ((c .before .before .before .before .before .before .before .before .before .before .before .before .before .before .before .before .before .args .sources .now)) ((c .before .before .before .before .before .before .before .before .before .before .loop .i)) 0) ((c .before .before .before .before .before .before .before .before .before .before .loop .row)) ((c .before .before .before .before .before .search .last .1 .1 .1 .1 .1 .0)) ((c .before .before .before .before .before .search .ensures)))))) (search-turn ((c .before .before .before .before .before .before .before .before .before .before .before .before .before .before .before .before .before .args .n)) (fewest (linked ((c .before .before .before .before .before .before .before .before .before .before .before .before .before .before .before .before .before .args .n)) (neighboursOf ((c .before .before .before .before .before .before .before .before .before .before .before .before .before .before .before .before .before .args .starts .now)) ((c .before .before .before .before .before .before .before .before .before .before .before .before .before .before .before .before .before .args .neighbours .now)))) ((c .before .before .before .before .before .before .before .before .before .before .before .before .before .before .before .before .before .args .n))) ((c .before .before .before .before .before .before .before .before .before .before .before .before .before .before .before .before .before .args .sources .now)) ((c .before .before .before .before .before .before .before .before .before .before .loop .i)) ((c .before .before .before .before .before .before .before .before .before .before .loop .most)) ((c .before .before .before .before .before .before .before .before .before .loop-test .taken)) ((c .before .before .before .before .before .before .before .before .before .before .loop .inv .2)))))
 
 returns-2 : tie.Need-returns-2 Inv-loop μ-loop
 returns-2 c = search-end ((c .before .before .before .before .before .before .before .before .args .n)) (fewest (linked ((c .before .before .before .before .before .before .before .before .args .n)) (neighboursOf ((c .before .before .before .before .before .before .before .before .args .starts .now)) ((c .before .before .before .before .before .before .before .before .args .neighbours .now)))) ((c .before .before .before .before .before .before .before .before .args .n))) ((c .before .before .before .before .before .before .before .before .args .sources .now)) ((c .before .loop .i)) ((c .before .loop .most)) ((c .loop-test .left)) ((c .before .loop .inv .2))
