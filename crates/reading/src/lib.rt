@@ -1,7 +1,7 @@
 // Reading a survey from its text.
 use model::Reading;
 use model::Size;
-use survey_lines::First;
+use survey_lines::LineSays;
 use survey_lines::Links;
 ghost use mathlib.Core.Path.{_≡_};
 ghost use mathlib.Core.List.{[]};
@@ -50,8 +50,8 @@ pub fn read_within(
     lists::fill32(starts, 0);
     lists::fill16(neighbours, 0);
     match survey_lines::first_line(text, most_nodes, most_links, starts.len(), neighbours.len()) {
-        First::Refused(r) => Reading::Refused(r),
-        First::Counts(n, m, at) => read_lists(text, at, n, m, starts, neighbours),
+        LineSays::Refused(r) => Reading::Refused(r),
+        LineSays::Pair(n, m, at) => read_lists(text, at, n, m, starts, neighbours),
     }
 }
 

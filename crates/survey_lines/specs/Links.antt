@@ -9,12 +9,10 @@ use Rattle.model.specs.Answers.{Outcome, refused, answered, number}
 use Rattle.model.specs.SurveyText.{line}
 use Rattle.model.specs.Reading.{named, linkOf}
 use Rattle.nodeset.specs.Matrix.{edgesIn}
-use Rattle.survey_lines.specs.declared.Step.{Step}
-use Rattle.survey_lines.specs.declared.Step.the-variants as step
+use Rattle.survey_lines.specs.declared.LineSays.{LineSays}
+use Rattle.survey_lines.specs.declared.LineSays.the-variants as says
 use Rattle.survey_lines.specs.declared.Links.{Links}
 use Rattle.survey_lines.specs.declared.Links.the-variants as links
-use Rattle.survey_lines.specs.declared.First.{First}
-use Rattle.survey_lines.specs.declared.First.the-variants as first
 
 -- a matrix with exactly these links
 pub record Holds (ws : List ℕ) (ls : List (ℕ × ℕ)) : Type 0 where
@@ -26,17 +24,13 @@ unfoldable pub linkIn : ℕ → (ℕ → ℕ → Bool) → List ℕ → Outcome 
 linkIn n E [] = refused 7
 linkIn n E (c ∷ text) = linkOf n E (line 76 (c ∷ text))
 
--- what the cases of the code's answers stand for, in a text s
-abbrev pub stepAnswer : List ℕ → Step → Outcome (ℕ × ℕ × List ℕ)
-stepAnswer s (step.Link a b e) = answered (a, b, drop e s)
-stepAnswer s (step.Refused r) = refused (number r)
+-- what a line of the text s says: its two numbers and the text behind it, or a refusal
+abbrev pub lineAnswer : List ℕ → LineSays → Outcome (ℕ × ℕ × List ℕ)
+lineAnswer s (says.Pair a b e) = answered (a, b, drop e s)
+lineAnswer s (says.Refused r) = refused (number r)
 
 -- the link lines were read into the matrix, or refused
 abbrev pub Told : Outcome (List (ℕ × ℕ)) → Links → List ℕ → Type 0
 Told (answered ls) r ws = (r ≡ links.Taken) × Holds ws ls
 Told (refused k) (links.Refused r) ws = number r ≡ k
 Told (refused k) links.Taken ws = ⊥
-
-abbrev pub firstAnswer : List ℕ → First → Outcome (ℕ × ℕ × List ℕ)
-firstAnswer s (first.Counts n m e) = answered (n, m, drop e s)
-firstAnswer s (first.Refused r) = refused (number r)

@@ -8,11 +8,11 @@ ghost use lib.ListN.{length, replicate, drop};
 ghost use Rattle.model.specs.SurveyText.{line};
 ghost use Rattle.model.specs.Reading.{readLinks, countsOf};
 ghost use Rattle.nodeset.specs.Matrix.{edgesIn};
-ghost use Rattle.survey_lines.specs.Links.{linkIn, stepAnswer, Told, firstAnswer};
+ghost use Rattle.survey_lines.specs.Links.{linkIn, lineAnswer, Told};
 
-// What a link line says: the link and the place after its line.
-pub enum Step {
-    Link(usize, usize, usize),
+// What a line of a survey text says: its two numbers and the place after it.
+pub enum LineSays {
+    Pair(usize, usize, usize),
     Refused(Refusal),
 }
 
@@ -22,36 +22,30 @@ pub enum Links {
     Refused(Refusal),
 }
 
-// What the first line says: the counts of nodes and links, and the place after it.
-pub enum First {
-    Counts(usize, usize, usize),
-    Refused(Refusal),
-}
-
 // The link line at a place, where the matrix has the links given before.
-fn link_at(text: &[u8], at: usize, n: usize, bits: &[u64]) -> Step
+fn link_at(text: &[u8], at: usize, n: usize, bits: &[u64]) -> LineSays
     requires { ⌜ (n ≤ 1024) × (length (now bits) ≡ 16384) ⌝ }
-    ensures { λ r. ⌜ stepAnswer (now (text .entry)) r ≡ linkIn n (edgesIn (now (bits .entry))) (drop at (now (text .entry))) ⌝ }
+    ensures { λ r. ⌜ lineAnswer (now (text .entry)) r ≡ linkIn n (edgesIn (now (bits .entry))) (drop at (now (text .entry))) ⌝ }
 {
     if text.len() <= at {
-        return Step::Refused(Refusal::LineCount);
+        return LineSays::Refused(Refusal::LineCount);
     }
     let Line::Pair(a, b, next) = text::line_at(text, at, 76) else {
-        return Step::Refused(Refusal::Form);
+        return LineSays::Refused(Refusal::Form);
     };
     let near = (a < n as u64) & (b < n as u64);
     if !near {
-        return Step::Refused(Refusal::LineNode);
+        return LineSays::Refused(Refusal::LineNode);
     }
     if a == b {
-        return Step::Refused(Refusal::EqualEnds);
+        return LineSays::Refused(Refusal::EqualEnds);
     }
     let u = a as usize;
     let v = b as usize;
     if nodeset::contains(bits, 1024 * u + v) {
-        return Step::Refused(Refusal::RepeatedLink);
+        return LineSays::Refused(Refusal::RepeatedLink);
     }
-    Step::Link(u, v, next)
+    LineSays::Pair(u, v, next)
 }
 
 // Reads m link lines from a place on into the empty matrix, and the end of the text behind them.
@@ -63,8 +57,8 @@ pub fn read_links(text: &[u8], at: usize, n: usize, m: usize, bits: &mut [u64]) 
     let mut k = 0;
     while k < m {
         match link_at(text, next, n, bits) {
-            Step::Refused(r) => return Links::Refused(r),
-            Step::Link(a, b, e) => {
+            LineSays::Refused(r) => return Links::Refused(r),
+            LineSays::Pair(a, b, e) => {
                 nodeset::insert(bits, 1024 * a + b);
                 nodeset::insert(bits, 1024 * b + a);
                 next = e;
@@ -79,29 +73,29 @@ pub fn read_links(text: &[u8], at: usize, n: usize, m: usize, bits: &mut [u64]) 
 }
 
 // The first line, within limits, for lists of p and q entries.
-pub fn first_line(text: &[u8], most_nodes: usize, most_links: usize, p: usize, q: usize) -> First
+pub fn first_line(text: &[u8], most_nodes: usize, most_links: usize, p: usize, q: usize) -> LineSays
     requires { ⌜ («most_nodes» ≤ 1024) × («most_links» ≤ 16384) ⌝ }
-    ensures { λ r. ⌜ firstAnswer (now (text .entry)) r ≡ countsOf «most_nodes» «most_links» p q (line 83 (now (text .entry))) ⌝ }
+    ensures { λ r. ⌜ lineAnswer (now (text .entry)) r ≡ countsOf «most_nodes» «most_links» p q (line 83 (now (text .entry))) ⌝ }
 {
     let Line::Pair(nodes, count, at) = text::line_at(text, 0, 83) else {
-        return First::Refused(Refusal::Form);
+        return LineSays::Refused(Refusal::Form);
     };
     if nodes < 1 {
-        return First::Refused(Refusal::NodeCount);
+        return LineSays::Refused(Refusal::NodeCount);
     }
     if (most_nodes as u64) < nodes {
-        return First::Refused(Refusal::NodeCount);
+        return LineSays::Refused(Refusal::NodeCount);
     }
     if (most_links as u64) < count {
-        return First::Refused(Refusal::LinkCount);
+        return LineSays::Refused(Refusal::LinkCount);
     }
     let n = nodes as usize;
     let m = count as usize;
     if p < n + 1 {
-        return First::Refused(Refusal::ShortList);
+        return LineSays::Refused(Refusal::ShortList);
     }
     if q < 2 * m {
-        return First::Refused(Refusal::ShortList);
+        return LineSays::Refused(Refusal::ShortList);
     }
-    First::Counts(n, m, at)
+    LineSays::Pair(n, m, at)
 }

@@ -4,7 +4,7 @@ use mathlib.Core.Path.{sym, ap, _∙_}
 use native.Mathlib.Omega.{arith}
 use lib.ListN.{length}
 use Rattle.lists.proofs.Filling.{filled-own}
-use Rattle.survey_lines.specs.Links.{firstAnswer}
+use Rattle.survey_lines.specs.Links.{lineAnswer}
 use Rattle.reading.proofs.ReadLaws.{counts-within, first-refused, first-read}
 use borrow.Author.Needs.{needs}
 use Rattle.reading.proofs.read_within.Statement.{statement}
@@ -26,7 +26,7 @@ enum-known-n : tie.Need-enum-known-n
 enum-known-n c = search needs
 
 read-lists-requires : tie.Need-read-lists-requires
-read-lists-requires c κs = let w = counts-within ((c .before .before .before .before .before .before .before .before .before .before .before .before .before .before .before .before .before .args .most-nodes)) ((c .before .before .before .before .before .before .before .before .before .before .before .before .before .before .before .before .before .args .most-links)) (length ((c .before .before .before .before .before .before .before .before .before .before .before .before .fill32 .last .0))) (length ((c .before .before .before .before .before .before .before .before .fill16 .last .0))) ((c .before .before .before .before .before .before .before .before .before .before .before .before .before .before .before .before .before .args .text .now)) _ _ _ (sym (sym (ap (firstAnswer ((c .before .before .before .before .before .before .before .before .before .before .before .before .before .before .before .before .before .args .text .now))) ((c .before .before .before .n .given .1))) ∙ ((c .before .before .before .before .before .first-line .ensures)))) in ((omega (arith, w .size, (c .before .before .before .before .before .before .before .before .before .before .before .before .before .before .before .before .before .pre .0)), omega (arith, w .few, (c .before .before .before .before .before .before .before .before .before .before .before .before .before .before .before .before .before .pre .1)), w .room, w .list-room), (filled-own 0 (length (c .before .before .before .before .before .before .before .before .before .before .before .before .before .before .before .before .before .args .starts .now)) (c .before .before .before .before .before .before .before .before .before .before .before .before .fill32 .ensures), filled-own 0 (length (c .before .before .before .before .before .before .before .before .before .before .before .before .before .before .before .before .before .args .neighbours .now)) (c .before .before .before .before .before .before .before .before .fill16 .ensures)))
+read-lists-requires c κs = let w = counts-within ((c .before .before .before .before .before .before .before .before .before .before .before .before .before .before .before .before .before .args .most-nodes)) ((c .before .before .before .before .before .before .before .before .before .before .before .before .before .before .before .before .before .args .most-links)) (length ((c .before .before .before .before .before .before .before .before .before .before .before .before .fill32 .last .0))) (length ((c .before .before .before .before .before .before .before .before .fill16 .last .0))) ((c .before .before .before .before .before .before .before .before .before .before .before .before .before .before .before .before .before .args .text .now)) _ _ _ (sym (sym (ap (lineAnswer ((c .before .before .before .before .before .before .before .before .before .before .before .before .before .before .before .before .before .args .text .now))) ((c .before .before .before .n .given .1))) ∙ ((c .before .before .before .before .before .first-line .ensures)))) in ((omega (arith, w .size, (c .before .before .before .before .before .before .before .before .before .before .before .before .before .before .before .before .before .pre .0)), omega (arith, w .few, (c .before .before .before .before .before .before .before .before .before .before .before .before .before .before .before .before .before .pre .1)), w .room, w .list-room), (filled-own 0 (length (c .before .before .before .before .before .before .before .before .before .before .before .before .before .before .before .before .before .args .starts .now)) (c .before .before .before .before .before .before .before .before .before .before .before .before .fill32 .ensures), filled-own 0 (length (c .before .before .before .before .before .before .before .before .before .before .before .before .before .before .before .before .before .args .neighbours .now)) (c .before .before .before .before .before .before .before .before .fill16 .ensures)))
 
 same-length : tie.Need-same-length
 same-length c = search needs
@@ -35,7 +35,7 @@ same-length-2 : tie.Need-same-length-2
 same-length-2 c = search needs
 
 returns : tie.Need-returns
-returns c = first-refused ((c .before .before .before .before .before .before .before .before .before .before .before .before .before .before .before .args .most-nodes)) ((c .before .before .before .before .before .before .before .before .before .before .before .before .before .before .before .args .most-links)) ((c .before .before .before .before .before .before .before .before .before .before .before .before .before .before .before .args .text .now)) ((c .before .before .before .before .before .before .before .before .before .before .before .before .before .before .before .args .starts .now)) ((c .before .before .before .before .before .before .before .before .before .before .before .before .before .before .before .args .neighbours .now)) ((c .before .before .before .before .before .before .before .before .before .before .fill32 .last .0)) ((c .before .before .before .before .before .before .fill16 .last .0)) ((c .before .before .before .before .before .before .before .before .before .before .fill32 .ensures)) ((c .before .before .before .before .before .before .fill16 .ensures)) ((c .before .r .given .0 .0)) (sym (ap (firstAnswer ((c .before .before .before .before .before .before .before .before .before .before .before .before .before .before .before .args .text .now))) ((c .before .r .given .1))) ∙ ((c .before .before .before .first-line .ensures)))
+returns c = first-refused ((c .before .before .before .before .before .before .before .before .before .before .before .before .before .before .before .args .most-nodes)) ((c .before .before .before .before .before .before .before .before .before .before .before .before .before .before .before .args .most-links)) ((c .before .before .before .before .before .before .before .before .before .before .before .before .before .before .before .args .text .now)) ((c .before .before .before .before .before .before .before .before .before .before .before .before .before .before .before .args .starts .now)) ((c .before .before .before .before .before .before .before .before .before .before .before .before .before .before .before .args .neighbours .now)) ((c .before .before .before .before .before .before .before .before .before .before .fill32 .last .0)) ((c .before .before .before .before .before .before .fill16 .last .0)) ((c .before .before .before .before .before .before .before .before .before .before .fill32 .ensures)) ((c .before .before .before .before .before .before .fill16 .ensures)) ((c .before .r .given .0 .0)) (sym (ap (lineAnswer ((c .before .before .before .before .before .before .before .before .before .before .before .before .before .before .before .args .text .now))) ((c .before .r .given .1))) ∙ ((c .before .before .before .first-line .ensures)))
 
 same-length-3 : tie.Need-same-length-3
 same-length-3 c = search needs
@@ -44,7 +44,7 @@ same-length-4 : tie.Need-same-length-4
 same-length-4 c = search needs
 
 returns-2 : tie.Need-returns-2
-returns-2 c = first-read ((c .before .before .before .before .before .before .before .before .before .before .before .before .before .before .before .before .before .before .before .before .before .before .args .most-nodes)) ((c .before .before .before .before .before .before .before .before .before .before .before .before .before .before .before .before .before .before .before .before .before .before .args .most-links)) ((c .before .before .before .before .before .before .before .before .before .before .before .before .before .before .before .before .before .before .before .before .before .before .args .text .now)) ((c .before .before .before .before .before .before .before .before .before .before .before .before .before .before .before .before .before .before .before .before .before .before .args .starts .now)) ((c .before .before .before .before .before .before .before .before .before .before .before .before .before .before .before .before .before .before .before .before .before .before .args .neighbours .now)) ((c .before .before .before .before .before .before .before .before .before .before .before .before .before .before .before .before .before .fill32 .last .0)) ((c .before .before .before .before .before .before .before .before .before .before .before .before .before .fill16 .last .0)) ((c .before .before .before .before .before .before .before .before .before .before .before .before .before .before .before .before .before .fill32 .ensures)) ((c .before .before .before .before .before .before .before .before .before .before .before .before .before .fill16 .ensures)) _ _ _ (sym (ap (firstAnswer ((c .before .before .before .before .before .before .before .before .before .before .before .before .before .before .before .before .before .before .before .before .before .before .args .text .now))) ((c .before .before .before .before .before .before .before .before .n .given .1))) ∙ ((c .before .before .before .before .before .before .before .before .before .before .first-line .ensures))) _ ((c .before .before .before .before .read-lists .ensures))
+returns-2 c = first-read ((c .before .before .before .before .before .before .before .before .before .before .before .before .before .before .before .before .before .before .before .before .before .before .args .most-nodes)) ((c .before .before .before .before .before .before .before .before .before .before .before .before .before .before .before .before .before .before .before .before .before .before .args .most-links)) ((c .before .before .before .before .before .before .before .before .before .before .before .before .before .before .before .before .before .before .before .before .before .before .args .text .now)) ((c .before .before .before .before .before .before .before .before .before .before .before .before .before .before .before .before .before .before .before .before .before .before .args .starts .now)) ((c .before .before .before .before .before .before .before .before .before .before .before .before .before .before .before .before .before .before .before .before .before .before .args .neighbours .now)) ((c .before .before .before .before .before .before .before .before .before .before .before .before .before .before .before .before .before .fill32 .last .0)) ((c .before .before .before .before .before .before .before .before .before .before .before .before .before .fill16 .last .0)) ((c .before .before .before .before .before .before .before .before .before .before .before .before .before .before .before .before .before .fill32 .ensures)) ((c .before .before .before .before .before .before .before .before .before .before .before .before .before .fill16 .ensures)) _ _ _ (sym (ap (lineAnswer ((c .before .before .before .before .before .before .before .before .before .before .before .before .before .before .before .before .before .before .before .before .before .before .args .text .now))) ((c .before .before .before .before .before .before .before .before .n .given .1))) ∙ ((c .before .before .before .before .before .before .before .before .before .before .first-line .ensures))) _ ((c .before .before .before .before .read-lists .ensures))
 
 pub read-within-spec : {M : Type 1} → statement M
 read-within-spec =

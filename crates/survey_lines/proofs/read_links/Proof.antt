@@ -7,7 +7,7 @@ use native.Mathlib.Omega.{arith}
 use lib.ListN.{length, drop, length-replicate}
 use Rattle.model.specs.declared.Refusal.the-variants.{LineCount}
 use Rattle.nodeset.specs.Matrix.{edgesIn}
-use Rattle.survey_lines.specs.Links.{stepAnswer}
+use Rattle.survey_lines.specs.Links.{lineAnswer}
 use Rattle.survey_lines.proofs.LinkLaws.{link-below, Progress, progress-none, progress-refused, progress-taken, progress-more, progress-done, told-refused, told-taken}
 use Rattle.survey_lines.proofs.read_links.Statement.{statement}
 use Rattle.survey_lines.proofs.read_links.Tie as tie
@@ -31,28 +31,28 @@ same-length : tie.Need-same-length Inv-loop μ-loop
 same-length c = ((c .before .before .before .before .before .before .loop .inv) .held .long) ∙ sym (ap length (c .before .before .before .before .before .before .before .before .before .pre .1) ∙ length-replicate {A = ℕ} 16384 0)
 
 returns : tie.Need-returns Inv-loop μ-loop
-returns c = told-refused _ (c .before .r .given .0 .0) _ (progress-refused (c .before .before .before .before .before .before .before .before .before .args .n) (c .before .before .before .before .before .before .before .before .before .args .m) (c .before .before .before .before .before .before .before .before .before .args .text .now) (c .before .before .before .before .before .before .before .before .before .args .at) (c .before .before .before .before .before .before .loop .bits) (c .before .before .before .before .before .before .loop .next) (c .before .before .before .before .before .before .loop .k) (c .before .before .before .before .before .before .before .before .before .pre .0) (c .before .before .before .before .before .before .loop .inv) (c .before .before .before .before .before .loop-test .taken) _ (sym (c .before .before .before .link-at .ensures) ∙ ap (stepAnswer (c .before .before .before .before .before .before .before .before .before .args .text .now)) (c .before .r .given .1)))
+returns c = told-refused _ (c .before .r .given .0 .0) _ (progress-refused (c .before .before .before .before .before .before .before .before .before .args .n) (c .before .before .before .before .before .before .before .before .before .args .m) (c .before .before .before .before .before .before .before .before .before .args .text .now) (c .before .before .before .before .before .before .before .before .before .args .at) (c .before .before .before .before .before .before .loop .bits) (c .before .before .before .before .before .before .loop .next) (c .before .before .before .before .before .before .loop .k) (c .before .before .before .before .before .before .before .before .before .pre .0) (c .before .before .before .before .before .before .loop .inv) (c .before .before .before .before .before .loop-test .taken) _ (sym (c .before .before .before .link-at .ensures) ∙ ap (lineAnswer (c .before .before .before .before .before .before .before .before .before .args .text .now)) (c .before .r .given .1)))
 
 enum-known-a : tie.Need-enum-known-a Inv-loop μ-loop
 enum-known-a c = search needs
 
 mul-insert : tie.Need-mul-insert Inv-loop μ-loop
-mul-insert c = let g = (link-below (c .before .before .before .before .before .before .before .before .before .before .args .n) (edgesIn (c .before .before .before .before .before .before .before .loop .bits)) (drop (c .before .before .before .before .before .before .before .loop .next) (c .before .before .before .before .before .before .before .before .before .before .args .text .now)) (c .before .before .a .given .0 .0) (c .before .before .a .given .0 .1 .0) (drop (c .before .before .a .given .0 .1 .1 .0) (c .before .before .before .before .before .before .before .before .before .before .args .text .now)) (sym (c .before .before .before .before .link-at .ensures) ∙ ap (stepAnswer (c .before .before .before .before .before .before .before .before .before .before .args .text .now)) (c .before .before .a .given .1))) in omega (arith, (c .before .before .before .before .before .before .before .before .before .before .pre .0))
+mul-insert c = let g = (link-below (c .before .before .before .before .before .before .before .before .before .before .args .n) (edgesIn (c .before .before .before .before .before .before .before .loop .bits)) (drop (c .before .before .before .before .before .before .before .loop .next) (c .before .before .before .before .before .before .before .before .before .before .args .text .now)) (c .before .before .a .given .0 .0) (c .before .before .a .given .0 .1 .0) (drop (c .before .before .a .given .0 .1 .1 .0) (c .before .before .before .before .before .before .before .before .before .before .args .text .now)) (sym (c .before .before .before .before .link-at .ensures) ∙ ap (lineAnswer (c .before .before .before .before .before .before .before .before .before .before .args .text .now)) (c .before .before .a .given .1))) in omega (arith, (c .before .before .before .before .before .before .before .before .before .before .pre .0))
 
 add-insert : tie.Need-add-insert Inv-loop μ-loop
-add-insert c = let g = (link-below (c .before .before .before .before .before .before .before .before .before .before .args .n) (edgesIn (c .before .before .before .before .before .before .before .loop .bits)) (drop (c .before .before .before .before .before .before .before .loop .next) (c .before .before .before .before .before .before .before .before .before .before .args .text .now)) (c .before .before .a .given .0 .0) (c .before .before .a .given .0 .1 .0) (drop (c .before .before .a .given .0 .1 .1 .0) (c .before .before .before .before .before .before .before .before .before .before .args .text .now)) (sym (c .before .before .before .before .link-at .ensures) ∙ ap (stepAnswer (c .before .before .before .before .before .before .before .before .before .before .args .text .now)) (c .before .before .a .given .1))) in omega (arith, (c .before .before .before .before .before .before .before .before .before .before .pre .0))
+add-insert c = let g = (link-below (c .before .before .before .before .before .before .before .before .before .before .args .n) (edgesIn (c .before .before .before .before .before .before .before .loop .bits)) (drop (c .before .before .before .before .before .before .before .loop .next) (c .before .before .before .before .before .before .before .before .before .before .args .text .now)) (c .before .before .a .given .0 .0) (c .before .before .a .given .0 .1 .0) (drop (c .before .before .a .given .0 .1 .1 .0) (c .before .before .before .before .before .before .before .before .before .before .args .text .now)) (sym (c .before .before .before .before .link-at .ensures) ∙ ap (lineAnswer (c .before .before .before .before .before .before .before .before .before .before .args .text .now)) (c .before .before .a .given .1))) in omega (arith, (c .before .before .before .before .before .before .before .before .before .before .pre .0))
 
 insert-requires : tie.Need-insert-requires Inv-loop μ-loop
-insert-requires c κs = let g = (link-below (c .before .before .before .before .before .before .before .before .before .before .args .n) (edgesIn (c .before .before .before .before .before .before .before .loop .bits)) (drop (c .before .before .before .before .before .before .before .loop .next) (c .before .before .before .before .before .before .before .before .before .before .args .text .now)) (c .before .before .a .given .0 .0) (c .before .before .a .given .0 .1 .0) (drop (c .before .before .a .given .0 .1 .1 .0) (c .before .before .before .before .before .before .before .before .before .before .args .text .now)) (sym (c .before .before .before .before .link-at .ensures) ∙ ap (stepAnswer (c .before .before .before .before .before .before .before .before .before .before .args .text .now)) (c .before .before .a .given .1))) in omega (arith, (c .before .before .before .before .before .before .before .before .before .before .pre .0), ((c .before .before .before .before .before .before .before .loop .inv) .held .long))
+insert-requires c κs = let g = (link-below (c .before .before .before .before .before .before .before .before .before .before .args .n) (edgesIn (c .before .before .before .before .before .before .before .loop .bits)) (drop (c .before .before .before .before .before .before .before .loop .next) (c .before .before .before .before .before .before .before .before .before .before .args .text .now)) (c .before .before .a .given .0 .0) (c .before .before .a .given .0 .1 .0) (drop (c .before .before .a .given .0 .1 .1 .0) (c .before .before .before .before .before .before .before .before .before .before .args .text .now)) (sym (c .before .before .before .before .link-at .ensures) ∙ ap (lineAnswer (c .before .before .before .before .before .before .before .before .before .before .args .text .now)) (c .before .before .a .given .1))) in omega (arith, (c .before .before .before .before .before .before .before .before .before .before .pre .0), ((c .before .before .before .before .before .before .before .loop .inv) .held .long))
 
 mul-insert-2 : tie.Need-mul-insert-2 Inv-loop μ-loop
-mul-insert-2 c = let g = (link-below (c .before .before .before .before .before .before .before .before .before .before .before .before .before .before .args .n) (edgesIn (c .before .before .before .before .before .before .before .before .before .before .before .loop .bits)) (drop (c .before .before .before .before .before .before .before .before .before .before .before .loop .next) (c .before .before .before .before .before .before .before .before .before .before .before .before .before .before .args .text .now)) (c .before .before .before .before .before .before .a .given .0 .0) (c .before .before .before .before .before .before .a .given .0 .1 .0) (drop (c .before .before .before .before .before .before .a .given .0 .1 .1 .0) (c .before .before .before .before .before .before .before .before .before .before .before .before .before .before .args .text .now)) (sym (c .before .before .before .before .before .before .before .before .link-at .ensures) ∙ ap (stepAnswer (c .before .before .before .before .before .before .before .before .before .before .before .before .before .before .args .text .now)) (c .before .before .before .before .before .before .a .given .1))) in omega (arith, (c .before .before .before .before .before .before .before .before .before .before .before .before .before .before .pre .0))
+mul-insert-2 c = let g = (link-below (c .before .before .before .before .before .before .before .before .before .before .before .before .before .before .args .n) (edgesIn (c .before .before .before .before .before .before .before .before .before .before .before .loop .bits)) (drop (c .before .before .before .before .before .before .before .before .before .before .before .loop .next) (c .before .before .before .before .before .before .before .before .before .before .before .before .before .before .args .text .now)) (c .before .before .before .before .before .before .a .given .0 .0) (c .before .before .before .before .before .before .a .given .0 .1 .0) (drop (c .before .before .before .before .before .before .a .given .0 .1 .1 .0) (c .before .before .before .before .before .before .before .before .before .before .before .before .before .before .args .text .now)) (sym (c .before .before .before .before .before .before .before .before .link-at .ensures) ∙ ap (lineAnswer (c .before .before .before .before .before .before .before .before .before .before .before .before .before .before .args .text .now)) (c .before .before .before .before .before .before .a .given .1))) in omega (arith, (c .before .before .before .before .before .before .before .before .before .before .before .before .before .before .pre .0))
 
 add-insert-2 : tie.Need-add-insert-2 Inv-loop μ-loop
-add-insert-2 c = let g = (link-below (c .before .before .before .before .before .before .before .before .before .before .before .before .before .before .args .n) (edgesIn (c .before .before .before .before .before .before .before .before .before .before .before .loop .bits)) (drop (c .before .before .before .before .before .before .before .before .before .before .before .loop .next) (c .before .before .before .before .before .before .before .before .before .before .before .before .before .before .args .text .now)) (c .before .before .before .before .before .before .a .given .0 .0) (c .before .before .before .before .before .before .a .given .0 .1 .0) (drop (c .before .before .before .before .before .before .a .given .0 .1 .1 .0) (c .before .before .before .before .before .before .before .before .before .before .before .before .before .before .args .text .now)) (sym (c .before .before .before .before .before .before .before .before .link-at .ensures) ∙ ap (stepAnswer (c .before .before .before .before .before .before .before .before .before .before .before .before .before .before .args .text .now)) (c .before .before .before .before .before .before .a .given .1))) in omega (arith, (c .before .before .before .before .before .before .before .before .before .before .before .before .before .before .pre .0))
+add-insert-2 c = let g = (link-below (c .before .before .before .before .before .before .before .before .before .before .before .before .before .before .args .n) (edgesIn (c .before .before .before .before .before .before .before .before .before .before .before .loop .bits)) (drop (c .before .before .before .before .before .before .before .before .before .before .before .loop .next) (c .before .before .before .before .before .before .before .before .before .before .before .before .before .before .args .text .now)) (c .before .before .before .before .before .before .a .given .0 .0) (c .before .before .before .before .before .before .a .given .0 .1 .0) (drop (c .before .before .before .before .before .before .a .given .0 .1 .1 .0) (c .before .before .before .before .before .before .before .before .before .before .before .before .before .before .args .text .now)) (sym (c .before .before .before .before .before .before .before .before .link-at .ensures) ∙ ap (lineAnswer (c .before .before .before .before .before .before .before .before .before .before .before .before .before .before .args .text .now)) (c .before .before .before .before .before .before .a .given .1))) in omega (arith, (c .before .before .before .before .before .before .before .before .before .before .before .before .before .before .pre .0))
 
 insert-requires-2 : tie.Need-insert-requires-2 Inv-loop μ-loop
-insert-requires-2 c κs = let g = (link-below (c .before .before .before .before .before .before .before .before .before .before .before .before .before .before .args .n) (edgesIn (c .before .before .before .before .before .before .before .before .before .before .before .loop .bits)) (drop (c .before .before .before .before .before .before .before .before .before .before .before .loop .next) (c .before .before .before .before .before .before .before .before .before .before .before .before .before .before .args .text .now)) (c .before .before .before .before .before .before .a .given .0 .0) (c .before .before .before .before .before .before .a .given .0 .1 .0) (drop (c .before .before .before .before .before .before .a .given .0 .1 .1 .0) (c .before .before .before .before .before .before .before .before .before .before .before .before .before .before .args .text .now)) (sym (c .before .before .before .before .before .before .before .before .link-at .ensures) ∙ ap (stepAnswer (c .before .before .before .before .before .before .before .before .before .before .before .before .before .before .args .text .now)) (c .before .before .before .before .before .before .a .given .1))) in omega (arith, (c .before .before .before .before .before .before .before .before .before .before .before .before .before .before .pre .0), ((c .before .before .before .before .before .before .before .before .before .before .before .loop .inv) .held .long), (c .before .before .before .insert .kept .0))
+insert-requires-2 c κs = let g = (link-below (c .before .before .before .before .before .before .before .before .before .before .before .before .before .before .args .n) (edgesIn (c .before .before .before .before .before .before .before .before .before .before .before .loop .bits)) (drop (c .before .before .before .before .before .before .before .before .before .before .before .loop .next) (c .before .before .before .before .before .before .before .before .before .before .before .before .before .before .args .text .now)) (c .before .before .before .before .before .before .a .given .0 .0) (c .before .before .before .before .before .before .a .given .0 .1 .0) (drop (c .before .before .before .before .before .before .a .given .0 .1 .1 .0) (c .before .before .before .before .before .before .before .before .before .before .before .before .before .before .args .text .now)) (sym (c .before .before .before .before .before .before .before .before .link-at .ensures) ∙ ap (lineAnswer (c .before .before .before .before .before .before .before .before .before .before .before .before .before .before .args .text .now)) (c .before .before .before .before .before .before .a .given .1))) in omega (arith, (c .before .before .before .before .before .before .before .before .before .before .before .before .before .before .pre .0), ((c .before .before .before .before .before .before .before .before .before .before .before .loop .inv) .held .long), (c .before .before .before .insert .kept .0))
 
 add-k : tie.Need-add-k Inv-loop μ-loop
 add-k c = search needs
@@ -61,7 +61,7 @@ loop-less : tie.Need-loop-less Inv-loop μ-loop
 loop-less c = search needs
 
 loop-again : tie.Need-loop-again Inv-loop μ-loop
-loop-again c = progress-taken (c .before .before .before .before .before .before .before .before .before .before .before .before .before .before .before .before .before .args .n) (c .before .before .before .before .before .before .before .before .before .before .before .before .before .before .before .before .before .args .m) (c .before .before .before .before .before .before .before .before .before .before .before .before .before .before .before .before .before .args .text .now) (c .before .before .before .before .before .before .before .before .before .before .before .before .before .before .before .before .before .args .at) (c .before .before .before .before .before .before .before .before .before .before .before .before .before .before .loop .bits) (c .before .before .before .before .before .before .before .before .before .before .before .before .before .before .loop .next) (c .before .before .before .before .before .before .before .before .before .before .before .before .before .before .loop .k) (c .before .before .before .before .before .before .before .before .before .before .before .before .before .before .before .before .before .pre .0) (c .before .before .before .before .before .before .before .before .before .before .before .before .before .before .loop .inv) (c .before .before .before .before .before .before .before .before .before .before .before .before .before .loop-test .taken) (c .before .before .before .before .before .before .before .before .before .a .given .0 .0) (c .before .before .before .before .before .before .before .before .before .a .given .0 .1 .0) (c .before .before .before .before .before .before .before .before .before .a .given .0 .1 .1 .0) (c .before .before .before .before .before .before .insert .last .0) (c .before .before .insert2 .last .0) (sym (c .before .before .before .before .before .before .before .before .before .before .before .link-at .ensures) ∙ ap (stepAnswer (c .before .before .before .before .before .before .before .before .before .before .before .before .before .before .before .before .before .args .text .now)) (c .before .before .before .before .before .before .before .before .before .a .given .1)) ((c .before .before .insert2 .kept .0) ∙ (c .before .before .before .before .before .before .insert .kept .0)) (c .before .before .before .before .before .before .insert .ensures) (c .before .before .insert2 .ensures)
+loop-again c = progress-taken (c .before .before .before .before .before .before .before .before .before .before .before .before .before .before .before .before .before .args .n) (c .before .before .before .before .before .before .before .before .before .before .before .before .before .before .before .before .before .args .m) (c .before .before .before .before .before .before .before .before .before .before .before .before .before .before .before .before .before .args .text .now) (c .before .before .before .before .before .before .before .before .before .before .before .before .before .before .before .before .before .args .at) (c .before .before .before .before .before .before .before .before .before .before .before .before .before .before .loop .bits) (c .before .before .before .before .before .before .before .before .before .before .before .before .before .before .loop .next) (c .before .before .before .before .before .before .before .before .before .before .before .before .before .before .loop .k) (c .before .before .before .before .before .before .before .before .before .before .before .before .before .before .before .before .before .pre .0) (c .before .before .before .before .before .before .before .before .before .before .before .before .before .before .loop .inv) (c .before .before .before .before .before .before .before .before .before .before .before .before .before .loop-test .taken) (c .before .before .before .before .before .before .before .before .before .a .given .0 .0) (c .before .before .before .before .before .before .before .before .before .a .given .0 .1 .0) (c .before .before .before .before .before .before .before .before .before .a .given .0 .1 .1 .0) (c .before .before .before .before .before .before .insert .last .0) (c .before .before .insert2 .last .0) (sym (c .before .before .before .before .before .before .before .before .before .before .before .link-at .ensures) ∙ ap (lineAnswer (c .before .before .before .before .before .before .before .before .before .before .before .before .before .before .before .before .before .args .text .now)) (c .before .before .before .before .before .before .before .before .before .a .given .1)) ((c .before .before .insert2 .kept .0) ∙ (c .before .before .before .before .before .before .insert .kept .0)) (c .before .before .before .before .before .before .insert .ensures) (c .before .before .insert2 .ensures)
 
 same-length-2 : tie.Need-same-length-2 Inv-loop μ-loop
 same-length-2 c = ((c .before .before .loop .inv) .held .long) ∙ sym (ap length (c .before .before .before .before .before .pre .1) ∙ length-replicate {A = ℕ} 16384 0)
