@@ -9,10 +9,10 @@ fn main() {
     let folder = here.join("../target/staticlib");
     println!(
         "cargo:rerun-if-changed={}",
-        folder.join("liblibrary.a").display()
+        folder.join("libpuxerdau.a").display()
     );
     println!("cargo:rustc-link-search=native={}", folder.display());
-    println!("cargo:rustc-link-lib=static=library");
+    println!("cargo:rustc-link-lib=static=puxerdau");
     println!("cargo:rustc-check-cfg=cfg(igraph)");
     println!("cargo:rerun-if-changed=igraph.c");
     link_igraph(&here);

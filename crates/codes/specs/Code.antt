@@ -7,11 +7,11 @@ use Rattle.model.specs.declared.Route.the-variants.{Itself, Low, Through, NoRou
 use Rattle.model.specs.declared.Answer.{Answer}
 use Rattle.model.specs.declared.Verdict.{Verdict}
 use Rattle.model.specs.declared.Verdict.the-variants.{Parted, Long, Short}
-use Rattle.model.specs.declared.Tested.{Tested}
+use Rattle.model.specs.declared.TestResult.{TestResult}
 use Rattle.model.specs.Answers.{Outcome, refused, answered}
 
 -- the low 16 bits are document 01's number of the refusal, or 0 where there is an answer; above them stand the answer's values. That
--- each value fits its field is proved in library/proofs/Fits.antt
+-- each value fits its field is proved in puxerdau/proofs/Fits.antt
 abbrev pub code : {A : Type 0} → (values : A → ℕ) → Outcome A → ℕ
 code values (refused k) = k
 code values (answered x) = 65536 * values x
@@ -45,5 +45,5 @@ verdictField Long = 1
 verdictField Short = 2
 
 -- two fields of 16 bits: the verdict, then the count of searches
-abbrev pub tested : Tested → ℕ
-tested x = verdictField (x .verdict) + 65536 * x .searches
+abbrev pub testField : TestResult → ℕ
+testField x = verdictField (x .verdict) + 65536 * x .searches

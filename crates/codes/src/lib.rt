@@ -5,13 +5,13 @@ use model::Counting;
 use model::Reading;
 use model::Route;
 use model::Size;
-use model::Tested;
+use model::TestResult;
 use model::Testing;
 use model::Verdict;
 ghost use mathlib.Core.Path.{_≡_};
 ghost use Prim.Native.Nat.{ℕ, _<_, _^_};
 ghost use Rattle.model.specs.Answers.{answered, acceptAnswer, readAnswer, countAnswer, pairAnswer, testAnswer};
-ghost use Rattle.codes.specs.Code.{code, nothing, count, size, routeField, answerField, verdictField, tested};
+ghost use Rattle.codes.specs.Code.{code, nothing, count, size, routeField, answerField, verdictField, testField};
 
 // What acceptance answers, as one number.
 pub fn accepting_code(x: Accepting) -> u64
@@ -85,12 +85,12 @@ fn verdict_field(x: Verdict) -> u64
 
 // What testing answers, as one number.
 pub fn testing_code(x: Testing) -> u64
-    requires { ⌜ ((t : Tested) → testAnswer x ≡ answered t → t .searches < 65536) ⌝ }
-    ensures { λ r. ⌜ r ≡ code tested (testAnswer x) ⌝ }
+    requires { ⌜ ((t : TestResult) → testAnswer x ≡ answered t → t .searches < 65536) ⌝ }
+    ensures { λ r. ⌜ r ≡ code testField (testAnswer x) ⌝ }
 {
     match x {
         Testing::Refused(k) => refusals::refusal_number(k) as u64,
-        Testing::Tested(t) => {
+        Testing::Answered(t) => {
             let verdict = t.verdict;
             65536 * (verdict_field(verdict) + 65536 * (t.searches as u64))
         }

@@ -12,7 +12,7 @@ use lib.ListN.{length, replicate}
 use Rattle.model.specs.Survey.{Graph}
 use Rattle.model.specs.Hubs.{isHigh, isLow}
 use Rattle.model.proofs.Tests.{ltb-next, eq-or}
-use Rattle.nodeset.specs.NodeSet.{Nodes, member, emptySet, with, without}
+use Rattle.nodeset.specs.NodeSet.{Nodes, member, emptySet, inserted, difference}
 use Rattle.nodeset.proofs.Bits.{empty-words}
 
 -- the high nodes below v are in the set
@@ -29,8 +29,8 @@ module _ (s : ℕ) (G : Graph) (ws : List ℕ) where
   }
 
   module _ (v : ℕ) (h : HighBelow s G ws v) where
-    pub high-with : (ws′ : List ℕ) → s ≤ length (G v) → length ws′ ≡ length ws → member ws′ ≡ with (member ws) v → HighBelow s G ws′ (v + 1)
-    unfolding with isHigh
+    pub high-with : (ws′ : List ℕ) → s ≤ length (G v) → length ws′ ≡ length ws → member ws′ ≡ inserted (member ws) v → HighBelow s G ws′ (v + 1)
+    unfolding inserted isHigh
     high-with ws′ l k e = record {
       long = k ∙ h .long;
       says = e ∙ fun-ext (λ x. ap (λ (p : Nodes). eqb x v || p x) (h .says) ∙ ⊎-elim (λ q. at x q) (λ d. ap₂ (λ (a b : Bool). a || (b && isHigh s G x)) (ne-eqb x v d) (ltb-next x v d)) (eq-or x v));
@@ -57,9 +57,9 @@ module _ (s : ℕ) (G : Graph) (ws : List ℕ) where
     high-all n e = h .says ∙ ap {B = Nodes} (λ (k : ℕ) (x : ℕ). ltb x k && isHigh s G x) e
 
 -- the nodes below n that are not high are the low ones
-pub low-set : (n s : ℕ) (G : Graph) (all high low : ℕ → Bool) → all ≡ (λ v. ltb v n) → high ≡ (λ v. ltb v n && isHigh s G v) → low ≡ without all high
+pub low-set : (n s : ℕ) (G : Graph) (all high low : ℕ → Bool) → all ≡ (λ v. ltb v n) → high ≡ (λ v. ltb v n && isHigh s G v) → low ≡ difference all high
     → low ≡ (λ v. ltb v n && isLow s G v)
-unfolding without isLow
+unfolding difference isLow
 low-set n s G all high low a h l =
     l ∙ ap₂ (λ (f g : ℕ → Bool). λ v. f v && not (g v)) a h ∙ fun-ext (λ v. at (ltb v n) (isHigh s G v))
   where

@@ -30,5 +30,5 @@ pub fn low_nodes(n: usize, s: usize, starts: &[u32], neighbours: &[u16], words: 
     let mut high = [0u64; 16];
     high_nodes(n, s, starts, neighbours, &mut high);
     nodeset::insert_below(words, n);
-    nodeset::remove(words, &high);
+    nodeset::subtract(words, &high);
 }

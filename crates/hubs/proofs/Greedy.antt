@@ -19,7 +19,7 @@ use Rattle.model.specs.Tables.{hubList}
 use Rattle.model.proofs.Covering.{best-is, best-of, best-gains, hubs-length}
 use Rattle.model.proofs.Lists.{has-head, of-keep, of-upTo, keep-split, length-pos}
 use Rattle.model.proofs.Loops.{below-next}
-use Rattle.nodeset.specs.NodeSet.{member, without}
+use Rattle.nodeset.specs.NodeSet.{member, difference}
 use Rattle.hubs.proofs.Sets.{some-left, none-left, high-kept, covered-kept}
 
 -- ---- the best node
@@ -153,7 +153,7 @@ module _ {n s : ℕ} {G : Graph} {list₀ list us : List ℕ} {count : ℕ} (c :
       pub choosing-node : best n G (keep (member us) (upTo n)) < n
       choosing-node = best-is n G (keep (member us) (upTo n)) (omega arith) .below
 
-      chosen : (us′ : List ℕ) → length us′ ≡ length us → member us′ ≡ without (member us) (λ x. has x (closed G (best n G (keep (member us) (upTo n)))))
+      chosen : (us′ : List ℕ) → length us′ ≡ length us → member us′ ≡ difference (member us) (λ x. has x (closed G (best n G (keep (member us) (upTo n)))))
           → Choosing n s G list₀ (set list count (best n G (keep (member us) (upTo n)))) us′ (count + 1)
       chosen us′ l m =
           let W = keep (member us) (upTo n) in
@@ -172,10 +172,10 @@ module _ {n s : ℕ} {G : Graph} {list₀ list us : List ℕ} {count : ℕ} (c :
           }
 
       pub choosing-more : {hub : ℕ} {us′ : List ℕ} → hub ≡ best n G (keep (member us) (upTo n)) → length us′ ≡ length us
-          → member us′ ≡ without (member us) (λ x. has x (closed G hub)) → Choosing n s G list₀ (set list count hub) us′ (count + 1)
+          → member us′ ≡ difference (member us) (λ x. has x (closed G hub)) → Choosing n s G list₀ (set list count hub) us′ (count + 1)
       choosing-more {us′ = us′} q l m =
           subst (λ (v : ℕ). Choosing n s G list₀ (set list count v) us′ (count + 1)) (sym q)
-          (chosen us′ l (m ∙ ap (λ (v : ℕ). without (member us) (λ x. has x (closed G v))) q))
+          (chosen us′ l (m ∙ ap (λ (v : ℕ). difference (member us) (λ x. has x (closed G v))) q))
 
     -- no node is uncovered: the hubs are written, and none behind them
     module _ (h : n ≤ r) where

@@ -15,7 +15,7 @@ use Rattle.model.specs.Hubs.{isHigh, closed, gain}
 use Rattle.model.proofs.Tests.{and-r, or-turned}
 use Rattle.model.proofs.Lists.{of-cons, has-keep, has-upTo, of-upTo, keep-same, keep-keep, keep-none, keep-below, First, found, nothing, first-of}
 use Rattle.model.proofs.Loops.{drop-next}
-use Rattle.nodeset.specs.NodeSet.{Nodes, member, emptySet, with, both, without}
+use Rattle.nodeset.specs.NodeSet.{Nodes, member, emptySet, inserted, intersection, difference}
 use Rattle.nodeset.proofs.Bits.{empty-words}
 use Rattle.nodeset.proofs.Words.{past-smallest}
 
@@ -31,8 +31,8 @@ module _ (list w₀ : List ℕ) where
   inserted-none = record { same = refl; says = λ x. refl }
 
   module _ (ws : List ℕ) (i : ℕ) (h : Inserted list w₀ ws i) where
-    pub inserted-more : (ws′ : List ℕ) → i < length list → length ws′ ≡ length ws → member ws′ ≡ with (member ws) (getD list i 0) → Inserted list w₀ ws′ (i + 1)
-    unfolding has with
+    pub inserted-more : (ws′ : List ℕ) → i < length list → length ws′ ≡ length ws → member ws′ ≡ inserted (member ws) (getD list i 0) → Inserted list w₀ ws′ (i + 1)
+    unfolding has inserted
     inserted-more ws′ l k e = record {
       same = k ∙ h .same;
       says = λ x.
@@ -59,23 +59,23 @@ module _ (n : ℕ) (starts neighbours : List ℕ) (a : Accepted n starts neighbo
   closed-below x t = ⊎-elim (λ e. omega arith) (λ r. own-below x r) (of-cons x v (G v) t)
 
   -- the node, and then its neighbours
-  pub closed-words : (w₀ w₁ w₂ row : List ℕ) → w₀ ≡ replicate 16 0 → member w₁ ≡ with (member w₀) v
+  pub closed-words : (w₀ w₁ w₂ row : List ℕ) → w₀ ≡ replicate 16 0 → member w₁ ≡ inserted (member w₀) v
       → row ≡ neighboursOf starts neighbours v → member w₂ ≡ (λ x. has x row || member w₁ x) → member w₂ ≡ (λ x. has x (closed (neighboursOf starts neighbours) v))
-  unfolding closed has with emptySet
+  unfolding closed has inserted emptySet
   closed-words w₀ w₁ w₂ row e p r q =
       q ∙ fun-ext (λ x.
-      ap₂ (λ (l : List ℕ) (m : Nodes). has x l || m x) r (p ∙ ap (λ (m : Nodes). with m v) (ap member e ∙ empty-words 16))
+      ap₂ (λ (l : List ℕ) (m : Nodes). has x l || m x) r (p ∙ ap (λ (m : Nodes). inserted m v) (ap member e ∙ empty-words 16))
       ∙ ap (λ (b : Bool). has x (G v) || b) (or-false (eqb x v))
       ∙ or-comm (has x (G v)) (eqb x v))
 
   -- what it has in common with the uncovered nodes is the gain
   pub gain-words : (ws us : List ℕ) → length ws ≡ 16 → member ws ≡ (λ x. has x (closed (neighboursOf starts neighbours) v))
-      → length (keep (both (member ws) (member us)) (upTo (64 * length ws))) ≡ gain (neighboursOf starts neighbours) (keep (member us) (upTo n)) v
-  unfolding gain both
+      → length (keep (intersection (member ws) (member us)) (upTo (64 * length ws))) ≡ gain (neighboursOf starts neighbours) (keep (member us) (upTo n)) v
+  unfolding gain intersection
   gain-words ws us l e =
       let c : Nodes = λ x. has x (closed G v) in
       let k : 64 * length ws ≡ 1024 = omega arith in
-      let swapped : both (member ws) (member us) ≡ (λ x. member us x && c x) = fun-ext (λ x. ap (λ (p : Nodes). p x && member us x) e ∙ and-comm (c x) (member us x)) in
+      let swapped : intersection (member ws) (member us) ≡ (λ x. member us x && c x) = fun-ext (λ x. ap (λ (p : Nodes). p x && member us x) e ∙ and-comm (c x) (member us x)) in
       ap₂ (λ (p : Nodes) (m : ℕ). length (keep p (upTo m))) swapped k
       ∙ ap length (
       keep-below (λ x. member us x && c x) n 1024 (a .size) (λ x t. closed-below x (and-r (member us x) (c x) t))
@@ -102,6 +102,6 @@ high-kept n s G ws e =
     ∙ keep-same (λ x. ltb x n && isHigh s G x) (isHigh s G) (upTo n) (λ x m t. and-r (ltb x n) (isHigh s G x) t)
     (λ x m t. subst (λ (b : Bool). T (b && isHigh s G x)) (sym (lt-ltb x n (of-upTo n x m))) t)
 
-pub covered-kept : (n : ℕ) (us us′ : List ℕ) (c : Nodes) → member us′ ≡ without (member us) c → keep (member us′) (upTo n) ≡ keep (λ x. not (c x)) (keep (member us) (upTo n))
-unfolding without
+pub covered-kept : (n : ℕ) (us us′ : List ℕ) (c : Nodes) → member us′ ≡ difference (member us) c → keep (member us′) (upTo n) ≡ keep (λ x. not (c x)) (keep (member us) (upTo n))
+unfolding difference
 covered-kept n us us′ c e = ap (λ (p : Nodes). keep p (upTo n)) e ∙ sym (keep-keep (λ x. not (c x)) (member us) (upTo n))

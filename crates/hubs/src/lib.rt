@@ -9,7 +9,7 @@ ghost use Rattle.model.specs.Basics.{upTo, has, keep, over};
 ghost use Rattle.model.specs.Survey.{neighboursOf, Accepted};
 ghost use Rattle.model.specs.Hubs.{closed, gain, best, hubs};
 ghost use Rattle.model.specs.Tables.{hubList};
-ghost use Rattle.nodeset.specs.NodeSet.{member, without};
+ghost use Rattle.nodeset.specs.NodeSet.{member, difference};
 
 // Puts the nodes of a list into the set.
 fn insert_list(list: &[u16], set: &mut [u64])
@@ -40,7 +40,7 @@ fn gain_of(n: usize, starts: &[u32], neighbours: &[u16], v: usize, uncovered: &[
 {
     let mut near = [0u64; 16];
     insert_closed(n, starts, neighbours, v, &mut near);
-    nodeset::common(&near, uncovered)
+    nodeset::count_intersection(&near, uncovered)
 }
 
 // The node whose closed neighbourhood holds most uncovered nodes, the smallest number on a tie.
@@ -65,11 +65,11 @@ fn best_node(n: usize, starts: &[u32], neighbours: &[u16], uncovered: &[u64]) ->
 // Takes the closed neighbourhood of a node out of the uncovered nodes.
 fn cover(n: usize, starts: &[u32], neighbours: &[u16], v: usize, uncovered: &mut [u64])
     requires { ⌜ Accepted n (now starts) (now neighbours) × (v < n) × (length (now uncovered) ≡ 16) ⌝ }
-    ensures { λ _. ⌜ member (now (uncovered .exit)) ≡ without (member (now (uncovered .entry))) (λ x. has x (closed (neighboursOf (now (starts .entry)) (now (neighbours .entry))) v)) ⌝ }
+    ensures { λ _. ⌜ member (now (uncovered .exit)) ≡ difference (member (now (uncovered .entry))) (λ x. has x (closed (neighboursOf (now (starts .entry)) (now (neighbours .entry))) v)) ⌝ }
 {
     let mut near = [0u64; 16];
     insert_closed(n, starts, neighbours, v, &mut near);
-    nodeset::remove(uncovered, &near);
+    nodeset::subtract(uncovered, &near);
 }
 
 // The hubs for threshold s in the order chosen, then none, in the first n entries of the list; their count is returned.

@@ -16,7 +16,7 @@ use Rattle.model.proofs.Chains.{stay, step}
 use Rattle.model.proofs.Entries.{getD-row, length-row}
 use Rattle.model.proofs.Lists.{none-in, of-single, any-of, of-any, has-keep, of-keep, has-upTo, of-upTo, First, found, nothing, first-below, first-is, keep-none}
 use Rattle.model.proofs.Tests.{and-l, and-r, and-i, or-l, or-r, or-e, passes, no-false, false-no, T-false, same-test, eq-or}
-use Rattle.nodeset.specs.NodeSet.{Nodes, member, emptySet, with, both, without}
+use Rattle.nodeset.specs.NodeSet.{Nodes, member, emptySet, inserted, intersection, difference}
 use Rattle.nodeset.proofs.Bits.{empty-words}
 use Rattle.layers.specs.Marks.{marked}
 use Rattle.layers.proofs.Marks.{marked-length, marked-in, marked-out}
@@ -79,9 +79,9 @@ module _ (E : Edges) (n s : ℕ) where
     pub left : (x : ℕ) → u x ≡ (ltb x n && not (has x (reach E n s k)))
     pub joined : (x : ℕ) → d x ≡ any (λ v. E v x) (before k)
 
-  pub turn-start : (row : List ℕ) (f u₀ u : Nodes) → row ≡ replicate n none → f ≡ with (member (replicate 16 0)) s
-      → u₀ ≡ (λ v. ltb v n) → u ≡ without u₀ (λ x. eqb x s) → Turn 0 row f u (member (replicate 16 0))
-  unfolding before reach has any upTo from firstOf with without emptySet
+  pub turn-start : (row : List ℕ) (f u₀ u : Nodes) → row ≡ replicate n none → f ≡ inserted (member (replicate 16 0)) s
+      → u₀ ≡ (λ v. ltb v n) → u ≡ difference u₀ (λ x. eqb x s) → Turn 0 row f u (member (replicate 16 0))
+  unfolding before reach has any upTo from firstOf inserted difference emptySet
   turn-start row f u₀ u r e a b = record {
     size = ap length r ∙ length-replicate n none;
     known = λ x h. ap (λ (l : List ℕ). getD l x 0) r ∙ getD-replicate n x none 0 h;
@@ -146,8 +146,8 @@ module _ (E : Edges) (n s : ℕ) where
               old t (inr b) = absurd (o (of-front x t b))
 
       pub turn-next : (row′ : List ℕ) (f′ u′ d′ : Nodes) → row′ ≡ marked k (keep f (upTo 1024)) row → d′ ≡ (λ x. any (λ v. E v x) (keep f (upTo 1024)) || d x)
-          → f′ ≡ both u d′ → u′ ≡ without u f′ → Turn (suc k) row′ f′ u′ d′
-      unfolding before both without
+          → f′ ≡ intersection u d′ → u′ ≡ difference u f′ → Turn (suc k) row′ f′ u′ d′
+      unfolding before intersection difference
       turn-next row′ f′ u′ d′ r e a b = record {
         size = ap length r ∙ marked-length k (keep f (upTo 1024)) row ∙ m .size;
         known = λ x h. ap (λ (l : List ℕ). getD l x 0) r ∙ known-next x h;
@@ -190,7 +190,7 @@ module _ (E : Edges) (n s : ℕ) where
             (subst (λ (i : ℕ). T (has x (reach E n s i))) (sym (j .1)) (step E n s (j .0) (v .0) x h (j .2) (v .2)))))
 
         turn-idle : Turn (suc k) row f u d
-        unfolding marked any both without
+        unfolding marked any intersection difference
         turn-idle =
             let none-kept : keep f (upTo 1024) ≡ [] = keep-none f (upTo 1024) (λ x q t. empty x t) in
             turn-next row f u d
@@ -216,6 +216,6 @@ module _ (E : Edges) (n s : ℕ) where
     turn-empty k row f u d h m gone = turn-last row f u d (idle-rest (n - k) k row f u d (omega arith) m gone)
 
     pub turn-more : (k : ℕ) (row row′ : List ℕ) (f u d f′ u′ d′ : Nodes) → Turn k row f u d → row′ ≡ marked k (keep f (upTo 1024)) row
-        → d′ ≡ (λ x. any (λ v. E v x) (keep f (upTo 1024)) || d x) → f′ ≡ both u d′ → u′ ≡ without u f′ → Turn (k + 1) row′ f′ u′ d′
+        → d′ ≡ (λ x. any (λ v. E v x) (keep f (upTo 1024)) || d x) → f′ ≡ intersection u d′ → u′ ≡ difference u f′ → Turn (k + 1) row′ f′ u′ d′
     turn-more k row row′ f u d f′ u′ d′ m r e a b =
         subst (λ (j : ℕ). Turn j row′ f′ u′ d′) (sym (add-one k)) (turn-next k row f u d m row′ f′ u′ d′ r e a b)

@@ -65,7 +65,7 @@ pub fn search(n: usize, rows: &[u64], source: usize, row: &mut [u16])
     nodeset::insert(&mut layer, source);
     let mut unvisited = [0u64; 16];
     nodeset::insert_below(&mut unvisited, n);
-    nodeset::take_out(&mut unvisited, source);
+    nodeset::remove(&mut unvisited, source);
     let mut found = [0u64; 16];
     let mut k = 0;
     while k < n {
@@ -73,8 +73,8 @@ pub fn search(n: usize, rows: &[u64], source: usize, row: &mut [u16])
             return;
         }
         mark_layer(&layer, k as u16, rows, row, &mut found);
-        nodeset::write_common(&unvisited, &found, &mut layer);
-        nodeset::remove(&mut unvisited, &layer);
+        nodeset::write_intersection(&unvisited, &found, &mut layer);
+        nodeset::subtract(&mut unvisited, &layer);
         k += 1;
     }
 }

@@ -15,7 +15,7 @@ use Rattle.model.specs.Survey.{Graph, IsGraph}
 use Rattle.model.proofs.Acceptance.{linked-is, linked-has, linked-of}
 use Rattle.model.proofs.Loops.{drop-next}
 use Rattle.model.proofs.Tests.{and-l, and-r, and-i, true-T, same-test, eq-or, ltb-next}
-use Rattle.nodeset.specs.NodeSet.{Nodes, member, with}
+use Rattle.nodeset.specs.NodeSet.{Nodes, member, inserted}
 use Rattle.nodeset.specs.Matrix.{edgesIn}
 use Rattle.nodeset.proofs.Matrix.{same-edges, edge-with, edges-none}
 
@@ -27,7 +27,7 @@ pub link-not : (E : Edges) (p : Nodes) (v w : ℕ) → p w ≡ false → E ≡ (
 link-not E p v w e = same-edges E (λ u x. (eqb u v && (eqb x w && p x)) || E u x) (λ u x.
     sym (rw (at-one p x w false e, and-false (eqb x w), and-false (eqb u v)) refl))
 
-pub link-put : (ws ws′ : List ℕ) (p : Nodes) (v w : ℕ) → w < 1024 → p w ≡ true → member ws′ ≡ with (member ws) (1024 * v + w)
+pub link-put : (ws ws′ : List ℕ) (p : Nodes) (v w : ℕ) → w < 1024 → p w ≡ true → member ws′ ≡ inserted (member ws) (1024 * v + w)
     → edgesIn ws′ ≡ (λ u x. (eqb u v && (eqb x w && p x)) || edgesIn ws u x)
 link-put ws ws′ p v w h t e =
     edge-with ws ws′ v w h e

@@ -21,7 +21,7 @@ use Rattle.model.specs.Survey.{Graph, IsGraph}
 use Rattle.model.specs.Graph.{linked}
 use Rattle.model.specs.Threshold.{threshold}
 use Rattle.model.specs.Hubs.{hubs}
-use Rattle.model.specs.Tables.{entry, fullTable, lowTable, reportTable}
+use Rattle.model.specs.Tables.{entryAt, fullTable, lowTable, reportTable}
 use Rattle.model.specs.Pair.{answer, attaining, choose, pairBy, pair}
 use Rattle.model.specs.Listing.{reportText, routeText, pairLine, pairLines, listingOf, listingText}
 use Rattle.model.proofs.Acceptance.{linked-ends}
@@ -66,7 +66,7 @@ module _ (a b : ℕ) (ha : a < 1000) (hb : b < 1000) where
       (λ _. picked P (eqb l r) _ _ (λ _. line-few r Low hr (omega arith))
       (λ _. picked P (eqb h none) _ _ (λ _. no 11) (λ _. line-few r (Through h) hr (length-le 4 h (omega arith))))))
 
-  answer-few : (n : ℕ) (full low report : List ℕ) → n ≤ 128 → entry n report a b ≤ none → length (answerText n full low report a b) ≤ 24
+  answer-few : (n : ℕ) (full low report : List ℕ) → n ≤ 128 → entryAt n report a b ≤ none → length (answerText n full low report a b) ≤ 24
   unfolding pair pairBy attaining
   answer-few n full low report size h = choice-few _ _ _ h (first-most _ none n (omega arith))
 
@@ -84,7 +84,7 @@ gather-few f k (x ∷ l) h =
       gather-few f k l (λ y m. h y (has-tail y x l m)),
     )
 
-report-most : (n s : ℕ) (G : Graph) → IsGraph n G → n ≤ 1024 → (a b : ℕ) → a < n → b < n → entry n (reportTable n s G) a b ≤ none
+report-most : (n s : ℕ) (G : Graph) → IsGraph n G → n ≤ 1024 → (a b : ℕ) → a < n → b < n → entryAt n (reportTable n s G) a b ≤ none
 report-most n s G g size a b ha hb =
     let r = allowed n s G g size a b ha hb in
     ⊎-elim

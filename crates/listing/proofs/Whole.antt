@@ -21,10 +21,10 @@ use Rattle.model.specs.Survey.{Graph, neighboursOf, Accepted}
 use Rattle.model.specs.Threshold.{threshold}
 use Rattle.model.specs.Hubs.{hubs}
 use Rattle.model.specs.Tables.{fullTable, lowTable, reportTable}
-use Rattle.model.specs.Building.{Building, built}
+use Rattle.model.specs.Building.{AfterBuilding, built}
 use Rattle.model.specs.Reading as reading
 use Rattle.model.specs.Reading.{Parsed, parse, readingOf}
-use Rattle.model.specs.Writing.{writingOf, returned}
+use Rattle.model.specs.Writing.{writingOf, writeReturned}
 use Rattle.model.specs.Listing.{pairLines, listingOf, listingText, listing}
 use Rattle.model.proofs.Covering.{hubs-length}
 use Rattle.model.proofs.Entries.{length-table}
@@ -41,7 +41,7 @@ module _ (n s : ℕ) (G : Graph) (full low report list full′ low′ report′ 
     (e : record { answer = answered count; full = full′; low = low′; report = report′; hubs = list′ } ≡ built n s G full low report list) where
   pub count-is : count ≡ length (hubs n s G)
   unfolding built numberIn
-  count-is = ap (λ (b : Building). numberIn (λ k. k) (b .answer)) e
+  count-is = ap (λ (b : AfterBuilding). numberIn (λ k. k) (b .answer)) e
 
   pub count-few : count ≤ n
   count-few = omega (arith, count-is, hubs-length n G s)
@@ -49,15 +49,15 @@ module _ (n s : ℕ) (G : Graph) (full low report list full′ low′ report′ 
   module _ (s-is : s ≡ threshold n) (full-size : length full ≡ n * n) (low-size : length low ≡ n * n) (report-size : length report ≡ n * n) where
     full-is : full′ ≡ fullTable n s G
     unfolding built fullTable
-    full-is = ap (λ (b : Building). b .full) e ∙ over-whole (fullTable n s G) full (full-size ∙ sym (length-table n _))
+    full-is = ap (λ (b : AfterBuilding). b .full) e ∙ over-whole (fullTable n s G) full (full-size ∙ sym (length-table n _))
 
     low-is : low′ ≡ lowTable n s G
     unfolding built lowTable
-    low-is = ap (λ (b : Building). b .low) e ∙ over-whole (lowTable n s G) low (low-size ∙ sym (length-table n _))
+    low-is = ap (λ (b : AfterBuilding). b .low) e ∙ over-whole (lowTable n s G) low (low-size ∙ sym (length-table n _))
 
     report-is : report′ ≡ reportTable n s G
     unfolding built reportTable
-    report-is = ap (λ (b : Building). b .report) e ∙ over-whole (reportTable n s G) report (report-size ∙ sym (length-table n _))
+    report-is = ap (λ (b : AfterBuilding). b .report) e ∙ over-whole (reportTable n s G) report (report-size ∙ sym (length-table n _))
 
     pub listing-by-tables : lineOf 82 n count ++ pairLines n full′ low′ report′ ≡ listingOf n (threshold n) G
     unfolding listingOf
@@ -70,13 +70,13 @@ module _ (text : List ℕ) (p q : ℕ) (p-is : p ≡ 128 + 1) (q-is : q ≡ 2 * 
   unfolding listing
   listing-said = rw (p-is, q-is) refl
 
-  pub listing-refused : (r : Refusal) → reading.returned (read.Refused r) starts neighbours ≡ readingOf p q (parse 128 2048 p q text) → listingText (refused (number r)) ≡ listing text
+  pub listing-refused : (r : Refusal) → reading.readReturned (read.Refused r) starts neighbours ≡ readingOf p q (parse 128 2048 p q text) → listingText (refused (number r)) ≡ listing text
   unfolding readingOf numberIn
   listing-refused r e = at (parse 128 2048 p q text) refl e ∙ sym listing-said
     where
-      at : (o : Outcome Parsed) → parse 128 2048 p q text ≡ o → reading.returned (read.Refused r) starts neighbours ≡ readingOf p q o → listingText (refused (number r)) ≡ listingText (parse 128 2048 p q text)
-      at (refused k) h e = let j : number r ≡ k = ap (λ (z : reading.Reading). numberIn (λ s. s .nodes) (z .answer)) e in ap (λ (i : ℕ). listingText (refused i)) j ∙ sym (ap listingText h)
-      at (answered x) h e = never (ap (λ (z : reading.Reading). z .answer) e)
+      at : (o : Outcome Parsed) → parse 128 2048 p q text ≡ o → reading.readReturned (read.Refused r) starts neighbours ≡ readingOf p q o → listingText (refused (number r)) ≡ listingText (parse 128 2048 p q text)
+      at (refused k) h e = let j : number r ≡ k = ap (λ (z : reading.AfterReading). numberIn (λ s. s .nodes) (z .answer)) e in ap (λ (i : ℕ). listingText (refused i)) j ∙ sym (ap listingText h)
+      at (answered x) h e = never (ap (λ (z : reading.AfterReading). z .answer) e)
 
   -- a survey that is read
   pub record IsListed (n : ℕ) : Type 0 where
@@ -84,21 +84,21 @@ module _ (text : List ℕ) (p q : ℕ) (p-is : p ≡ 128 + 1) (q-is : q ≡ 2 * 
     pub few : n ≤ 128
     pub lines : listingOf n (threshold n) (neighboursOf starts neighbours) ≡ listing text
 
-  pub listing-read : (x : Size) → reading.returned (read.Read x) starts neighbours ≡ readingOf p q (parse 128 2048 p q text) → IsListed (x .nodes)
+  pub listing-read : (x : Size) → reading.readReturned (read.Read x) starts neighbours ≡ readingOf p q (parse 128 2048 p q text) → IsListed (x .nodes)
   unfolding readingOf listingText numberIn
   listing-read x e = at (parse 128 2048 p q text) refl e
     where
-      at : (o : Outcome Parsed) → parse 128 2048 p q text ≡ o → reading.returned (read.Read x) starts neighbours ≡ readingOf p q o → IsListed (x .nodes)
-      at (refused k) h e = never (sym (ap (λ (z : reading.Reading). z .answer) e))
+      at : (o : Outcome Parsed) → parse 128 2048 p q text ≡ o → reading.readReturned (read.Read x) starts neighbours ≡ readingOf p q o → IsListed (x .nodes)
+      at (refused k) h e = never (sym (ap (λ (z : reading.AfterReading). z .answer) e))
       at (answered y) h e =
-          let j : x .nodes ≡ y .nodes = ap (λ (z : reading.Reading). numberIn (λ s. s .nodes) (z .answer)) e in
+          let j : x .nodes ≡ y .nodes = ap (λ (z : reading.AfterReading). numberIn (λ s. s .nodes) (z .answer)) e in
           record {
             survey =
                 subst (λ (k : ℕ). Accepted k starts neighbours) (sym j)
-                (subst (λ (z : reading.Reading). Accepted (y .nodes) (z .starts) (z .neighbours)) (sym e) (read-accepted 128 2048 p q (omega arith) (omega arith) text y h));
+                (subst (λ (z : reading.AfterReading). Accepted (y .nodes) (z .starts) (z .neighbours)) (sym e) (read-accepted 128 2048 p q (omega arith) (omega arith) text y h));
             few = omega (arith, j, parse-sound 128 2048 p q text y h .within .size);
             lines =
-                ap₂ (λ (k : ℕ) (G : Graph). listingOf k (threshold k) G) j (ap (λ (z : reading.Reading). neighboursOf (z .starts) (z .neighbours)) e ∙ read-graph 128 2048 p q (omega arith) (omega arith) text y h)
+                ap₂ (λ (k : ℕ) (G : Graph). listingOf k (threshold k) G) j (ap (λ (z : reading.AfterReading). neighboursOf (z .starts) (z .neighbours)) e ∙ read-graph 128 2048 p q (omega arith) (omega arith) text y h)
                 ∙ sym (listing-said ∙ ap listingText h);
           }
 
@@ -118,11 +118,11 @@ module _ (t buf buf′ : List ℕ) (e : ℕ) (w : Wrote buf buf′ 0 e t) where
       ap (take e) (o .0) ∙ take-at t (drop (length t) buf) e (sym (o .1))
 
   module _ (buffer : List ℕ) where
-    pub listing-short : length buffer < e → returned (counting.Refused ShortBuffer) buffer ≡ writingOf (answered tt) t buffer
+    pub listing-short : length buffer < e → writeReturned (counting.Refused ShortBuffer) buffer ≡ writingOf (answered tt) t buffer
     listing-short h = sym (write-short t buffer (omega (arith, wrote-over t w .1)))
 
-    pub listing-whole : e ≤ length buffer → (buffer′ : List ℕ) (k : ℕ) → Wrote buffer buffer′ 0 k (take e buf′) → returned (counting.Count e) buffer′ ≡ writingOf (answered tt) t buffer
+    pub listing-whole : e ≤ length buffer → (buffer′ : List ℕ) (k : ℕ) → Wrote buffer buffer′ 0 k (take e buf′) → writeReturned (counting.Count e) buffer′ ≡ writingOf (answered tt) t buffer
     listing-whole h buffer′ k v =
         let l = wrote-over t w .1 in
-        ap₂ (λ (b : List ℕ) (i : ℕ). returned (counting.Count i) b) (wrote-over (take e buf′) v .0 ∙ ap (λ (x : List ℕ). over x buffer) front-is) l
+        ap₂ (λ (b : List ℕ) (i : ℕ). writeReturned (counting.Count i) b) (wrote-over (take e buf′) v .0 ∙ ap (λ (x : List ℕ). over x buffer) front-is) l
         ∙ sym (write-whole t buffer (omega arith))

@@ -10,7 +10,7 @@ ghost use Rattle.model.specs.Answers.{number, refused, answered, countAnswer};
 ghost use Rattle.model.specs.Survey.{neighboursOf, Accepted};
 ghost use Rattle.model.specs.Threshold.{threshold};
 ghost use Rattle.model.specs.Listing.{listingOf, listingText, listing, writingListing};
-ghost use Rattle.model.specs.Writing.{returned};
+ghost use Rattle.model.specs.Writing.{writeReturned};
 ghost use Rattle.listing.specs.Length.{most};
 
 // Writes the listing of a survey from the first byte on, by way of the three tables, and returns its length.
@@ -80,7 +80,7 @@ fn write_text(text: &[u8], buffer: &mut [u8]) -> usize
 // Writes the listing of a text into a buffer, by way of a list of the greatest length.
 fn write_by_way(text: &[u8], lines: &mut [u8], buffer: &mut [u8]) -> Counting
     requires { ⌜ length (now lines) ≡ most ⌝ }
-    ensures { λ r. ⌜ returned r (now (buffer .exit)) ≡ writingListing (now (text .entry)) (now (buffer .entry)) ⌝ }
+    ensures { λ r. ⌜ writeReturned r (now (buffer .exit)) ≡ writingListing (now (text .entry)) (now (buffer .entry)) ⌝ }
     ensures { λ r. ⌜ (most ≤ length (now (buffer .entry)) → countAnswer r ≡ answered (length (listing (now (text .entry))))) ⌝ }
 {
     let length = write_text(text, lines);
@@ -93,7 +93,7 @@ fn write_by_way(text: &[u8], lines: &mut [u8], buffer: &mut [u8]) -> Counting
 
 // The same by way of an array, which is lent without a look at its entries: that keeps the check short.
 fn write_by_array(text: &[u8], lines: &mut [u8; 393240], buffer: &mut [u8]) -> Counting
-    ensures { λ r. ⌜ returned r (now (buffer .exit)) ≡ writingListing (now (text .entry)) (now (buffer .entry)) ⌝ }
+    ensures { λ r. ⌜ writeReturned r (now (buffer .exit)) ≡ writingListing (now (text .entry)) (now (buffer .entry)) ⌝ }
     ensures { λ r. ⌜ (most ≤ length (now (buffer .entry)) → countAnswer r ≡ answered (length (listing (now (text .entry))))) ⌝ }
 {
     write_by_way(text, lines, buffer)
@@ -102,7 +102,7 @@ fn write_by_array(text: &[u8], lines: &mut [u8; 393240], buffer: &mut [u8]) -> C
 // Writes the listing of a text into a buffer. Refused where the buffer is too short, which is then not altered; 393,240 bytes are
 // always enough.
 pub fn write_listing(text: &[u8], buffer: &mut [u8]) -> Counting
-    ensures { λ r. ⌜ returned r (now (buffer .exit)) ≡ writingListing (now (text .entry)) (now (buffer .entry)) ⌝ }
+    ensures { λ r. ⌜ writeReturned r (now (buffer .exit)) ≡ writingListing (now (text .entry)) (now (buffer .entry)) ⌝ }
     ensures { λ r. ⌜ (most ≤ length (now (buffer .entry)) → countAnswer r ≡ answered (length (listing (now (text .entry))))) ⌝ }
 {
     let mut lines = [0u8; 393240];

@@ -12,7 +12,7 @@ use lib.ListN.{length, getD, take, drop, take-append-drop, length-append, length
 use lib.Seq.{take-at, drop-at, ext-getD, getD-take, length-take-le}
 use Rattle.lists.specs.Writing.{written}
 use Rattle.model.specs.Basics.{if_then_else_, from, upTo, gather, over}
-use Rattle.model.specs.Tables.{rowsOf, table, entry}
+use Rattle.model.specs.Tables.{rowsOf, table, entryAt}
 use Rattle.model.proofs.Entries.{rows, length-rows, length-row, getD-row, length-table, entry-table}
 use Rattle.model.proofs.Lists.{gather-append, gather-same, from-split, of-upTo, of-from}
 use Rattle.model.proofs.Tests.{ltb-next}
@@ -109,7 +109,7 @@ module _ (n a : ℕ) (h : a < n) where
 
 module _ (n : ℕ) (f : ℕ → ℕ → ℕ) where
   pub table-at : (i : ℕ) → i < n * n → getD (table n f) i 0 ≡ f (i / n) (i % n)
-  unfolding entry
+  unfolding entryAt
   table-at i k =
       ap (λ (j : ℕ). getD (table n f) j 0) (sym (div-add-mod' i n))
       ∙ entry-table n f (i / n) (i % n) (div-lt-iff-lt-mul (some n k) .1 k) (mod-lt i (some n k))
@@ -124,13 +124,13 @@ module _ (n : ℕ) (f : ℕ → ℕ → ℕ) where
       ext-getD 0 l (table n f) (size ∙ sym (length-table n f)) (λ i k. let j : i < n * n = omega (arith, size) in e i j ∙ sym (table-at i j))
 
 -- a list that is long enough is the table of its entries, and what stands behind it
-pub own-table : (n : ℕ) (t : List ℕ) → n * n ≤ length t → t ≡ over (table n (entry n t)) t
-unfolding over entry
+pub own-table : (n : ℕ) (t : List ℕ) → n * n ≤ length t → t ≡ over (table n (entryAt n t)) t
+unfolding over entryAt
 own-table n t h =
     sym (take-append-drop (n * n) t)
     ∙ ap₂ (λ (x y : List ℕ). x ++ y)
-    (is-table n (entry n t) (take (n * n) t) (length-take-le (n * n) t h) (λ i k. getD-take (n * n) t i 0 k ∙ ap (λ (j : ℕ). getD t j 0) (sym (div-add-mod' i n))))
-    (ap (λ (k : ℕ). drop k t) (sym (length-table n (entry n t))))
+    (is-table n (entryAt n t) (take (n * n) t) (length-take-le (n * n) t h) (λ i k. getD-take (n * n) t i 0 k ∙ ap (λ (j : ℕ). getD t j 0) (sym (div-add-mod' i n))))
+    (ap (λ (k : ℕ). drop k t) (sym (length-table n (entryAt n t))))
 
 -- a front of one value
 pub one-value : (n v : ℕ) (t : List ℕ) → replicate (n * n) v ++ drop (n * n) t ≡ over (table n (λ a b. v)) t
@@ -150,27 +150,27 @@ over-same n f t u e =
 
 module _ (n : ℕ) (F : ℕ → ℕ → ℕ) (t : List ℕ) where
   unfoldable pub rowsTo : ℕ → List ℕ
-  rowsTo a = over (table n (λ u b. if ltb u a then F u b else entry n t u b)) t
+  rowsTo a = over (table n (λ u b. if ltb u a then F u b else entryAt n t u b)) t
 
   pub rows-none : n * n ≤ length t → t ≡ rowsTo 0
   unfolding rowsTo
   rows-none h =
       own-table n t h
       ∙ ap (λ (x : List ℕ). over x t)
-      (table-same n (entry n t) (λ u b. if ltb u 0 then F u b else entry n t u b) (λ u b hu hb. rw (le-ltb u 0 (omega arith)) refl))
+      (table-same n (entryAt n t) (λ u b. if ltb u 0 then F u b else entryAt n t u b) (λ u b hu hb. rw (le-ltb u 0 (omega arith)) refl))
 
   pub rows-next : (a : ℕ) → a < n → written (rowsTo a) (a * n) (map (F a) (upTo n)) ≡ rowsTo (a + 1)
   unfolding rowsTo
   rows-next a h =
-      let g : ℕ → ℕ → ℕ = λ u b. if ltb u (a + 1) then F u b else entry n t u b in
+      let g : ℕ → ℕ → ℕ = λ u b. if ltb u (a + 1) then F u b else entryAt n t u b in
       ap (λ (x : List ℕ). written (rowsTo a) (a * n) x) (row-same n (F a) (g a) (λ b k. rw (lt-ltb a (a + 1) (omega arith)) refl))
-      ∙ put-row n a h (λ u b. if ltb u a then F u b else entry n t u b) g t (λ u b hu hb d.
-      ap (λ (x : Bool). if x then F u b else entry n t u b) (ltb-next u a d))
+      ∙ put-row n a h (λ u b. if ltb u a then F u b else entryAt n t u b) g t (λ u b hu hb d.
+      ap (λ (x : Bool). if x then F u b else entryAt n t u b) (ltb-next u a d))
 
   pub rows-done : (a : ℕ) → n ≤ a → rowsTo a ≡ over (table n F) t
   unfolding rowsTo
-  rows-done a h = ap (λ (x : List ℕ). over x t) (table-same n (λ u b. if ltb u a then F u b else entry n t u b) F (λ u b hu hb. rw (lt-ltb u a (omega arith)) refl))
+  rows-done a h = ap (λ (x : List ℕ). over x t) (table-same n (λ u b. if ltb u a then F u b else entryAt n t u b) F (λ u b hu hb. rw (lt-ltb u a (omega arith)) refl))
 
   pub rows-length : (a : ℕ) → n * n ≤ length t → length (rowsTo a) ≡ length t
   unfolding rowsTo
-  rows-length a h = over-length n (λ u b. if ltb u a then F u b else entry n t u b) t h
+  rows-length a h = over-length n (λ u b. if ltb u a then F u b else entryAt n t u b) t h

@@ -39,7 +39,7 @@ module _ (n : ℕ) (starts neighbours : List ℕ) where
       let t4 : T (A && B && C && D) = and-l (A && B && C && D) E t5 in
       let t3 : T (A && B && C) = and-l (A && B && C) D t4 in
       let t2 : T (A && B) = and-l (A && B) C t3 in
-      let entry : (v x : ℕ) → v < n → T (has x (G v)) → T (own v x) =
+      let own-facts : (v x : ℕ) → v < n → T (has x (G v)) → T (own v x) =
       λ v x h m. of-all (λ x. own v x) (G v) (of-all (λ v. all (λ x. own v x) (G v)) (upTo n) (and-r (A && B && C && D && E && F) H t) v (has-upTo n v h)) x m in
       record {
         first = eqb→eq (getD starts 0 0) 0 (and-l A B t2);
@@ -49,10 +49,10 @@ module _ (n : ℕ) (starts neighbours : List ℕ) where
         links = leb→le (last / 2) 16384 (and-r (A && B && C) D t4);
         within = leb→le last (length neighbours) (and-r (A && B && C && D) E t5);
         sorted = λ v h. of-all (λ v. ascending (G v)) (upTo n) (and-r (A && B && C && D && E) F t6) v (has-upTo n v h);
-        loopless = λ v x h m e. T-not (eqb x v) (and-r (ltb x n) (not (eqb x v)) (and-l (ltb x n && not (eqb x v)) (has v (G x)) (entry v x h m))) (eq-T x v e);
+        loopless = λ v x h m e. T-not (eqb x v) (and-r (ltb x n) (not (eqb x v)) (and-l (ltb x n && not (eqb x v)) (has v (G x)) (own-facts v x h m))) (eq-T x v e);
         graph = record {
-          below = λ v x h m. ltb→lt x n (and-l (ltb x n) (not (eqb x v)) (and-l (ltb x n && not (eqb x v)) (has v (G x)) (entry v x h m)));
-          symmetric = λ v x h m. and-r (ltb x n && not (eqb x v)) (has v (G x)) (entry v x h m);
+          below = λ v x h m. ltb→lt x n (and-l (ltb x n) (not (eqb x v)) (and-l (ltb x n && not (eqb x v)) (has v (G x)) (own-facts v x h m)));
+          symmetric = λ v x h m. and-r (ltb x n && not (eqb x v)) (has v (G x)) (own-facts v x h m);
         };
       }
 

@@ -13,7 +13,7 @@ use Rattle.model.specs.Basics.{none, if_then_else_, has}
 use Rattle.model.specs.Graph.{Edges, between, Chain, here, link, Unjoined, Fewest, fewest, linked}
 use Rattle.model.specs.Survey.{Graph, IsGraph}
 use Rattle.model.specs.Hubs.{isHigh, isLow, hubs}
-use Rattle.model.specs.Tables.{entry, fullTable, lowLinks, lowTable, sum, via, reportTable, least, reportEntry}
+use Rattle.model.specs.Tables.{entryAt, fullTable, lowLinks, lowTable, sum, via, reportTable, least, reportEntry}
 use Rattle.model.specs.Demand.{Allowed}
 use Rattle.model.proofs.Tests.{and-i, passes}
 use Rattle.model.proofs.Lists.{of-cons, has-head, has-tail}
@@ -93,9 +93,9 @@ module _ (n s : ℕ) (G : Graph) (g : IsGraph n G) where
   -- ---- the report
 
   unfoldable pub routes : ℕ → ℕ → ℕ
-  routes a b = least (via n (fullTable n s G) a b) (entry n (lowTable n s G) a b) (hubs n s G)
+  routes a b = least (via n (fullTable n s G) a b) (entryAt n (lowTable n s G) a b) (hubs n s G)
 
-  pub report-entry : (a b : ℕ) → a < n → b < n → entry n (reportTable n s G) a b ≡ (if eqb a b then 0 else routes a b)
+  pub report-entry : (a b : ℕ) → a < n → b < n → entryAt n (reportTable n s G) a b ≡ (if eqb a b then 0 else routes a b)
   unfolding reportTable routes
   report-entry a b ha hb =
       entry-table n (reportEntry n (fullTable n s G) (lowTable n s G) (hubs n s G)) a b ha hb
@@ -106,17 +106,17 @@ module _ (n s : ℕ) (G : Graph) (g : IsGraph n G) where
   via-chain a b h ha hb hh f = go (sum-is x y) f
     where
       x : ℕ
-      x = entry n (fullTable n s G) h a
+      x = entryAt n (fullTable n s G) h a
 
       y : ℕ
-      y = entry n (fullTable n s G) h b
+      y = entryAt n (fullTable n s G) h b
 
       go : {z : ℕ} → Sum x y z → (f : z ≡ none → ⊥) → Chain (linked n G) z a b
       go (whole p q e) f = subst (λ (k : ℕ). Chain (linked n G) k a b) (sym e) (append (turn (linked-sym n G) (full-is n s G g h a hh ha p .1 .0)) (full-is n s G g h b hh hb q .1 .0))
       go (part e p) f = absurd (f e)
 
   -- a report that is not none is the number of links of some chain
-  pub report-chain : (a b : ℕ) → a < n → b < n → (entry n (reportTable n s G) a b ≡ none → ⊥) → Chain (linked n G) (entry n (reportTable n s G) a b) a b
+  pub report-chain : (a b : ℕ) → a < n → b < n → (entryAt n (reportTable n s G) a b ≡ none → ⊥) → Chain (linked n G) (entryAt n (reportTable n s G) a b) a b
   unfolding routes
   report-chain a b ha hb = go (eqb a b) refl (report-entry a b ha hb)
     where
@@ -124,7 +124,7 @@ module _ (n s : ℕ) (G : Graph) (g : IsGraph n G) where
       full = fullTable n s G
 
       low : ℕ
-      low = entry n (lowTable n s G) a b
+      low = entryAt n (lowTable n s G) a b
 
       some-route : (routes a b ≡ none → ⊥) → Chain (linked n G) (routes a b) a b
       some-route f = at (least-cases (via n full a b) low (hubs n s G))
@@ -133,13 +133,13 @@ module _ (n s : ℕ) (G : Graph) (g : IsGraph n G) where
           at (inl e) = subst (λ (k : ℕ). Chain (linked n G) k a b) (sym e) (widen (low-widen n s G g) (low-is n s G g a b ha hb (λ q. f (e ∙ q)) .2 .0))
           at (inr r) = subst (λ (k : ℕ). Chain (linked n G) k a b) (sym (r .2)) (via-chain a b (r .0) ha hb (hubs-below n G s (r .0) (r .1)) (λ q. f (r .2 ∙ q)))
 
-      go : (t : Bool) → eqb a b ≡ t → entry n (reportTable n s G) a b ≡ (if t then 0 else routes a b)
-          → (entry n (reportTable n s G) a b ≡ none → ⊥) → Chain (linked n G) (entry n (reportTable n s G) a b) a b
+      go : (t : Bool) → eqb a b ≡ t → entryAt n (reportTable n s G) a b ≡ (if t then 0 else routes a b)
+          → (entryAt n (reportTable n s G) a b ≡ none → ⊥) → Chain (linked n G) (entryAt n (reportTable n s G) a b) a b
       go true q e f = subst (λ (k : ℕ). Chain (linked n G) k a b) (sym e) (subst (λ (z : ℕ). Chain (linked n G) 0 a z) (eqb→eq a b (subst T (sym q) tt)) here)
       go false q e f = subst (λ (k : ℕ). Chain (linked n G) k a b) (sym e) (some-route (λ z. f (e ∙ z)))
 
   -- where a chain of k links joins the pair, the report is at most k + 2
-  pub report-near : (a b k : ℕ) → n ≤ 1024 → a < n → b < n → Chain (linked n G) k a b → entry n (reportTable n s G) a b ≤ k + 2
+  pub report-near : (a b k : ℕ) → n ≤ 1024 → a < n → b < n → Chain (linked n G) k a b → entryAt n (reportTable n s G) a b ≤ k + 2
   unfolding isLow lowLinks routes via
   report-near a b k size ha hb c = go (eqb a b) (report-entry a b ha hb)
     where
@@ -147,7 +147,7 @@ module _ (n s : ℕ) (G : Graph) (g : IsGraph n G) where
       full = fullTable n s G
 
       low : ℕ
-      low = entry n (lowTable n s G) a b
+      low = entryAt n (lowTable n s G) a b
 
       hs : List ℕ
       hs = hubs n s G
@@ -172,26 +172,26 @@ module _ (n s : ℕ) (G : Graph) (g : IsGraph n G) where
           let cb = append (r .5) q in
           let fa = full-joined n s G g h a (r .3 + i) (r .1) ha (r .2) ca in
           let fb = full-joined n s G g h b (r .3 + j) (r .1) hb (r .2) cb in
-          le-trans (least-at (via n full a b) low hs h (r .2)) (bound (sum-is (entry n full h a) (entry n full h b)) (r .3) (r .4) e (fa .1 .1 (r .3 + i) ca, fa .0) (fb .1 .1 (r .3 + j) cb, fb .0))
+          le-trans (least-at (via n full a b) low hs h (r .2)) (bound (sum-is (entryAt n full h a) (entryAt n full h b)) (r .3) (r .4) e (fa .1 .1 (r .3 + i) ca, fa .0) (fb .1 .1 (r .3 + j) cb, fb .0))
         where
           bound : {x y z : ℕ} → Sum x y z → (d : ℕ) → d ≤ 1 → i + j ≡ k → (x ≤ d + i) × (x < n) → (y ≤ d + j) × (y < n) → z ≤ k + 2
           bound (whole p q e) d l f xs ys = omega arith
           bound (part e (inl q)) d l f xs ys = absurd (omega arith)
           bound (part e (inr q)) d l f xs ys = absurd (omega arith)
 
-      go : (t : Bool) → entry n (reportTable n s G) a b ≡ (if t then 0 else routes a b) → entry n (reportTable n s G) a b ≤ k + 2
+      go : (t : Bool) → entryAt n (reportTable n s G) a b ≡ (if t then 0 else routes a b) → entryAt n (reportTable n s G) a b ≤ k + 2
       go true e = subst (λ (x : ℕ). x ≤ k + 2) (sym e) zero-le
       go false e = subst (λ (x : ℕ). x ≤ k + 2) (sym e) (near (split (linked n G) (isHigh s G) c))
 
 -- none exactly where no chain joins the pair; else at least the fewest links, and at most two more
-pub allowed : (n s : ℕ) (G : Graph) → IsGraph n G → n ≤ 1024 → (a b : ℕ) → a < n → b < n → Allowed (linked n G) a b (entry n (reportTable n s G) a b)
+pub allowed : (n s : ℕ) (G : Graph) → IsGraph n G → n ≤ 1024 → (a b : ℕ) → a < n → b < n → Allowed (linked n G) a b (entryAt n (reportTable n s G) a b)
 allowed n s G g size a b ha hb = record {
   no-route = (λ e k c. far k c e, λ f. at (passes (eqb r none)) f);
   near = λ d m. (m .1 r (report-chain n s G g a b ha hb (λ e. far d (m .0) e)), report-near n s G g a b d size ha hb (m .0));
 }
   where
     r : ℕ
-    r = entry n (reportTable n s G) a b
+    r = entryAt n (reportTable n s G) a b
 
     -- a joined pair is less than n apart, so its report is far below none
     far : (k : ℕ) → Chain (linked n G) k a b → r ≡ none → ⊥

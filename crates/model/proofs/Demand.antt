@@ -20,13 +20,13 @@ use Rattle.model.specs.Graph.{Edges, Chain, Walked, linked}
 use Rattle.model.specs.Survey.{Graph, neighboursOf, badSize, isSurvey, Accepted}
 use Rattle.model.specs.Threshold.{threshold}
 use Rattle.model.specs.Hubs.{hubs}
-use Rattle.model.specs.Tables.{entry, fullTable, lowTable, reportTable, AreBuilt, AreBuiltWith, shortTables, hubList}
+use Rattle.model.specs.Tables.{entryAt, fullTable, lowTable, reportTable, AreBuilt, AreBuiltWith, shortTables, hubList}
 use Rattle.model.specs.Pair.{answer, taken, attaining, pairBy, pair}
 use Rattle.model.specs.Walk.{nodes}
-use Rattle.model.specs.TwoOrFour.{tested}
+use Rattle.model.specs.TwoOrFour.{testResult}
 use Rattle.model.specs.Building.{built, building}
 use Rattle.model.specs.Asking.{asking}
-use Rattle.model.specs.Walking.{Walking, refuseWalk, fit, walkOf, walking}
+use Rattle.model.specs.Walking.{AfterWalking, refuseWalk, fit, walkOf, walking}
 use Rattle.model.specs.Testing.{testing}
 use Rattle.model.specs.Demand.{Allowed, AllowedAnswer, WalkSound, WalkAnswers, RightVerdict}
 use Rattle.model.proofs.Outcomes.{never}
@@ -82,7 +82,7 @@ built-right n s G full low report list = record {
 
 -- ---- a walk given out, from any tables
 
-given-out-sound : (E : Edges) (a b w : ℕ) {r : Walking} → Given-out E a b w r → WalkSound E a b r
+given-out-sound : (E : Edges) (a b w : ℕ) {r : AfterWalking} → Given-out E a b w r → WalkSound E a b r
 given-out-sound E a b w (refusal k) x e f = never e
 given-out-sound E a b w no-way x e f = let q : answer none NoRoute ≡ x = cc in absurd (f (sym (ap (λ (y : Answer). y .report) q)))
 given-out-sound E a b w (walked y l g m room) x e f =
@@ -113,7 +113,7 @@ walking-sound n starts neighbours full low report a b w =
     G : Graph
     G = neighboursOf starts neighbours
 
-    P : Walking → Type 0
+    P : AfterWalking → Type 0
     P r = WalkSound (linked n G) a b r
 
     refuses : {k : ℕ} → P (record { answer = refused k; walk = replicate w none })
@@ -139,8 +139,8 @@ asking-passed n full low report a b x =
 short-fit : (w : ℕ) (x : Answer) (l : List ℕ) → (fit w x (some l) .answer ≡ refused 8) ↔ (w < length l)
 unfolding refuseWalk
 short-fit w x l = (
-  λ q. ⊎-elim (λ h. h) (λ h. never (sym q ∙ ap (λ (r : Walking). r .answer) (fit-long w x l h))) (lt-or w (length l)),
-  λ h. ap (λ (r : Walking). r .answer) (fit-short w x l h),
+  λ q. ⊎-elim (λ h. h) (λ h. never (sym q ∙ ap (λ (r : AfterWalking). r .answer) (fit-long w x l h))) (lt-or w (length l)),
+  λ h. ap (λ (r : AfterWalking). r .answer) (fit-short w x l h),
 )
 
 -- ---- an accepted survey
@@ -153,13 +153,13 @@ module _ (n : ℕ) (starts neighbours : List ℕ) (acc : Accepted n starts neigh
   is-survey = passed (isSurvey n starts neighbours) (survey-test n starts neighbours (acc .lists))
 
   -- the test is not refused, and its verdict is right
-  pub testing-answers : testing n starts neighbours ≡ answered (tested n (threshold n) G)
+  pub testing-answers : testing n starts neighbours ≡ answered (testResult n (threshold n) G)
   unfolding testing
   testing-answers = rw (accepting-answers n starts neighbours acc) refl
 
   pub testing-right : RightVerdict n (linked n G) (testing n starts neighbours)
   testing-right = record {
-    value = tested n (threshold n) G;
+    value = testResult n (threshold n) G;
     given = testing-answers;
     right = verdict-right n (threshold n) G (acc .lists .graph) (acc .size);
   }
@@ -201,16 +201,16 @@ module _ (n : ℕ) (starts neighbours : List ℕ) (acc : Accepted n starts neigh
   unfolding pair pairBy walkOf
   walking-short full low report a b x e l f w =
       let p = asking-passed n full low report a b x e in
-      let r = entry n report a b in
-      let c = subst (λ (q : Outcome Answer). Chosen a b r (entry n low a b) (attaining (taken n full a b) n full a b r) q) (p .5)
-      (chosen a b r (entry n low a b) (attaining (taken n full a b) n full a b r)) in
+      let r = entryAt n report a b in
+      let c = subst (λ (q : Outcome Answer). Chosen a b r (entryAt n low a b) (attaining (taken n full a b) n full a b r) q) (p .5)
+      (chosen a b r (entryAt n low a b) (attaining (taken n full a b) n full a b r)) in
       let i = found-longer n (threshold n) G (acc .lists .graph) full low a b (p .3) (p .4) (taken n full a b) report x c l f w in
       let o : walking n starts neighbours full low report a b w ≡ fit w x (some l) =
       walks full low report (p .0) (p .1) (p .2) a b (p .3) (p .4) w
       ∙ ap (walkOf w n (threshold n) G full low a b) (p .5)
       ∙ ap (fit w x) f in
       let j = short-fit w x l in
-      (λ q. i .0 (j .0 (sym (ap (λ (y : Walking). y .answer) o) ∙ q)), λ h. ap (λ (y : Walking). y .answer) o ∙ j .1 (i .1 h))
+      (λ q. i .0 (j .0 (sym (ap (λ (y : AfterWalking). y .answer) o) ∙ q)), λ h. ap (λ (y : AfterWalking). y .answer) o ∙ j .1 (i .1 h))
 
   module _ (full low report : List ℕ) (own : AreBuilt n (threshold n) (neighboursOf starts neighbours) full low report) (a b : ℕ) (ha : a < n) (hb : b < n) where
     hf : n * n ≤ length full
@@ -223,13 +223,13 @@ module _ (n : ℕ) (starts neighbours : List ℕ) (acc : Accepted n starts neigh
     hr = report-room n (threshold n) G full low report own
 
     -- asking is not refused, and answers the entry of Report
-    pub asking-answers : (x : Answer) × (asking n full low report a b ≡ answered x) × (x .report ≡ entry n (reportTable n (threshold n) G) a b)
+    pub asking-answers : (x : Answer) × (asking n full low report a b ≡ answered x) × (x .report ≡ entryAt n (reportTable n (threshold n) G) a b)
     unfolding pair
     asking-answers =
         let g = acc .lists .graph in
         let i = pair-built n (threshold n) G g (acc .size) full low report own a b ha hb (taken n full a b)
         (taken-right n (threshold n) G g (acc .size) full low report own a b ha hb) in
-        (answer (entry n report a b) (i .0), asks full low report hf hl hr a b ha hb ∙ i .1, report-at n (threshold n) G g (acc .size) full low report own a b ha hb)
+        (answer (entryAt n report a b) (i .0), asks full low report hf hl hr a b ha hb ∙ i .1, report-at n (threshold n) G g (acc .size) full low report own a b ha hb)
 
     -- the report is none exactly where no chain joins the pair, else from the fewest links to two more
     pub asking-right : AllowedAnswer (linked n G) a b (asking n full low report a b)
@@ -246,8 +246,8 @@ module _ (n : ℕ) (starts neighbours : List ℕ) (acc : Accepted n starts neigh
         let g = acc .lists .graph in
         let p = taken-right n (threshold n) G g (acc .size) full low report own a b ha hb in
         let i = pair-built n (threshold n) G g (acc .size) full low report own a b ha hb (taken n full a b) p in
-        let q : answer (entry n report a b) (i .0) ≡ x = cc (asks full low report hf hl hr a b ha hb, i .1) in
-        ap (λ (r : Walking). r .answer) (walks full low report hf hl hr a b ha hb w)
+        let q : answer (entryAt n report a b) (i .0) ≡ x = cc (asks full low report hf hl hr a b ha hb, i .1) in
+        ap (λ (r : AfterWalking). r .answer) (walks full low report hf hl hr a b ha hb w)
         ∙ walk-built n (threshold n) G g (acc .size) full low report own a b ha hb (taken n full a b) p w
         (subst (λ (y : Answer). (y .report ≡ none) ⊎ (y .report < w)) (sym q) room)
         ∙ sym (asks full low report hf hl hr a b ha hb) ∙ e

@@ -11,7 +11,7 @@ use borrow.Author.Tests.{le-ltb, ltb-false}
 use lib.Dec.{ltb}
 use lib.Seq.{getD-append-add, getD-take, take-all}
 use Rattle.model.specs.Basics.{from, upTo, gather}
-use Rattle.model.specs.Tables.{rowsOf, table, entry, shortTables}
+use Rattle.model.specs.Tables.{rowsOf, table, entryAt, shortTables}
 use Rattle.model.proofs.Tests.{of-or-false}
 use Rattle.model.proofs.Lists.{length-upTo}
 
@@ -78,8 +78,8 @@ module _ (n : ℕ) (f : ℕ → ℕ → ℕ) where
   unfolding table upTo rows rowsOf
   length-table = length-rows 0 n
 
-  pub entry-table : (a b : ℕ) → a < n → b < n → entry n (table n f) a b ≡ f a b
-  unfolding table upTo rows entry rowsOf
+  pub entry-table : (a b : ℕ) → a < n → b < n → entryAt n (table n f) a b ≡ f a b
+  unfolding table upTo rows entryAt rowsOf
   entry-table a b ha hb = getD-rows 0 n a b ha hb ∙ ap (λ (x : ℕ). f x b) (zero-add a)
 
 -- an entry's place in its table; and a table has at most 1,048,576 entries
@@ -90,8 +90,8 @@ pub square-small : (n : ℕ) → n ≤ 1024 → n * n ≤ 1048576
 square-small n h = mul-le-mul h h
 
 -- entries of a longer list whose front is a table
-pub entry-front : (n : ℕ) (t u : List ℕ) → take (n * n) t ≡ u → (a b : ℕ) → a < n → b < n → entry n t a b ≡ entry n u a b
-unfolding entry
+pub entry-front : (n : ℕ) (t u : List ℕ) → take (n * n) t ≡ u → (a b : ℕ) → a < n → b < n → entryAt n t a b ≡ entryAt n u a b
+unfolding entryAt
 entry-front n t u e a b ha hb =
     sym (getD-take (n * n) t (a * n + b) 0 (place-inside n a b ha hb)) ∙ ap (λ (l : List ℕ). getD l (a * n + b) 0) e
 

@@ -15,7 +15,7 @@ use Rattle.model.specs.Survey.{Graph, IsGraph}
 use Rattle.model.specs.Graph.{linked}
 use Rattle.model.specs.Threshold.{threshold}
 use Rattle.model.specs.Hubs.{hubs}
-use Rattle.model.specs.Tables.{entry, fullTable, lowTable, reportTable, AreBuilt}
+use Rattle.model.specs.Tables.{entryAt, fullTable, lowTable, reportTable, AreBuilt}
 use Rattle.model.specs.Pair.{answer, taken, pair}
 use Rattle.model.specs.Reading.{named, Parsed, parse, graphOf}
 use Rattle.model.specs.Listing.{pairLine, pairsBelow, pairLines, listingOf, listingText, listing}
@@ -68,7 +68,7 @@ module _ (text : List ℕ) (x : Parsed) (e : parse 128 2048 (128 + 1) (2 * 2048)
   size : x .nodes ≤ 1024
   size = omega (arith, parse-sound 128 2048 (128 + 1) (2 * 2048) text x e .within .size)
 
-  reply-is : (a b : ℕ) → a < x .nodes → b < x .nodes → (reply a b ≡ answered (valueIn (reply a b))) × (valueIn (reply a b) .report ≡ entry n (reportTable n s G) a b)
+  reply-is : (a b : ℕ) → a < x .nodes → b < x .nodes → (reply a b ≡ answered (valueIn (reply a b))) × (valueIn (reply a b) .report ≡ entryAt n (reportTable n s G) a b)
   unfolding reply pair valueIn
   reply-is a b ha hb =
       let g = links-graph n (x .links) in

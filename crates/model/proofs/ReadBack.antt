@@ -20,7 +20,7 @@ use Rattle.model.specs.SurveyText.{surveyText, ordered}
 use Rattle.model.specs.Survey.{Graph, neighboursOf, ascending, Accepted}
 use Rattle.model.specs.Graph.{linked}
 use Rattle.model.specs.Reading.{named, Parsed, parse, graphOf, startsOf, neighboursFrom, readingOf, reading}
-use Rattle.model.specs.Writing.{textOf, Writing, writingOf, writing}
+use Rattle.model.specs.Writing.{textOf, AfterWriting, writingOf, writing}
 use Rattle.model.specs.Demand.{IsRead, ReadRight}
 use Rattle.model.proofs.Tests.{picked, and-l, and-r, and-i, or-l, or-r, or-e, eq-T, no-false, same-test, lt-or}
 use Rattle.model.proofs.Lists.{has-head, has-tail, of-cons, has-keep, of-keep, has-upTo, of-upTo, none-in, keep-same, keep-none}
@@ -203,11 +203,11 @@ module _ (text buffer : List ℕ) where
   pub write-fits : (k : ℕ) (left : List ℕ) → record { answer = answered k; buffer = left } ≡ writingOf (answered tt) text buffer → k ≤ length left
   unfolding over numberIn
   write-fits k left e = ⊎-elim
-      (λ h. never (sym (ap (λ (w : Writing). w .answer) (e ∙ write-short h))))
+      (λ h. never (sym (ap (λ (w : AfterWriting). w .answer) (e ∙ write-short h))))
       (λ h.
       let w = e ∙ write-whole h in
-      let i : k ≡ length text = ap (λ (x : Writing). numberIn (λ j. j) (x .answer)) w in
-      omega (arith, ap (λ (x : Writing). length (x .buffer)) w ∙ length-append text (drop (length text) buffer)))
+      let i : k ≡ length text = ap (λ (x : AfterWriting). numberIn (λ j. j) (x .answer)) w in
+      omega (arith, ap (λ (x : AfterWriting). length (x .buffer)) w ∙ length-append text (drop (length text) buffer)))
       (lt-or (length buffer) (length text))
 
 -- ---- a graph's links in order: each once, and all of them
@@ -428,7 +428,7 @@ module _ (n : ℕ) (starts′ neighbours′ : List ℕ) (acc : Accepted n starts
   unfolding writing writingOf over
   written-text buffer k =
       let text : List ℕ = textOf n starts′ neighbours′ in
-      let P : Writing → Type 0 = λ r. r .answer ≡ answered k → take k (r .buffer) ≡ text in
+      let P : AfterWriting → Type 0 = λ r. r .answer ≡ answered k → take k (r .buffer) ≡ text in
       subst (λ (o : Outcome (Unit {0})). P (writingOf o text buffer)) (sym (accepting-answers n starts′ neighbours′ acc))
       (picked P (ltb (length buffer) (length text)) _ _ (λ _ e. never e) (λ _ e.
       let j : length text ≡ k = cc in

@@ -7,7 +7,7 @@ use Prim.Native.Nat.{ℕ, _+_, _-_, _*_}
 use lib.Dec.{T, eqb}
 use lib.ListN.{length, replicate}
 use Rattle.model.specs.declared.Answer.{Answer}
-use Rattle.model.specs.declared.Tested.{Tested}
+use Rattle.model.specs.declared.TestResult.{TestResult}
 use Rattle.model.specs.declared.Verdict.{Verdict}
 use Rattle.model.specs.declared.Verdict.the-variants.{Parted, Long, Short}
 use Rattle.model.specs.Answers.{Outcome, refused, answered}
@@ -18,12 +18,12 @@ use Rattle.model.specs.Survey.{Graph, neighboursOf, ascending, badSize, 
 use Rattle.model.specs.Threshold.{bitLength, threshold}
 use Rattle.model.specs.Hubs.{isHigh, isLow, closed, gain, best, greedy, hubs}
 use Rattle.model.specs.Graph.{reach, fewest, linked}
-use Rattle.model.specs.Tables.{rowsOf, table, entry, fullTable, lowLinks, lowTable, sum, via, reportTable, hubList}
+use Rattle.model.specs.Tables.{rowsOf, table, entryAt, fullTable, lowLinks, lowTable, sum, via, reportTable, hubList}
 use Rattle.model.specs.Pair.{taken, attaining, choose, pairBy, pair}
 use Rattle.model.specs.Walk.{before, next, steps, byLow, toHub, join, nodes}
-use Rattle.model.specs.TwoOrFour.{sources, verdictOf, tested}
-use Rattle.model.specs.Reading.{named, onLinks, linkOf, readOn, readLinks, parsed, countsOf, parseLinks, parse, graphOf, startsOf, neighboursFrom, Reading, readingOf, reading}
-use Rattle.model.specs.Building.{Building, built, building}
+use Rattle.model.specs.TwoOrFour.{sources, verdictOf, testResult}
+use Rattle.model.specs.Reading.{named, onLinks, linkOf, readOn, readLinks, parsed, countsOf, parseLinks, parse, graphOf, startsOf, neighboursFrom, AfterReading, readingOf, reading}
+use Rattle.model.specs.Building.{AfterBuilding, built, building}
 use Rattle.model.specs.Asking.{asking}
 use Rattle.model.specs.Walking.{refuseWalk, fit, walkOf, walking}
 use Rattle.model.specs.Testing.{testing}
@@ -46,10 +46,10 @@ triangle : Example
 triangle = record { n = 5; links = (0, 1) ∷ (0, 2) ∷ (1, 2) ∷ (1, 3) ∷ (2, 4) ∷ [] }
 
 -- the lists that reading the text leaves, and the tables that building leaves in lists of none
-lists : Example → Reading
+lists : Example → AfterReading
 lists g = reading (surveyText (g .n) (length (g .links)) (g .links)) (g .n + 1) (2 * length (g .links))
 
-tables : Example → Building
+tables : Example → AfterBuilding
 tables g =
     let blank = replicate (g .n * g .n) none in
     building (g .n) (lists g .starts) (lists g .neighbours) blank blank blank (replicate (g .n) none)
@@ -79,11 +79,11 @@ isLong Parted = false
 isLong Long = true
 isLong Short = false
 
-shortAfter : Outcome Tested → ℕ → Bool
+shortAfter : Outcome TestResult → ℕ → Bool
 shortAfter (refused k) c = false
 shortAfter (answered x) c = isShort (x .verdict) && eqb (x .searches) c
 
-longAtAll : Outcome Tested → Bool
+longAtAll : Outcome TestResult → Bool
 longAtAll (refused k) = false
 longAtAll (answered x) = isLong (x .verdict)
 
@@ -132,8 +132,8 @@ pub starred-cases : T (allHold starred)
 unfolding starred allHold holds graph longAtAll shortAfter isLong isShort reported tables lists triangle chain single course
     from upTo has any all keep firstOf gather same over isDigit isNumber valueFrom valueOf digitsWithin digits
     onFirst split onFront cut twoNumbers withRest lineIn line lineOf linkLines surveyText neighboursOf linked ascending badSize isSurvey accepting
-    bitLength threshold isHigh isLow closed gain best greedy hubs hubList reach fewest rowsOf table entry fullTable lowLinks lowTable sum via reportTable
-    taken attaining choose pairBy pair before next steps byLow toHub join nodes sources verdictOf tested
+    bitLength threshold isHigh isLow closed gain best greedy hubs hubList reach fewest rowsOf table entryAt fullTable lowLinks lowTable sum via reportTable
+    taken attaining choose pairBy pair before next steps byLow toHub join nodes sources verdictOf testResult
     named onLinks linkOf readOn readLinks parsed countsOf parseLinks parse graphOf startsOf neighboursFrom readingOf reading
     built building asking refuseWalk fit walkOf walking testing
 starred-cases = tt

@@ -11,7 +11,7 @@ use Rattle.model.specs.Basics.{none, if_then_else_, has}
 use Rattle.model.specs.Graph.{Edges, between, Chain, Unjoined, Fewest, fewest, linked}
 use Rattle.model.specs.Survey.{Graph, IsGraph}
 use Rattle.model.specs.Hubs.{isLow, hubs}
-use Rattle.model.specs.Tables.{table, entry, fullTable, lowLinks, lowTable}
+use Rattle.model.specs.Tables.{table, entryAt, fullTable, lowLinks, lowTable}
 use Rattle.model.proofs.Tests.{and-l, and-r, and-i, passes, no-false}
 use Rattle.model.proofs.Chains.{fewest-is, fewest-cases}
 use Rattle.model.proofs.Acceptance.{linked-is, linked-ends}
@@ -40,7 +40,7 @@ fewest-unique {d = d} {e = e} p q = le-antisymm (p .1 e (q .0)) (q .1 d (p .0))
 -- a table of fewest links where a test passes, and of none elsewhere
 module _ (n : ℕ) (t : ℕ → ℕ → Bool) (E : Edges) (ends : (u v : ℕ) → u < n → T (E u v) → v < n) where
   guarded : ℕ → ℕ → ℕ
-  guarded a b = entry n (table n (λ a b. if t a b then fewest E n a b else none)) a b
+  guarded a b = entryAt n (table n (λ a b. if t a b then fewest E n a b else none)) a b
 
   guarded-is : (a b : ℕ) → a < n → b < n → (guarded a b ≡ none → ⊥) → T (t a b) × Fewest E a b (guarded a b)
   unfolding guarded
@@ -64,13 +64,13 @@ module _ (n : ℕ) (t : ℕ → ℕ → Bool) (E : Edges) (ends : (u v : ℕ) �
       at false m e = absurd m
 
 module _ (n s : ℕ) (G : Graph) (g : IsGraph n G) where
-  pub full-is : (h b : ℕ) → h < n → b < n → (entry n (fullTable n s G) h b ≡ none → ⊥)
-      → T (has h (hubs n s G)) × Fewest (linked n G) h b (entry n (fullTable n s G) h b)
+  pub full-is : (h b : ℕ) → h < n → b < n → (entryAt n (fullTable n s G) h b ≡ none → ⊥)
+      → T (has h (hubs n s G)) × Fewest (linked n G) h b (entryAt n (fullTable n s G) h b)
   unfolding fullTable guarded
   full-is = guarded-is n (λ h b. has h (hubs n s G)) (linked n G) (linked-ends n G)
 
   pub full-joined : (h b k : ℕ) → h < n → b < n → T (has h (hubs n s G)) → Chain (linked n G) k h b
-      → (entry n (fullTable n s G) h b < n) × Fewest (linked n G) h b (entry n (fullTable n s G) h b)
+      → (entryAt n (fullTable n s G) h b < n) × Fewest (linked n G) h b (entryAt n (fullTable n s G) h b)
   unfolding fullTable guarded
   full-joined = guarded-joined n (λ h b. has h (hubs n s G)) (linked n G) (linked-ends n G)
 
@@ -88,15 +88,15 @@ module _ (n s : ℕ) (G : Graph) (g : IsGraph n G) where
   pub low-ends : (u v : ℕ) → u < n → T (lowLinks n s G u v) → v < n
   low-ends u v h t = linked-ends n G u v h (low-widen u v t)
 
-  pub low-is : (a b : ℕ) → a < n → b < n → (entry n (lowTable n s G) a b ≡ none → ⊥)
-      → T (isLow s G a) × T (isLow s G b) × Fewest (lowLinks n s G) a b (entry n (lowTable n s G) a b)
+  pub low-is : (a b : ℕ) → a < n → b < n → (entryAt n (lowTable n s G) a b ≡ none → ⊥)
+      → T (isLow s G a) × T (isLow s G b) × Fewest (lowLinks n s G) a b (entryAt n (lowTable n s G) a b)
   unfolding lowTable guarded
   low-is a b ha hb f =
       let r = guarded-is n (λ a b. isLow s G a && isLow s G b) (lowLinks n s G) low-ends a b ha hb f in
       (and-l (isLow s G a) (isLow s G b) (r .0), and-r (isLow s G a) (isLow s G b) (r .0), r .1)
 
   pub low-joined : (a b k : ℕ) → a < n → b < n → T (isLow s G a) → T (isLow s G b) → Chain (lowLinks n s G) k a b
-      → (entry n (lowTable n s G) a b < n) × Fewest (lowLinks n s G) a b (entry n (lowTable n s G) a b)
+      → (entryAt n (lowTable n s G) a b < n) × Fewest (lowLinks n s G) a b (entryAt n (lowTable n s G) a b)
   unfolding lowTable guarded
   low-joined a b k ha hb la lb c =
       guarded-joined n (λ a b. isLow s G a && isLow s G b) (lowLinks n s G) low-ends a b k ha hb (and-i (isLow s G a) (isLow s G b) la lb) c

@@ -17,7 +17,7 @@ use Rattle.model.specs.Basics.{none, if_then_else_, has, any, upTo}
 use Rattle.model.specs.Graph.{Edges, Chain, Unjoined, link, Fewest, fewest, linked}
 use Rattle.model.specs.Survey.{Graph, neighboursOf, IsGraph, Accepted}
 use Rattle.model.specs.Hubs.{isHigh, isLow, closed, hubs}
-use Rattle.model.specs.TwoOrFour.{sources, verdictOf, tested}
+use Rattle.model.specs.TwoOrFour.{sources, verdictOf, testResult}
 use Rattle.model.specs.Demand.{VerdictRight}
 use Rattle.model.proofs.Tests.{lt-or}
 use Rattle.model.proofs.Lists.{has-head, has-tail, of-cons, any-of, of-any, has-upTo, of-upTo, First, found, nothing, first-below}
@@ -185,16 +185,16 @@ module _ (n s : ℕ) (G : Graph) (g : IsGraph n G) (size : n ≤ 1024) where
       clash′ : Short ≡ Long → ⊥
       clash′ e = let z : _≡_ {A = ℕ} 0 1 = cc in omega arith
 
-  pub verdict-right : VerdictRight n (linked n G) (tested n s G .verdict)
-  unfolding tested
+  pub verdict-right : VerdictRight n (linked n G) (testResult n s G .verdict)
+  unfolding testResult
   verdict-right = means-right verdict-means
 
   -- ---- the count of searches
 
   -- the smallest low node's neighbours plus one, or the number of hubs where no node is low
-  pub count-is : ((v : ℕ) → v < n → T (isLow s G v) → ((u : ℕ) → u < v → T (isHigh s G u)) → tested n s G .searches ≡ length (G v) + 1)
-      × (((v : ℕ) → v < n → T (isHigh s G v)) → tested n s G .searches ≡ length (hubs n s G))
-  unfolding tested closed isLow
+  pub count-is : ((v : ℕ) → v < n → T (isLow s G v) → ((u : ℕ) → u < v → T (isHigh s G u)) → testResult n s G .searches ≡ length (G v) + 1)
+      × (((v : ℕ) → v < n → T (isHigh s G v)) → testResult n s G .searches ≡ length (hubs n s G))
+  unfolding testResult closed isLow
   count-is = (λ v b t l. low v b t l source-cases, λ f. high f source-cases)
     where
       low : (v : ℕ) → v < n → T (isLow s G v) → ((u : ℕ) → u < v → T (isHigh s G u)) → {hs : List ℕ} → Sources hs → length hs ≡ length (G v) + 1

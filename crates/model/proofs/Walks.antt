@@ -19,10 +19,10 @@ use Rattle.model.specs.Basics.{none, if_then_else_, has, keep, upTo, fir
 use Rattle.model.specs.Graph.{Edges, Walked, stop, go, linked}
 use Rattle.model.specs.Survey.{Graph, IsGraph}
 use Rattle.model.specs.Hubs.{isLow}
-use Rattle.model.specs.Tables.{entry, via}
+use Rattle.model.specs.Tables.{entryAt, via}
 use Rattle.model.specs.Pair.{answer, attaining, choose, pairBy}
 use Rattle.model.specs.Walk.{before, next, steps, byLow, toHub, join, nodes}
-use Rattle.model.specs.Walking.{Walking, refuseWalk, fit, walkOf}
+use Rattle.model.specs.Walking.{AfterWalking, refuseWalk, fit, walkOf}
 use Rattle.model.proofs.Tests.{and-l, and-r, and-i, eq-T, eq-or, lt-or}
 use Rattle.model.proofs.Lists.{has-upTo, first-in, first-below, first-same, First, found, nothing, keep-grows, keep-length, length-upTo}
 use Rattle.model.proofs.Acceptance.{linked-of, linked-sym}
@@ -294,7 +294,7 @@ module _ (n : ℕ) (G : Graph) (g : IsGraph n G) (may : ℕ → Bool) (left : �
 -- ---- the whole walk, whatever the tables hold
 
 -- what a walk list of w entries holds at return, with the answer: refused, no route, or a chain of as many links as the report
-pub data Given-out (E : Edges) (a b w : ℕ) : Walking → Type 0 where
+pub data Given-out (E : Edges) (a b w : ℕ) : AfterWalking → Type 0 where
   refusal : (k : ℕ) → Given-out E a b w (record { answer = refused k; walk = replicate w none })
   no-way : Given-out E a b w (record { answer = answered (answer none NoRoute); walk = replicate w none })
   walked : (x : Answer) (l : List ℕ) → Walked E l a b → length l ≡ suc (x .report) → length l ≤ w
@@ -313,13 +313,13 @@ fit-outcome : (E : Edges) (a b w : ℕ) (x : Answer) (o : Option (List ℕ)) →
 unfolding fit refuseWalk
 fit-outcome E a b w x missing s = refusal 11
 fit-outcome E a b w x (some l) s = ⊎-elim
-    (λ h. subst (λ (r : Walking). Given-out E a b w r) (sym (fit-short w x l h)) (refusal 8))
-    (λ h. subst (λ (r : Walking). Given-out E a b w r) (sym (fit-long w x l h)) (walked x l (s .0) (s .1) h))
+    (λ h. subst (λ (r : AfterWalking). Given-out E a b w r) (sym (fit-short w x l h)) (refusal 8))
+    (λ h. subst (λ (r : AfterWalking). Given-out E a b w r) (sym (fit-long w x l h)) (walked x l (s .0) (s .1) h))
     (lt-or w (length l))
 
 fit-none : (E : Edges) (a b w : ℕ) → Given-out E a b w (fit w (answer none NoRoute) (some []))
 fit-none E a b w =
-    subst (λ (r : Walking). Given-out E a b w r)
+    subst (λ (r : AfterWalking). Given-out E a b w r)
     (sym (fit-long w (answer none NoRoute) [] (omega arith) ∙ ap (λ (k : ℕ). record { answer = answered (answer none NoRoute); walk = replicate k none }) (sub-zero w)))
     no-way
 
@@ -343,31 +343,31 @@ module _ (isHub : ℕ → Bool) (n : ℕ) (full : List ℕ) (a b : ℕ) where
 
   -- a sum of entries that is not none is the sum of both
   pub via-sum : (h z : ℕ) → via n full a b h ≡ z → (z ≡ none → ⊥)
-      → (entry n full h a ≡ none → ⊥) × (entry n full h b ≡ none → ⊥) × (entry n full h a + entry n full h b ≡ z)
+      → (entryAt n full h a ≡ none → ⊥) × (entryAt n full h b ≡ none → ⊥) × (entryAt n full h a + entryAt n full h b ≡ z)
   unfolding via
-  via-sum h z e f = at (sum-is (entry n full h a) (entry n full h b)) e
+  via-sum h z e f = at (sum-is (entryAt n full h a) (entryAt n full h b)) e
     where
-      at : {y : ℕ} → Sum (entry n full h a) (entry n full h b) y → y ≡ z
-          → (entry n full h a ≡ none → ⊥) × (entry n full h b ≡ none → ⊥) × (entry n full h a + entry n full h b ≡ z)
+      at : {y : ℕ} → Sum (entryAt n full h a) (entryAt n full h b) y → y ≡ z
+          → (entryAt n full h a ≡ none → ⊥) × (entryAt n full h b ≡ none → ⊥) × (entryAt n full h a + entryAt n full h b ≡ z)
       at (whole p q s) e = (p, q, sym s ∙ e)
       at (part s p) e = absurd (f (sym e ∙ s))
 
 module _ (n s : ℕ) (G : Graph) (g : IsGraph n G) (full low : List ℕ) (a b : ℕ) (ha : a < n) (hb : b < n) where
-  low-sound : Sound (linked n G) (entry n low a b) a b (byLow n s G low a b)
+  low-sound : Sound (linked n G) (entryAt n low a b) a b (byLow n s G low a b)
   unfolding byLow
-  low-sound = steps-sound n G g (isLow s G) (λ x. entry n low x b) b (entry n low a b) a ha
+  low-sound = steps-sound n G g (isLow s G) (λ x. entryAt n low x b) b (entryAt n low a b) a ha
 
-  hub-sound : (h : ℕ) → Sound (linked n G) (entry n full h a + entry n full h b) a b (join (toHub n G full h a) (toHub n G full h b))
+  hub-sound : (h : ℕ) → Sound (linked n G) (entryAt n full h a + entryAt n full h b) a b (join (toHub n G full h a) (toHub n G full h b))
   unfolding toHub
   hub-sound h =
-      join-sound (linked n G) (linked-sym n G) (entry n full h a) (entry n full h b) a b h (toHub n G full h a) (toHub n G full h b)
-      (steps-sound n G g (λ x. true) (λ x. entry n full h x) h (entry n full h a) a ha)
-      (steps-sound n G g (λ x. true) (λ x. entry n full h x) h (entry n full h b) b hb)
+      join-sound (linked n G) (linked-sym n G) (entryAt n full h a) (entryAt n full h b) a b h (toHub n G full h a) (toHub n G full h b)
+      (steps-sound n G g (λ x. true) (λ x. entryAt n full h x) h (entryAt n full h a) a ha)
+      (steps-sound n G g (λ x. true) (λ x. entryAt n full h x) h (entryAt n full h b) b hb)
 
   -- the hubs that count, and the table of reports
   module _ (isHub : ℕ → Bool) (report : List ℕ) where
     abbrev Chosen-here : Outcome Answer → Type 0
-    Chosen-here q = Chosen a b (entry n report a b) (entry n low a b) (attaining isHub n full a b (entry n report a b)) q
+    Chosen-here q = Chosen a b (entryAt n report a b) (entryAt n low a b) (attaining isHub n full a b (entryAt n report a b)) q
 
     -- where the nodes of the route are found, they are a chain of as many links as the report
     pub route-sound : (x : Answer) → Chosen-here (answered x) → (x .report ≡ none → ⊥) → Sound (linked n G) (x .report) a b (nodes n s G full low a b (x .route))
@@ -376,9 +376,9 @@ module _ (n s : ℕ) (G : Graph) (g : IsGraph n G) (full low : List ℕ) (a b : 
     route-sound x (to-none f e) m = absurd (m refl)
     route-sound x (to-low f g e) m = subst (λ (d : ℕ). Sound (linked n G) d a b (byLow n s G low a b)) e low-sound
     route-sound x (to-hub f g y z) m =
-        let hub = attaining isHub n full a b (entry n report a b) in
-        let i = attains isHub n full a b (entry n report a b) z in
-        let e = via-sum isHub n full a b hub (entry n report a b) (i .2) g in
+        let hub = attaining isHub n full a b (entryAt n report a b) in
+        let i = attains isHub n full a b (entryAt n report a b) z in
+        let e = via-sum isHub n full a b hub (entryAt n report a b) (i .2) g in
         subst (λ (d : ℕ). Sound (linked n G) d a b (join (toHub n G full hub a) (toHub n G full hub b))) (e .2) (hub-sound hub)
 
     -- with no route there are no nodes
@@ -403,7 +403,7 @@ module _ (n s : ℕ) (G : Graph) (g : IsGraph n G) (full low : List ℕ) (a b : 
     -- whatever hubs are taken and whatever the tables hold, a walk given out is a chain of as many links as reported
     pub walk-given-out : (w : ℕ) → Given-out (linked n G) a b w (walkOf w n s G full low a b (pairBy isHub n full low report a b))
     unfolding pairBy walkOf nodes refuseWalk
-    walk-given-out w = at (chosen a b (entry n report a b) (entry n low a b) (attaining isHub n full a b (entry n report a b)))
+    walk-given-out w = at (chosen a b (entryAt n report a b) (entryAt n low a b) (attaining isHub n full a b (entryAt n report a b)))
       where
         fitted : (x : Answer) → Chosen-here (answered x) → (x .report ≡ none → ⊥) → Given-out (linked n G) a b w (fit w x (nodes n s G full low a b (x .route)))
         fitted x c m = fit-outcome (linked n G) a b w x (nodes n s G full low a b (x .route)) (route-sound x c m)

@@ -7,7 +7,7 @@ use Rattle.model.specs.declared.Refusal.{Refusal}
 use Rattle.model.specs.declared.Refusal.the-variants.{Form, NodeCount, LinkCount, LineNode, EqualEnds, RepeatedLink, LineCount, ShortList, NotSurvey, NoNode, NotAttained, ShortBuffer}
 use Rattle.model.specs.declared.Size.{Size}
 use Rattle.model.specs.declared.Answer.{Answer}
-use Rattle.model.specs.declared.Tested.{Tested}
+use Rattle.model.specs.declared.TestResult.{TestResult}
 use Rattle.model.specs.declared.Accepting.{Accepting}
 use Rattle.model.specs.declared.Accepting.the-variants as accepting
 use Rattle.model.specs.declared.Reading.{Reading}
@@ -70,6 +70,6 @@ abbrev pub pairAnswer : Asking → Outcome Answer
 pairAnswer (asking.Refused r) = refused (number r)
 pairAnswer (asking.Answered x) = answered x
 
-abbrev pub testAnswer : Testing → Outcome Tested
+abbrev pub testAnswer : Testing → Outcome TestResult
 testAnswer (testing.Refused r) = refused (number r)
-testAnswer (testing.Tested x) = answered x
+testAnswer (testing.Answered x) = answered x

@@ -37,17 +37,17 @@ unfoldable pub all : (ℕ → Bool) → List ℕ → Bool
 all p [] = true
 all p (x ∷ xs) = p x && all p xs
 
--- the elements at which the test passes, in their order
+-- filter: the elements at which the test passes, in their order
 unfoldable pub keep : (ℕ → Bool) → List ℕ → List ℕ
 keep p [] = []
 keep p (x ∷ xs) = let r = keep p xs in if p x then x ∷ r else r
 
--- the first element at which the test passes, or d
+-- find: the first element at which the test passes, or d
 unfoldable pub firstOf : (ℕ → Bool) → ℕ → List ℕ → ℕ
 firstOf p d [] = d
 firstOf p d (x ∷ xs) = let r = firstOf p d xs in if p x then x else r
 
--- the lists f x, one after the other
+-- concatMap: the lists f x, one after the other
 unfoldable pub gather : {A B : Type 0} → (A → List B) → List A → List B
 gather f [] = []
 gather f (x ∷ xs) = f x ++ gather f xs

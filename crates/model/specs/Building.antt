@@ -13,7 +13,7 @@ use Rattle.model.specs.Threshold.{threshold}
 use Rattle.model.specs.Hubs.{hubs}
 use Rattle.model.specs.Tables.{shortTables, fullTable, lowTable, reportTable, hubList}
 
-pub record Building : Type 0 where
+pub record AfterBuilding : Type 0 where
   pub answer : Outcome ℕ
   pub full : List ℕ
   pub low : List ℕ
@@ -21,11 +21,11 @@ pub record Building : Type 0 where
   pub hubs : List ℕ
 
 -- what a call of the code returned and left in the tables and the hub list
-abbrev pub returned : Counting → (full low report list : List ℕ) → Building
-returned r full low report list = record { answer = countAnswer r; full = full; low = low; report = report; hubs = list }
+abbrev pub buildReturned : Counting → (full low report list : List ℕ) → AfterBuilding
+buildReturned r full low report list = record { answer = countAnswer r; full = full; low = low; report = report; hubs = list }
 
 -- "accepted, entries past those named keep their values. The answer is the hub count."
-unfoldable pub built : (n s : ℕ) → Graph → (full low report list : List ℕ) → Building
+unfoldable pub built : (n s : ℕ) → Graph → (full low report list : List ℕ) → AfterBuilding
 built n s G full low report list = record {
   answer = answered (length (hubs n s G));
   full = over (fullTable n s G) full;
@@ -40,9 +40,9 @@ shortLists n starts full low report list = ltb starts (n + 1) || shortTables n f
 
 -- "2 as above; 8 ..; 9 the lists are not a survey's as described (a neighbour list shorter than the last start included), or m, half the
 -- last start, is above 16,384. Refused, nothing is altered"
-unfoldable pub building : (n : ℕ) (starts neighbours full low report list : List ℕ) → Building
+unfoldable pub building : (n : ℕ) (starts neighbours full low report list : List ℕ) → AfterBuilding
 building n starts neighbours full low report list =
-    let refuse : ℕ → Building = λ r. record { answer = refused r; full = full; low = low; report = report; hubs = list } in
+    let refuse : ℕ → AfterBuilding = λ r. record { answer = refused r; full = full; low = low; report = report; hubs = list } in
     if badSize n then refuse 2
     else if shortLists n (length starts) (length full) (length low) (length report) (length list) then refuse 8
     else if not (isSurvey n starts neighbours) then refuse 9

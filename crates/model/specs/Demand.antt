@@ -7,7 +7,7 @@ use mathlib.Core.List.{List}
 use Prim.Native.Nat.{ℕ, _+_, _≤_, _<_}
 use lib.ListN.{length, take}
 use Rattle.model.specs.declared.Answer.{Answer}
-use Rattle.model.specs.declared.Tested.{Tested}
+use Rattle.model.specs.declared.TestResult.{TestResult}
 use Rattle.model.specs.declared.Verdict.{Verdict}
 use Rattle.model.specs.declared.Verdict.the-variants.{Parted, Long, Short}
 use Rattle.model.specs.Answers.{Outcome, answered}
@@ -16,8 +16,8 @@ use Rattle.model.specs.Graph.{Edges, linked, Chain, Unjoined, Fewest, Wi
 use Rattle.model.specs.declared.Size.{Size}
 use Rattle.model.specs.SurveyText.{surveyText}
 use Rattle.model.specs.Survey.{neighboursOf, Accepted}
-use Rattle.model.specs.Reading.{named, Reading}
-use Rattle.model.specs.Walking.{Walking}
+use Rattle.model.specs.Reading.{named, AfterReading}
+use Rattle.model.specs.Walking.{AfterWalking}
 
 -- "after a reading these are exactly the pairs that the text's link lines name"; "one read from a text always is" accepted
 pub record IsRead (text : List ℕ) (x : Size) (starts neighbours : List ℕ) : Type 0 where
@@ -27,7 +27,7 @@ pub record IsRead (text : List ℕ) (x : Size) (starts neighbours : List ℕ) : 
   pub lines : text ≡ surveyText (x .nodes) (x .links) links
   pub exactly : (a b : ℕ) → linked (x .nodes) (neighboursOf starts neighbours) a b ≡ named links a b
 
-abbrev pub ReadRight : List ℕ → Reading → Type 0
+abbrev pub ReadRight : List ℕ → AfterReading → Type 0
 ReadRight text r = (x : Size) → r .answer ≡ answered x → IsRead text x (r .starts) (r .neighbours)
 
 -- a report: none exactly where no chain joins the pair; else at least the fewest links, and at most two more
@@ -44,7 +44,7 @@ pub record AllowedAnswer (E : Edges) (a b : ℕ) (o : Outcome Answer) : Type 0 w
 
 -- "writing the walk answers the same. .. if the walk list is long enough: report + 1 entries or more, and any length where there is no
 -- route." w is its length
-abbrev pub WalkAnswers : ℕ → Outcome Answer → Walking → Type 0
+abbrev pub WalkAnswers : ℕ → Outcome Answer → AfterWalking → Type 0
 WalkAnswers w o r = (x : Answer) → o ≡ answered x → (x .report ≡ none) ⊎ (x .report < w) → r .answer ≡ answered x
 
 -- "The written walk is the first report + 1 entries: a first, b last, each linked to the next.": a chain of r links
@@ -54,7 +54,7 @@ pub record IsWalk (E : Edges) (a b r : ℕ) (list : List ℕ) : Type 0 where
   pub chain : Chain E r a b
 
 -- "A walk given out is a chain of the survey's links even where the tables were altered.", of exactly the reported length
-abbrev pub WalkSound : Edges → (a b : ℕ) → Walking → Type 0
+abbrev pub WalkSound : Edges → (a b : ℕ) → AfterWalking → Type 0
 WalkSound E a b r = (x : Answer) → r .answer ≡ answered x → (x .report ≡ none → ⊥) → IsWalk E a b (x .report) (r .walk)
 
 -- a verdict: parted exactly when some two nodes are not joined, never short where some two are four or more apart, never long
@@ -65,7 +65,7 @@ pub record VerdictRight (n : ℕ) (E : Edges) (v : Verdict) : Type 0 where
   pub not-long : ((a b : ℕ) → a < n → b < n → WithinTwo E a b) → v ≡ Long → ⊥
 
 -- a test that is not refused, with a right verdict; `verdict::test` promises it for an accepted survey
-pub record RightVerdict (n : ℕ) (E : Edges) (o : Outcome Tested) : Type 0 where
-  pub value : Tested
+pub record RightVerdict (n : ℕ) (E : Edges) (o : Outcome TestResult) : Type 0 where
+  pub value : TestResult
   pub given : o ≡ answered value
   pub right : VerdictRight n E (value .verdict)

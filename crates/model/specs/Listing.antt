@@ -16,7 +16,7 @@ use Rattle.model.specs.Threshold.{threshold}
 use Rattle.model.specs.Hubs.{hubs}
 use Rattle.model.specs.Tables.{fullTable, lowTable, reportTable}
 use Rattle.model.specs.Pair.{pair}
-use Rattle.model.specs.Writing.{Writing, writingOf}
+use Rattle.model.specs.Writing.{AfterWriting, writingOf}
 use Rattle.model.specs.Reading.{Parsed, parse, graphOf}
 
 -- "the report (`-` for none) and the route (`low`, a hub's number, or `-`)"; `low` is 108 111 119. No pair a < b is one node
@@ -59,5 +59,5 @@ unfoldable pub listing : List ℕ → List ℕ
 listing text = listingText (parse 128 2048 (128 + 1) (2 * 2048) text)
 
 -- the call that writes the listing into a lent buffer, as writing back does. Document 01 has the program alone (docs/DECISIONS.md, 19)
-abbrev pub writingListing : (text buffer : List ℕ) → Writing
+abbrev pub writingListing : (text buffer : List ℕ) → AfterWriting
 writingListing text buffer = writingOf (answered tt) (listing text) buffer

@@ -10,7 +10,7 @@ use Rattle.model.specs.declared.Route.the-variants.{Itself, Low, Through
 use Rattle.model.specs.declared.Answer.{Answer}
 use Rattle.model.specs.Answers.{Outcome, refused, answered}
 use Rattle.model.specs.Basics.{none, if_then_else_, upTo, has, firstOf}
-use Rattle.model.specs.Tables.{entry, via}
+use Rattle.model.specs.Tables.{entryAt, via}
 
 abbrev pub answer : ℕ → Route → Answer
 answer r t = record { report = r; route = t }
@@ -32,7 +32,7 @@ attaining isHub n full a b r = firstOf (λ h. isHub h && eqb (via n full a b h) 
 
 -- "Where no hub list is lent, every node h whose Full entries for both a and b are not none is taken as a hub."
 unfoldable pub taken : ℕ → List ℕ → (a b : ℕ) → ℕ → Bool
-taken n full a b h = not (eqb (entry n full h a) none) && not (eqb (entry n full h b) none)
+taken n full a b h = not (eqb (entryAt n full h a) none) && not (eqb (entryAt n full h b) none)
 
 -- the hubs of a lent hub list
 unfoldable pub listed : ℕ → List ℕ → ℕ → Bool
@@ -41,8 +41,8 @@ listed n list h = has h (take n list)
 -- the answer that the tables give for nodes below n, with hubs as the test says
 unfoldable pub pairBy : (ℕ → Bool) → (n : ℕ) (full low report : List ℕ) (a b : ℕ) → Outcome Answer
 pairBy isHub n full low report a b =
-    let r = entry n report a b in
-    choose a b r (entry n low a b) (attaining isHub n full a b r)
+    let r = entryAt n report a b in
+    choose a b r (entryAt n low a b) (attaining isHub n full a b r)
 
 -- with no hub list lent
 unfoldable pub pair : (n : ℕ) (full low report : List ℕ) (a b : ℕ) → Outcome Answer

@@ -81,17 +81,17 @@ unfoldable pub neighboursFrom : ℕ → Graph → List ℕ
 neighboursFrom n G = gather G (upTo n)
 
 -- the answer, and the two lists at return
-pub record Reading : Type 0 where
+pub record AfterReading : Type 0 where
   pub answer : Outcome Size
   pub starts : List ℕ
   pub neighbours : List ℕ
 
 -- what a call of the code returned and left in the two lists
-abbrev pub returned : read.Reading → List ℕ → List ℕ → Reading
-returned r s x = record { answer = readAnswer r; starts = s; neighbours = x }
+abbrev pub readReturned : read.Reading → List ℕ → List ℕ → AfterReading
+readReturned r s x = record { answer = readAnswer r; starts = s; neighbours = x }
 
 -- "Every refusal leaves both lists all zero; success leaves zero past the used entries, and the answer is n and m."
-unfoldable pub readingOf : (p q : ℕ) → Outcome Parsed → Reading
+unfoldable pub readingOf : (p q : ℕ) → Outcome Parsed → AfterReading
 readingOf p q (refused k) = record { answer = refused k; starts = replicate p 0; neighbours = replicate q 0 }
 readingOf p q (answered x) =
     let G : Graph = graphOf (x .nodes) (x .links) in
@@ -102,5 +102,5 @@ readingOf p q (answered x) =
     }
 
 -- reading a text into lists of p and q entries
-unfoldable pub reading : (text : List ℕ) (p q : ℕ) → Reading
+unfoldable pub reading : (text : List ℕ) (p q : ℕ) → AfterReading
 reading text p q = readingOf p q (parse 1024 16384 p q text)

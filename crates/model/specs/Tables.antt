@@ -19,8 +19,8 @@ rowsOf n f list = gather (λ a. map (f a) (upTo n)) list
 unfoldable pub table : ℕ → (ℕ → ℕ → ℕ) → List ℕ
 table n f = rowsOf n f (upTo n)
 
-unfoldable pub entry : ℕ → List ℕ → ℕ → ℕ → ℕ
-entry n t a b = getD t (a * n + b) 0
+unfoldable pub entryAt : ℕ → List ℕ → ℕ → ℕ → ℕ
+entryAt n t a b = getD t (a * n + b) 0
 
 -- "a table shorter than n × n", by the three lengths
 abbrev pub shortTables : ℕ → (full low report : ℕ) → Bool
@@ -55,7 +55,7 @@ sum x y = if eqb x none || eqb y none then none else x + y
 
 -- Full(h, a) + Full(h, b): the length of the route from a to b through hub h
 unfoldable pub via : ℕ → List ℕ → ℕ → ℕ → ℕ → ℕ
-via n full a b h = sum (entry n full h a) (entry n full h b)
+via n full a b h = sum (entryAt n full h a) (entryAt n full h b)
 
 -- the least of x and of f h, over all h of a list
 abbrev pub least : (ℕ → ℕ) → ℕ → List ℕ → ℕ
@@ -65,7 +65,7 @@ least f x hs = foldr (λ h y. min (f h) y) x hs
 -- leaving out candidates with a none; none if nothing is left." "Linked nodes get no special case." (In built tables, of at most
 -- 1,024 nodes, none is above every sum.)
 abbrev pub reportEntry : ℕ → (full low hs : List ℕ) → ℕ → ℕ → ℕ
-reportEntry n full low hs a b = if eqb a b then 0 else least (via n full a b) (entry n low a b) hs
+reportEntry n full low hs a b = if eqb a b then 0 else least (via n full a b) (entryAt n low a b) hs
 
 abbrev pub reportOf : ℕ → (full low hs : List ℕ) → List ℕ
 reportOf n full low hs = table n (reportEntry n full low hs)

@@ -6,7 +6,7 @@ use lib.Dec.{eqb, ltb}
 use lib.ListN.{length}
 use Rattle.model.specs.declared.Verdict.{Verdict}
 use Rattle.model.specs.declared.Verdict.the-variants.{Parted, Long, Short}
-use Rattle.model.specs.declared.Tested.{Tested}
+use Rattle.model.specs.declared.TestResult.{TestResult}
 use Rattle.model.specs.Basics.{none, if_then_else_, upTo, any, firstOf}
 use Rattle.model.specs.Graph.{fewest, linked}
 use Rattle.model.specs.Survey.{Graph}
@@ -27,5 +27,5 @@ verdictOf n G list =
     else Short
 
 -- "The count of searches is given too: that node's neighbours plus one, or the number of hubs, as those sets have it."
-unfoldable pub tested : ℕ → ℕ → Graph → Tested
-tested n s G = let list = sources n s G in record { verdict = verdictOf n G list; searches = length list }
+unfoldable pub testResult : ℕ → ℕ → Graph → TestResult
+testResult n s G = let list = sources n s G in record { verdict = verdictOf n G list; searches = length list }

@@ -11,7 +11,7 @@ use Rattle.model.specs.declared.Route.the-variants.{Itself, Low, Through
 use Rattle.model.specs.Basics.{none, if_then_else_, firstOf}
 use Rattle.model.specs.Survey.{Graph}
 use Rattle.model.specs.Hubs.{isLow}
-use Rattle.model.specs.Tables.{entry}
+use Rattle.model.specs.Tables.{entryAt}
 
 -- v, and then the rest of a walk if there is one
 unfoldable pub before : ℕ → Option (List ℕ) → Option (List ℕ)
@@ -34,11 +34,11 @@ steps G may left goal (suc d) v =
 
 -- "By low: from each node go to the smallest-numbered low neighbour x whose Low(x, b) is one less."
 unfoldable pub byLow : ℕ → ℕ → Graph → List ℕ → (a b : ℕ) → Option (List ℕ)
-byLow n s G low a b = steps G (isLow s G) (λ x. entry n low x b) b (entry n low a b) a
+byLow n s G low a b = steps G (isLow s G) (λ x. entryAt n low x b) b (entryAt n low a b) a
 
 -- "from a go by the smallest-numbered neighbour x whose Full(h, x) is one less, to h"
 unfoldable pub toHub : ℕ → Graph → List ℕ → (h a : ℕ) → Option (List ℕ)
-toHub n G full h a = steps G (λ x. true) (λ x. entry n full h x) h (entry n full h a) a
+toHub n G full h a = steps G (λ x. true) (λ x. entryAt n full h x) h (entryAt n full h a) a
 
 -- "then the same walk from b to h, turned round"
 unfoldable pub join : Option (List ℕ) → Option (List ℕ) → Option (List ℕ)

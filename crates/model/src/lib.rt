@@ -59,7 +59,7 @@ pub enum Verdict {
 }
 
 // The verdict and the count of searches.
-pub struct Tested {
+pub struct TestResult {
     pub verdict: Verdict,
     pub searches: usize,
 }
@@ -92,5 +92,5 @@ pub enum Asking {
 // What testing answers.
 pub enum Testing {
     Refused(Refusal),
-    Tested(Tested),
+    Answered(TestResult),
 }

@@ -15,7 +15,7 @@ use lib.ListN.{getD, set, length, replicate}
 use lib.Pow.{shl-exact, shr-shr, pow-pos}
 use lib.Seq.{getD-set-same, getD-set-other}
 use Rattle.model.proofs.Entries.{getD-same}
-use Rattle.nodeset.specs.NodeSet.{bit, member, emptySet, with, without}
+use Rattle.nodeset.specs.NodeSet.{bit, member, emptySet, inserted, difference}
 
 -- two tests agree where each passes when the other does
 pub eqb-same : (a b c d : ℕ) → (a ≡ b → c ≡ d) → (c ≡ d → a ≡ b) → eqb a b ≡ eqb c d
@@ -114,8 +114,8 @@ shifted k h = shl-exact {a = 1} 1 k 64 (omega arith) (omega arith) ∙ one-mul (
 
 -- the word of node v with the node's bit set
 pub set-with : (ws : List ℕ) (v : ℕ) → v / 64 < length ws
-    → member (set ws (v / 64) (bitOr (getD ws (v / 64) 0) (1 * 2 ^ (v % 64) % 2 ^ 64))) ≡ with (member ws) v
-unfolding member with
+    → member (set ws (v / 64) (bitOr (getD ws (v / 64) 0) (1 * 2 ^ (v % 64) % 2 ^ 64))) ≡ inserted (member ws) v
+unfolding member inserted
 set-with ws v h = fun-ext (λ x. at x (decEq (x / 64) (v / 64)))
   where
     new : ℕ
@@ -136,8 +136,8 @@ set-with ws v h = fun-ext (λ x. at x (decEq (x / 64) (v / 64)))
 
 -- the word of node v with the node's bit cleared
 pub set-without : (ws : List ℕ) (v : ℕ) → v / 64 < length ws
-    → member (set ws (v / 64) (bitAnd (getD ws (v / 64) 0) ((2 ^ 64 - 1) - 1 * 2 ^ (v % 64) % 2 ^ 64))) ≡ without (member ws) (λ x. eqb x v)
-unfolding member without
+    → member (set ws (v / 64) (bitAnd (getD ws (v / 64) 0) ((2 ^ 64 - 1) - 1 * 2 ^ (v % 64) % 2 ^ 64))) ≡ difference (member ws) (λ x. eqb x v)
+unfolding member difference
 set-without ws v h = fun-ext (λ x. at x (decEq (x / 64) (v / 64)))
   where
     one : ℕ

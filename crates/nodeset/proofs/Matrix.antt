@@ -11,7 +11,7 @@ use lib.Dec.{eqb, ltb}
 use lib.ListN.{replicate}
 use Rattle.model.specs.Graph.{Edges}
 use Rattle.model.proofs.Tests.{and-l, and-r, and-i, T-true, same-test, eq-T, lt-or}
-use Rattle.nodeset.specs.NodeSet.{Nodes, member, emptySet, with}
+use Rattle.nodeset.specs.NodeSet.{Nodes, member, emptySet, inserted}
 use Rattle.nodeset.specs.Matrix.{edgesIn}
 use Rattle.nodeset.proofs.Bits.{empty-words}
 
@@ -32,9 +32,9 @@ pair-test u x v w hx hw =
     eq-T (1024 * u + x) (1024 * v + w) (omega arith))
 
 -- the matrix with the link v-w
-pub edge-with : (ws ws′ : List ℕ) (v w : ℕ) → w < 1024 → member ws′ ≡ with (member ws) (1024 * v + w)
+pub edge-with : (ws ws′ : List ℕ) (v w : ℕ) → w < 1024 → member ws′ ≡ inserted (member ws) (1024 * v + w)
     → edgesIn ws′ ≡ (λ u x. (eqb u v && eqb x w) || edgesIn ws u x)
-unfolding edgesIn with
+unfolding edgesIn inserted
 edge-with ws ws′ v w hw e = same-edges (edgesIn ws′) (λ u x. (eqb u v && eqb x w) || edgesIn ws u x) (λ u x.
     ap (λ (p : Nodes). ltb x 1024 && p (1024 * u + x)) e
     ∙ ⊎-elim (λ l. near u x l) (λ l. far u x l) (lt-or x 1024))

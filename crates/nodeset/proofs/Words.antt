@@ -18,7 +18,7 @@ use Rattle.model.specs.Basics.{if_then_else_, from, upTo, keep, firstOf}
 use Rattle.model.proofs.Tests.{picked, ltb-same, lt-or, eq-or}
 use Rattle.model.proofs.Lists.{First, found, nothing, first-of, keep-append, keep-length, length-upTo, upTo-add}
 use Rattle.model.proofs.Loops.{below-next}
-use Rattle.nodeset.specs.NodeSet.{Nodes, bit, member, emptySet, both, without, membersFrom}
+use Rattle.nodeset.specs.NodeSet.{Nodes, bit, member, emptySet, intersection, difference, membersFrom}
 use Rattle.nodeset.proofs.Bits.{bit-and, bit-not, bit-zero, bit-suc, bit-of-zero, word-bit, empty-words, shifted}
 use Rattle.nodeset.proofs.Members.{Lowest, lowest, bits-none, ones-members, row-word}
 
@@ -33,7 +33,7 @@ next-word f i w h =
 
 pub record Counted (a b : List ℕ) (total i : ℕ) : Type 0 where
   pub within : i ≤ length a
-  pub count : total ≡ length (keep (both (member a) (member b)) (upTo (64 * i)))
+  pub count : total ≡ length (keep (intersection (member a) (member b)) (upTo (64 * i)))
 
 pub counted-none : (a b : List ℕ) → Counted a b 0 0
 unfolding upTo from keep
@@ -42,16 +42,16 @@ counted-none a b = record { within = omega arith; count = refl }
 module _ (a b : List ℕ) (total i : ℕ) (c : Counted a b total i) where
   pub counted-few : total ≤ 64 * i
   counted-few =
-      let f : Nodes = both (member a) (member b) in
+      let f : Nodes = intersection (member a) (member b) in
       omega (arith, c .count, keep-length f (upTo (64 * i)), length-upTo (64 * i))
 
   pub counted-ones : getD a i 0 < 2 ^ 64 → ones (bitAnd (getD a i 0) (getD b i 0)) ≤ 64
   counted-ones l = ones-le 64 (bitAnd (getD a i 0) (getD b i 0)) (lt-of-le-of-lt (and-le-l (getD a i 0) (getD b i 0)) l)
 
   pub counted-more : i < length a → getD a i 0 < 2 ^ 64 → Counted a b (total + ones (bitAnd (getD a i 0) (getD b i 0))) (i + 1)
-  unfolding both
+  unfolding intersection
   counted-more h l =
-      let f : Nodes = both (member a) (member b) in
+      let f : Nodes = intersection (member a) (member b) in
       let w = bitAnd (getD a i 0) (getD b i 0) in
       let e = next-word f i w (λ k q. ap₂ _&&_ (word-bit a i k q) (word-bit b i k q) ∙ sym (bit-and (getD a i 0) (getD b i 0) k)) in
       let m = ones-members 64 (64 * i) w (lt-of-le-of-lt (and-le-l (getD a i 0) (getD b i 0)) l) in
@@ -60,10 +60,10 @@ module _ (a b : List ℕ) (total i : ℕ) (c : Counted a b total i) where
         count = omega (arith, c .count, ap length e ∙ length-append (keep f (upTo (64 * i))) (membersFrom 64 (64 * i) w), m);
       }
 
-  pub counted-all : length a ≤ i → total ≡ length (keep (both (member a) (member b)) (upTo (64 * length a)))
+  pub counted-all : length a ≤ i → total ≡ length (keep (intersection (member a) (member b)) (upTo (64 * length a)))
   counted-all h =
       let e : i ≡ length a = omega (arith, c .within) in
-      c .count ∙ ap (λ (n : ℕ). length (keep (both (member a) (member b)) (upTo (64 * n)))) e
+      c .count ∙ ap (λ (n : ℕ). length (keep (intersection (member a) (member b)) (upTo (64 * n)))) e
 
 -- ---- what is in both sets
 
@@ -87,8 +87,8 @@ module _ (a b c : List ℕ) (i : ℕ) (s : Shared a b c i) where
             (getD-set-same c i w 0 (omega (arith, s .same)));
       }
 
-  pub shared-all : length a ≤ i → member c ≡ both (member a) (member b)
-  unfolding member both
+  pub shared-all : length a ≤ i → member c ≡ intersection (member a) (member b)
+  unfolding member intersection
   shared-all h = fun-ext (λ v. ⊎-elim (λ q. ap (λ (x : ℕ). bit x (v % 64)) (s .done (v / 64) q) ∙ bit-and (getD a (v / 64) 0) (getD b (v / 64) 0) (v % 64)) (λ q. past v q) (lt-or (v / 64) i))
     where
       past : (v : ℕ) → i ≤ v / 64 → bit (getD c (v / 64) 0) (v % 64) ≡ (bit (getD a (v / 64) 0) (v % 64) && bit (getD b (v / 64) 0) (v % 64))
@@ -122,8 +122,8 @@ module _ (b a₀ a : List ℕ) (i : ℕ) (r : Removed b a₀ a i) where
         rest = λ j q. getD-set-other a i j w 0 (omega arith) ∙ r .rest j (omega arith);
       }
 
-  pub removed-all : length a ≤ i → member a ≡ without (member a₀) (member b)
-  unfolding member without
+  pub removed-all : length a ≤ i → member a ≡ difference (member a₀) (member b)
+  unfolding member difference
   removed-all h = fun-ext (λ v. ⊎-elim (λ q. r .done (v / 64) q (v % 64) (omega arith)) (λ q. past v q) (lt-or (v / 64) i))
     where
       past : (v : ℕ) → i ≤ v / 64 → bit (getD a (v / 64) 0) (v % 64) ≡ (bit (getD a₀ (v / 64) 0) (v % 64) && not (bit (getD b (v / 64) 0) (v % 64)))

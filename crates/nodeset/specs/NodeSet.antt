@@ -22,15 +22,15 @@ member ws v = bit (getD ws (v / 64) 0) (v % 64)
 unfoldable pub emptySet : Nodes
 emptySet v = false
 
--- a set with one member more; what is in both; what is in one and not in the other
-unfoldable pub with : Nodes → ℕ → Nodes
-with p v x = eqb x v || p x
+-- a set with one member more
+unfoldable pub inserted : Nodes → ℕ → Nodes
+inserted p v x = eqb x v || p x
 
-unfoldable pub both : Nodes → Nodes → Nodes
-both p q x = p x && q x
+unfoldable pub intersection : Nodes → Nodes → Nodes
+intersection p q x = p x && q x
 
-unfoldable pub without : Nodes → Nodes → Nodes
-without p q x = p x && not (q x)
+unfoldable pub difference : Nodes → Nodes → Nodes
+difference p q x = p x && not (q x)
 
 -- the set bits of the k lowest of a word, ascending, where the lowest bit stands for the number u
 unfoldable pub membersFrom : ℕ → ℕ → ℕ → List ℕ

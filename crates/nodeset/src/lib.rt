@@ -4,22 +4,22 @@ ghost use Prim.Native.Nat.{_*_, _/_, _^_, _<_, _≤_};
 ghost use lib.Dec.{eqb, ltb};
 ghost use lib.ListN.{length, replicate};
 ghost use Rattle.model.specs.Basics.{upTo, keep, firstOf};
-ghost use Rattle.nodeset.specs.NodeSet.{member, with, both, without};
+ghost use Rattle.nodeset.specs.NodeSet.{member, inserted, intersection, difference};
 
 // Puts a node into the set.
 pub fn insert(words: &mut [u64], v: usize)
     requires { ⌜ v / 64 < length (now words) ⌝ }
-    ensures { λ _. ⌜ member (now (words .exit)) ≡ with (member (now (words .entry))) v ⌝ }
+    ensures { λ _. ⌜ member (now (words .exit)) ≡ inserted (member (now (words .entry))) v ⌝ }
 {
     let i = v / 64;
     let k = v % 64;
     words[i] = words[i] | (1u64 << k);
 }
 
-// Takes a node out of the set.
-pub fn take_out(words: &mut [u64], v: usize)
+// Removes a node from the set.
+pub fn remove(words: &mut [u64], v: usize)
     requires { ⌜ v / 64 < length (now words) ⌝ }
-    ensures { λ _. ⌜ member (now (words .exit)) ≡ without (member (now (words .entry))) (λ x. eqb x v) ⌝ }
+    ensures { λ _. ⌜ member (now (words .exit)) ≡ difference (member (now (words .entry))) (λ x. eqb x v) ⌝ }
 {
     let i = v / 64;
     let k = v % 64;
@@ -36,10 +36,10 @@ pub fn contains(words: &[u64], v: usize) -> bool
     (words[i] >> k) % 2 == 1
 }
 
-// How many nodes are in both sets: ones are counted word by word.
-pub fn common(a: &[u64], b: &[u64]) -> usize
+// The size of the intersection of two sets: ones are counted word by word.
+pub fn count_intersection(a: &[u64], b: &[u64]) -> usize
     requires { ⌜ (length (now a) ≡ length (now b)) × (64 * length (now a) < 2 ^ 32) ⌝ }
-    ensures { λ r. ⌜ r ≡ length (keep (both (member (now (a .entry))) (member (now (b .entry)))) (upTo (64 * length (now (a .entry))))) ⌝ }
+    ensures { λ r. ⌜ r ≡ length (keep (intersection (member (now (a .entry))) (member (now (b .entry)))) (upTo (64 * length (now (a .entry))))) ⌝ }
 {
     let mut total = 0;
     let mut i = 0;
@@ -50,10 +50,10 @@ pub fn common(a: &[u64], b: &[u64]) -> usize
     total
 }
 
-// Another set becomes what is in both sets.
-pub fn write_common(a: &[u64], b: &[u64], into: &mut [u64])
+// A third set becomes the intersection of two.
+pub fn write_intersection(a: &[u64], b: &[u64], into: &mut [u64])
     requires { ⌜ (length (now a) ≡ length (now b)) × (length (now into) ≡ length (now a)) ⌝ }
-    ensures { λ _. ⌜ member (now (into .exit)) ≡ both (member (now (a .entry))) (member (now (b .entry))) ⌝ }
+    ensures { λ _. ⌜ member (now (into .exit)) ≡ intersection (member (now (a .entry))) (member (now (b .entry))) ⌝ }
 {
     let mut i = 0;
     while i < a.len() {
@@ -62,10 +62,10 @@ pub fn write_common(a: &[u64], b: &[u64], into: &mut [u64])
     }
 }
 
-// Takes the members of b out of a.
-pub fn remove(a: &mut [u64], b: &[u64])
+// Set difference: the members of b are removed from a.
+pub fn subtract(a: &mut [u64], b: &[u64])
     requires { ⌜ length (now a) ≡ length (now b) ⌝ }
-    ensures { λ _. ⌜ member (now (a .exit)) ≡ without (member (now (a .entry))) (member (now (b .entry))) ⌝ }
+    ensures { λ _. ⌜ member (now (a .exit)) ≡ difference (member (now (a .entry))) (member (now (b .entry))) ⌝ }
 {
     let mut i = 0;
     while i < a.len() {

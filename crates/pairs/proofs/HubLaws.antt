@@ -9,7 +9,7 @@ use borrow.Author.Tests.{eq-eqb, ne-eqb}
 use lib.Dec.{eqb}
 use lib.ListN.{getD}
 use Rattle.model.specs.Basics.{none, upTo}
-use Rattle.model.specs.Tables.{entry, sum, via}
+use Rattle.model.specs.Tables.{entryAt, sum, via}
 use Rattle.model.specs.Pair.{taken, attaining}
 use Rattle.model.proofs.Lists.{length-upTo}
 use Rattle.model.proofs.Entries.{getD-upTo}
@@ -22,17 +22,17 @@ module _ (n : ℕ) (full : List ℕ) (a b r : ℕ) where
 
   -- one of the two entries is none, or neither
   module _ (h : ℕ) where
-    pub first-none : entry n full h a ≡ none → false ≡ attains h
+    pub first-none : entryAt n full h a ≡ none → false ≡ attains h
     unfolding taken
-    first-none e = rw (eq-eqb (entry n full h a) none e)
+    first-none e = rw (eq-eqb (entryAt n full h a) none e)
 
-    pub second-none : (entry n full h a ≡ none → ⊥) → entry n full h b ≡ none → false ≡ attains h
+    pub second-none : (entryAt n full h a ≡ none → ⊥) → entryAt n full h b ≡ none → false ≡ attains h
     unfolding taken
-    second-none f e = rw (ne-eqb (entry n full h a) none f, eq-eqb (entry n full h b) none e)
+    second-none f e = rw (ne-eqb (entryAt n full h a) none f, eq-eqb (entryAt n full h b) none e)
 
-    pub neither-none : (entry n full h a ≡ none → ⊥) → (entry n full h b ≡ none → ⊥) → eqb (entry n full h a + entry n full h b) r ≡ attains h
+    pub neither-none : (entryAt n full h a ≡ none → ⊥) → (entryAt n full h b ≡ none → ⊥) → eqb (entryAt n full h a + entryAt n full h b) r ≡ attains h
     unfolding taken via sum
-    neither-none f g = rw (ne-eqb (entry n full h a) none f, ne-eqb (entry n full h b) none g)
+    neither-none f g = rw (ne-eqb (entryAt n full h a) none f, ne-eqb (entryAt n full h b) none g)
 
   -- the nodes from h on still say which is the smallest
   pub record Tried (h : ℕ) : Type 0 where

@@ -14,7 +14,7 @@ ghost use Rattle.model.specs.Answers.{answered, pairAnswer};
 ghost use Rattle.model.specs.Survey.{neighboursOf, Accepted};
 ghost use Rattle.model.specs.Graph.{linked};
 ghost use Rattle.model.specs.Threshold.{threshold};
-ghost use Rattle.model.specs.Tables.{entry, via, shortTables, AreBuilt};
+ghost use Rattle.model.specs.Tables.{entryAt, via, shortTables, AreBuilt};
 ghost use Rattle.model.specs.Pair.{answer, taken, attaining, pair};
 ghost use Rattle.model.specs.Asking.{asking};
 ghost use Rattle.model.specs.Demand.{AllowedAnswer};
@@ -22,7 +22,7 @@ ghost use Rattle.model.specs.Demand.{AllowedAnswer};
 // Entry (row, column) of a table of n nodes.
 pub fn entry_at(n: usize, table: &[u16], row: usize, column: usize) -> u16
     requires { ⌜ (n ≤ 1024) × (n * n ≤ length (now table)) × (row < n) × (column < n) ⌝ }
-    ensures { λ r. ⌜ r ≡ entry n (now (table .entry)) row column ⌝ }
+    ensures { λ r. ⌜ r ≡ entryAt n (now (table .entry)) row column ⌝ }
 {
     let at = row * n + column;
     table[at]

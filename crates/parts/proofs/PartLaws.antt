@@ -15,7 +15,7 @@ use Rattle.model.specs.Graph.{Edges, linked}
 use Rattle.model.specs.Survey.{Graph, neighboursOf, Accepted}
 use Rattle.model.specs.Threshold.{threshold}
 use Rattle.model.specs.Hubs.{isHigh, isLow}
-use Rattle.model.specs.Tables.{entry}
+use Rattle.model.specs.Tables.{entryAt}
 use Rattle.model.specs.Walk.{steps, byLow, toHub}
 use Rattle.model.proofs.Acceptance.{few-neighbours}
 use Rattle.model.proofs.Entries.{place-inside}
@@ -45,22 +45,22 @@ all-given n d (some l) E v goal s h old new e w = record {
   left = w;
 }
 
-module _ (n : ℕ) (starts neighbours : List ℕ) (acc : Accepted n starts neighbours) (limit : ℕ) (table : List ℕ) (step goal v : ℕ) (h : v < n) where
+module _ (n : ℕ) (starts neighbours : List ℕ) (acc : Accepted n starts neighbours) (limit : ℕ) (table : List ℕ) (stride goal v : ℕ) (h : v < n) where
   abbrev G : Graph
   G = neighboursOf starts neighbours
 
   abbrev o : Option (List ℕ)
-  o = stepsIn starts neighbours limit table step goal (leftIn table step v) v
+  o = stepsIn starts neighbours limit table stride goal (leftIn table stride v) v
 
-  pub part-long : n ≤ leftIn table step v → (nodes : List ℕ) → PartIs n o 0 nodes nodes
-  part-long l nodes = no-part n (too-long n G (acc .lists .graph) (isLow limit G) (leftIn table step) goal (leftIn table step v) v h (omega arith) l) nodes nodes
+  pub part-long : n ≤ leftIn table stride v → (nodes : List ℕ) → PartIs n o 0 nodes nodes
+  part-long l nodes = no-part n (too-long n G (acc .lists .graph) (isLow limit G) (leftIn table stride) goal (leftIn table stride v) v h (omega arith) l) nodes nodes
 
   pub part-missed : (old new : List ℕ) → false ≡ given o → PartIs n o 0 old new
   part-missed old new e = no-part n (not-given o e) old new
 
-  pub part-given : leftIn table step v < n → (old new : List ℕ) → true ≡ given o → Leaves o old new → PartIs n o (leftIn table step v + 1) old new
+  pub part-given : leftIn table stride v < n → (old new : List ℕ) → true ≡ given o → Leaves o old new → PartIs n o (leftIn table stride v + 1) old new
   part-given l old new e w =
-      all-given n (leftIn table step v) o (linked n G) v goal (steps-sound n G (acc .lists .graph) (isLow limit G) (leftIn table step) goal (leftIn table step v) v h) l old new e w
+      all-given n (leftIn table stride v) o (linked n G) v goal (steps-sound n G (acc .lists .graph) (isLow limit G) (leftIn table stride) goal (leftIn table stride v) v h) l old new e w
 
 -- ---- the columns of Low, and the rows of Full
 
@@ -70,20 +70,20 @@ behind i l = take-all (length l - i) (drop i l) (omega (arith, length-drop i l))
 
 module _ (n : ℕ) (size : n ≤ 1024) (table : List ℕ) (room : n * n ≤ length table) (i : ℕ) (h : i < n) where
   pub column-inside : Inside n (take (length table - i) (drop i table)) n
-  column-inside = record { few = size; entry = λ x l. rw (behind i table) (omega (arith, length-drop i table, place-inside n x i l h)) }
+  column-inside = record { few = size; holds = λ x l. rw (behind i table) (omega (arith, length-drop i table, place-inside n x i l h)) }
 
   pub row-inside : Inside n (take (length table - i * n) (drop (i * n) table)) 1
-  row-inside = record { few = omega arith; entry = λ x l. rw (behind (i * n) table, mul-one) (omega (arith, length-drop (i * n) table, place-inside n i x h l)) }
+  row-inside = record { few = omega arith; holds = λ x l. rw (behind (i * n) table, mul-one) (omega (arith, length-drop (i * n) table, place-inside n i x h l)) }
 
 -- the links left are the entries of the table
-column-left : (n : ℕ) (table : List ℕ) (i x : ℕ) → leftIn (take (length table - i) (drop i table)) n x ≡ entry n table x i
-unfolding entry
+column-left : (n : ℕ) (table : List ℕ) (i x : ℕ) → leftIn (take (length table - i) (drop i table)) n x ≡ entryAt n table x i
+unfolding entryAt
 column-left n table i x =
     let e : i + x * n ≡ x * n + i = omega arith in
     rw (behind i table) (getD-drop i table (x * n) 0 ∙ ap (λ (k : ℕ). getD table k 0) e)
 
-row-left : (n : ℕ) (table : List ℕ) (i x : ℕ) → leftIn (take (length table - i * n) (drop (i * n) table)) 1 x ≡ entry n table i x
-unfolding entry
+row-left : (n : ℕ) (table : List ℕ) (i x : ℕ) → leftIn (take (length table - i * n) (drop (i * n) table)) 1 x ≡ entryAt n table i x
+unfolding entryAt
 row-left n table i x = rw (behind (i * n) table, mul-one) (getD-drop (i * n) table x 0)
 
 module _ (n : ℕ) (starts neighbours : List ℕ) (acc : Accepted n starts neighbours) where
@@ -101,8 +101,8 @@ module _ (n : ℕ) (starts neighbours : List ℕ) (acc : Accepted n starts neigh
     low-part s low a b h e p =
         let G : Graph = neighboursOf starts neighbours in
         let t : List ℕ = take (length low - b) (drop b low) in
-        let same : steps G (isLow s G) (leftIn t n) b (leftIn t n a) a ≡ steps G (isLow s G) (λ x. entry n low x b) b (leftIn t n a) a =
-        steps-same n G (acc .lists .graph) (isLow s G) (isLow s G) (leftIn t n) (λ x. entry n low x b) b (λ x l. refl) (λ x l. column-left n low b x) (leftIn t n a) a h in
+        let same : steps G (isLow s G) (leftIn t n) b (leftIn t n a) a ≡ steps G (isLow s G) (λ x. entryAt n low x b) b (leftIn t n a) a =
+        steps-same n G (acc .lists .graph) (isLow s G) (isLow s G) (leftIn t n) (λ x. entryAt n low x b) b (λ x l. refl) (λ x l. column-left n low b x) (leftIn t n a) a h in
         rw (same, column-left n low b a, e) at p
 
     -- and the part to a hub by a row of Full
@@ -113,6 +113,6 @@ module _ (n : ℕ) (starts neighbours : List ℕ) (acc : Accepted n starts neigh
     hub-part full h v l p =
         let G : Graph = neighboursOf starts neighbours in
         let t : List ℕ = take (length full - h * n) (drop (h * n) full) in
-        let same : steps G (isLow n G) (leftIn t 1) h (leftIn t 1 v) v ≡ steps G (λ x. true) (λ x. entry n full h x) h (leftIn t 1 v) v =
-        steps-same n G (acc .lists .graph) (isLow n G) (λ x. true) (leftIn t 1) (λ x. entry n full h x) h any-low (λ x k. row-left n full h x) (leftIn t 1 v) v l in
+        let same : steps G (isLow n G) (leftIn t 1) h (leftIn t 1 v) v ≡ steps G (λ x. true) (λ x. entryAt n full h x) h (leftIn t 1 v) v =
+        steps-same n G (acc .lists .graph) (isLow n G) (λ x. true) (leftIn t 1) (λ x. entryAt n full h x) h any-low (λ x k. row-left n full h x) (leftIn t 1 v) v l in
         rw (same, row-left n full h v) at p

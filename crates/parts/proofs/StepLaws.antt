@@ -21,24 +21,24 @@ use Rattle.model.proofs.Walks.{Sound, steps-sound, next-below}
 use Rattle.parts.specs.Parts.{leftIn, leadsOn, stepsIn, given, Leaves}
 
 -- where a node's entry stands
-pub place-small : (n x step : ℕ) → n ≤ 1024 → x < n → step ≤ 1024 → x * step ≤ 1048576
-place-small n x step p q r = let h : x ≤ 1024 = omega arith in mul-le-mul h r
+pub place-small : (n x stride : ℕ) → n ≤ 1024 → x < n → stride ≤ 1024 → x * stride ≤ 1048576
+place-small n x stride p q r = let h : x ≤ 1024 = omega arith in mul-le-mul h r
 
 -- ---- whether a walk may go on to a node
 
-module _ (starts neighbours : List ℕ) (limit : ℕ) (table : List ℕ) (step d x : ℕ) where
+module _ (starts neighbours : List ℕ) (limit : ℕ) (table : List ℕ) (stride d x : ℕ) where
   not-on : (a : Bool) {b : Bool} → b ≡ false → false ≡ (a && b)
   not-on true e = sym e
   not-on false e = refl
 
-  pub elsewhere : (leftIn table step x ≡ d → ⊥) → false ≡ leadsOn starts neighbours limit table step d x
-  elsewhere f = not-on (isLow limit (neighboursOf starts neighbours) x) (ne-eqb (leftIn table step x) d f)
+  pub elsewhere : (leftIn table stride x ≡ d → ⊥) → false ≡ leadsOn starts neighbours limit table stride d x
+  elsewhere f = not-on (isLow limit (neighboursOf starts neighbours) x) (ne-eqb (leftIn table stride x) d f)
 
-  pub nearer : leftIn table step x ≡ d → {row : List ℕ} → row ≡ neighboursOf starts neighbours x → ltb (length row) limit ≡ leadsOn starts neighbours limit table step d x
+  pub nearer : leftIn table stride x ≡ d → {row : List ℕ} → row ≡ neighboursOf starts neighbours x → ltb (length row) limit ≡ leadsOn starts neighbours limit table stride d x
   unfolding isLow isHigh
   nearer e q =
       let k = length (neighboursOf starts neighbours x) in
-      rw (eq-eqb (leftIn table step x) d e, q) (sym (and-true (not (leb limit k)) ∙ not-leb k limit))
+      rw (eq-eqb (leftIn table stride x) d e, q) (sym (and-true (not (leb limit k)) ∙ not-leb k limit))
 
 -- ---- the steps from v where the way on leads nowhere, or to x
 
@@ -82,13 +82,13 @@ unfolding before
 before-done missing d v nodes new r h E k x goal e s w = (w .0, tt)
 before-done (some l) d v nodes new r h E k x goal e s w = (w .0, w .1 ∙ over-more l nodes d v (s .1 ∙ e) h)
 
-module _ (n : ℕ) (starts neighbours : List ℕ) (acc : Accepted n starts neighbours) (limit : ℕ) (table : List ℕ) (step goal : ℕ) where
+module _ (n : ℕ) (starts neighbours : List ℕ) (acc : Accepted n starts neighbours) (limit : ℕ) (table : List ℕ) (stride goal : ℕ) where
   abbrev G : Graph
   G = neighboursOf starts neighbours
 
   -- what the code answers and leaves
   abbrev pub Done : (d v : ℕ) → Bool → (old new : List ℕ) → Type 0
-  Done d v r old new = (r ≡ given (stepsIn starts neighbours limit table step goal d v)) × Leaves (stepsIn starts neighbours limit table step goal d v) old new
+  Done d v r old new = (r ≡ given (stepsIn starts neighbours limit table stride goal d v)) × Leaves (stepsIn starts neighbours limit table stride goal d v) old new
 
   -- no step is left
   pub last-step : (d v : ℕ) (nodes : List ℕ) → d ≡ 0 → d < length nodes → Done d v (eqb v goal) nodes (set nodes d v)
@@ -102,24 +102,24 @@ module _ (n : ℕ) (starts neighbours : List ℕ) (acc : Accepted n starts neigh
       at true = (refl, front)
       at false = (refl, tt)
 
-  module _ (d v x : ℕ) (some-left : d ≡ 0 → ⊥) {row : List ℕ} (e : x ≡ firstOf (leadsOn starts neighbours limit table step (d - 1)) none row)
+  module _ (d v x : ℕ) (some-left : d ≡ 0 → ⊥) {row : List ℕ} (e : x ≡ firstOf (leadsOn starts neighbours limit table stride (d - 1)) none row)
       (q : row ≡ neighboursOf starts neighbours v) where
-    on : x ≡ next G (isLow limit G) (leftIn table step) (d - 1) v
+    on : x ≡ next G (isLow limit G) (leftIn table stride) (d - 1) v
     unfolding next
-    on = e ∙ ap (firstOf (leadsOn starts neighbours limit table step (d - 1)) none) q
+    on = e ∙ ap (firstOf (leadsOn starts neighbours limit table stride (d - 1)) none) q
 
     -- no step leads on
     pub no-step : x ≡ none → (old new : List ℕ) → Done d v false old new
-    no-step z old new = none-left old new (steps-stuck G (isLow limit G) (leftIn table step) goal d v x some-left on z)
+    no-step z old new = none-left old new (steps-stuck G (isLow limit G) (leftIn table stride) goal d v x some-left on z)
 
     -- a step leads on to a node below n
     pub step-below : v < n → (x ≡ none → ⊥) → x < n
-    step-below h f = subst (λ (k : ℕ). k < n) (sym on) (next-below n G (acc .lists .graph) (isLow limit G) (leftIn table step) (d - 1) v h (λ z. f (on ∙ z)))
+    step-below h f = subst (λ (k : ℕ). k < n) (sym on) (next-below n G (acc .lists .graph) (isLow limit G) (leftIn table stride) (d - 1) v h (λ z. f (on ∙ z)))
 
     -- and the steps from there make those from v
     pub step-on : v < n → (x ≡ none → ⊥) → (nodes new : List ℕ) → d < length nodes → (r : Bool)
         → Done (d - 1) x r (set nodes d v) new → Done d v r nodes new
     step-on h f nodes new room r w =
-        subst (λ (o : Option (List ℕ)). (r ≡ given o) × Leaves o nodes new) (sym (steps-on G (isLow limit G) (leftIn table step) goal d v x some-left on f))
-        (before-done (stepsIn starts neighbours limit table step goal (d - 1) x) d v nodes new r room (linked n G) (d - 1) x goal (omega arith)
-        (steps-sound n G (acc .lists .graph) (isLow limit G) (leftIn table step) goal (d - 1) x (step-below h f)) w)
+        subst (λ (o : Option (List ℕ)). (r ≡ given o) × Leaves o nodes new) (sym (steps-on G (isLow limit G) (leftIn table stride) goal d v x some-left on f))
+        (before-done (stepsIn starts neighbours limit table stride goal (d - 1) x) d v nodes new r room (linked n G) (d - 1) x goal (omega arith)
+        (steps-sound n G (acc .lists .graph) (isLow limit G) (leftIn table stride) goal (d - 1) x (step-below h f)) w)

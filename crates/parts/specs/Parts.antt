@@ -12,23 +12,23 @@ use Rattle.model.specs.Survey.{neighboursOf}
 use Rattle.model.specs.Hubs.{isLow}
 use Rattle.model.specs.Walk.{steps}
 
--- the links left from x, in a row of a table (step 1) or in a column (step n)
+-- the links left from x, in a row of a table (stride 1) or in a column (stride n)
 abbrev pub leftIn : List ℕ → ℕ → ℕ → ℕ
-leftIn table step x = getD table (x * step) 0
+leftIn table stride x = getD table (x * stride) 0
 
 -- each node has such an entry
-pub record Inside (n : ℕ) (table : List ℕ) (step : ℕ) : Type 0 where
-  pub few : step ≤ 1024
-  pub entry : (x : ℕ) → x < n → x * step < length table
+pub record Inside (n : ℕ) (table : List ℕ) (stride : ℕ) : Type 0 where
+  pub few : stride ≤ 1024
+  pub holds : (x : ℕ) → x < n → x * stride < length table
 
 -- a walk may go on to x: it has fewer than `limit` neighbours (a low node, or any) and is d links from the goal
-abbrev pub leadsOn : (starts neighbours : List ℕ) (limit : ℕ) (table : List ℕ) (step d x : ℕ) → Bool
-leadsOn starts neighbours limit table step d x = isLow limit (neighboursOf starts neighbours) x && eqb (leftIn table step x) d
+abbrev pub leadsOn : (starts neighbours : List ℕ) (limit : ℕ) (table : List ℕ) (stride d x : ℕ) → Bool
+leadsOn starts neighbours limit table stride d x = isLow limit (neighboursOf starts neighbours) x && eqb (leftIn table stride x) d
 
 -- d steps from v to the goal
-abbrev pub stepsIn : (starts neighbours : List ℕ) (limit : ℕ) (table : List ℕ) (step goal d v : ℕ) → Option (List ℕ)
-stepsIn starts neighbours limit table step goal d v =
-    steps (neighboursOf starts neighbours) (isLow limit (neighboursOf starts neighbours)) (leftIn table step) goal d v
+abbrev pub stepsIn : (starts neighbours : List ℕ) (limit : ℕ) (table : List ℕ) (stride goal d v : ℕ) → Option (List ℕ)
+stepsIn starts neighbours limit table stride goal d v =
+    steps (neighboursOf starts neighbours) (isLow limit (neighboursOf starts neighbours)) (leftIn table stride) goal d v
 
 -- whether there is a part
 abbrev pub given : Option (List ℕ) → Bool

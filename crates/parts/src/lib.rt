@@ -17,14 +17,14 @@ fn leads_on(
     neighbours: &[u16],
     limit: usize,
     table: &[u16],
-    step: usize,
+    stride: usize,
     d: usize,
     x: usize,
 ) -> bool
-    requires { ⌜ Rows n (now starts) (now neighbours) × Inside n (now table) step × (x < n) ⌝ }
-    ensures { λ r. ⌜ r ≡ leadsOn (now (starts .entry)) (now (neighbours .entry)) limit (now (table .entry)) step d x ⌝ }
+    requires { ⌜ Rows n (now starts) (now neighbours) × Inside n (now table) stride × (x < n) ⌝ }
+    ensures { λ r. ⌜ r ≡ leadsOn (now (starts .entry)) (now (neighbours .entry)) limit (now (table .entry)) stride d x ⌝ }
 {
-    if table[x * step] as usize != d {
+    if table[x * stride] as usize != d {
         return false;
     }
     let row = survey::own(n, starts, neighbours, x);
@@ -39,17 +39,17 @@ fn next_node(
     row: &[u16],
     limit: usize,
     table: &[u16],
-    step: usize,
+    stride: usize,
     d: usize,
 ) -> u16
-    requires { ⌜ Rows n (now starts) (now neighbours) × Inside n (now table) step ⌝ }
+    requires { ⌜ Rows n (now starts) (now neighbours) × Inside n (now table) stride ⌝ }
     requires { ⌜ ((x : ℕ) → T (has x (now row)) → x < n) ⌝ }
-    ensures { λ r. ⌜ r ≡ firstOf (leadsOn (now (starts .entry)) (now (neighbours .entry)) limit (now (table .entry)) step d) none (now (row .entry)) ⌝ }
+    ensures { λ r. ⌜ r ≡ firstOf (leadsOn (now (starts .entry)) (now (neighbours .entry)) limit (now (table .entry)) stride d) none (now (row .entry)) ⌝ }
 {
     let mut i = 0;
     while i < row.len() {
         let x = row[i];
-        if leads_on(n, starts, neighbours, limit, table, step, d, x as usize) {
+        if leads_on(n, starts, neighbours, limit, table, stride, d, x as usize) {
             return x;
         }
         i += 1;
@@ -58,29 +58,29 @@ fn next_node(
 }
 
 // Takes d steps from v, each to the first neighbour that leaves one link fewer, and tells whether they end at the goal. A node's
-// place in `nodes` is the number of links left from it, and its distance in the table is the entry at node * step.
+// place in `nodes` is the number of links left from it, and its distance in the table is the entry at node * stride.
 fn take_steps(
     n: usize,
     starts: &[u32],
     neighbours: &[u16],
     limit: usize,
     table: &[u16],
-    step: usize,
+    stride: usize,
     goal: usize,
     d: usize,
     v: usize,
     nodes: &mut [u16],
 ) -> bool
-    requires { ⌜ Accepted n (now starts) (now neighbours) × Inside n (now table) step × (v < n) × (d < length (now nodes)) ⌝ }
-    ensures { λ r. ⌜ r ≡ given (stepsIn (now (starts .entry)) (now (neighbours .entry)) limit (now (table .entry)) step goal d v) ⌝ }
-    ensures { λ _. ⌜ Leaves (stepsIn (now (starts .entry)) (now (neighbours .entry)) limit (now (table .entry)) step goal d v) (now (nodes .entry)) (now (nodes .exit)) ⌝ }
+    requires { ⌜ Accepted n (now starts) (now neighbours) × Inside n (now table) stride × (v < n) × (d < length (now nodes)) ⌝ }
+    ensures { λ r. ⌜ r ≡ given (stepsIn (now (starts .entry)) (now (neighbours .entry)) limit (now (table .entry)) stride goal d v) ⌝ }
+    ensures { λ _. ⌜ Leaves (stepsIn (now (starts .entry)) (now (neighbours .entry)) limit (now (table .entry)) stride goal d v) (now (nodes .entry)) (now (nodes .exit)) ⌝ }
 {
     nodes[d] = v as u16;
     if d == 0 {
         return v == goal;
     }
     let row = survey::own(n, starts, neighbours, v);
-    let x = next_node(n, starts, neighbours, row, limit, table, step, d - 1);
+    let x = next_node(n, starts, neighbours, row, limit, table, stride, d - 1);
     if x == model::NONE {
         return false;
     }
@@ -90,7 +90,7 @@ fn take_steps(
         neighbours,
         limit,
         table,
-        step,
+        stride,
         goal,
         d - 1,
         x as usize,
@@ -106,20 +106,31 @@ fn write_part(
     neighbours: &[u16],
     limit: usize,
     table: &[u16],
-    step: usize,
+    stride: usize,
     goal: usize,
     v: usize,
     nodes: &mut [u16],
 ) -> usize
-    requires { ⌜ Accepted n (now starts) (now neighbours) × Inside n (now table) step × (v < n) × (n ≤ length (now nodes)) ⌝ }
-    ensures { λ r. ⌜ PartIs n (stepsIn (now (starts .entry)) (now (neighbours .entry)) limit (now (table .entry)) step goal (leftIn (now (table .entry)) step v) v)
+    requires { ⌜ Accepted n (now starts) (now neighbours) × Inside n (now table) stride × (v < n) × (n ≤ length (now nodes)) ⌝ }
+    ensures { λ r. ⌜ PartIs n (stepsIn (now (starts .entry)) (now (neighbours .entry)) limit (now (table .entry)) stride goal (leftIn (now (table .entry)) stride v) v)
         r (now (nodes .entry)) (now (nodes .exit)) ⌝ }
 {
-    let d = table[v * step] as usize;
+    let d = table[v * stride] as usize;
     if n <= d {
         return 0;
     }
-    if !take_steps(n, starts, neighbours, limit, table, step, goal, d, v, nodes) {
+    if !take_steps(
+        n,
+        starts,
+        neighbours,
+        limit,
+        table,
+        stride,
+        goal,
+        d,
+        v,
+        nodes,
+    ) {
         return 0;
     }
     d + 1

@@ -15,7 +15,7 @@ use Rattle.model.specs.Basics.{none, if_then_else_, has, keep}
 use Rattle.model.proofs.Tests.{picked, and-l, true-T, eq-or}
 use Rattle.model.proofs.Ascending.{getD-has}
 use Rattle.model.proofs.Loops.{drop-next}
-use Rattle.nodeset.specs.NodeSet.{with, without}
+use Rattle.nodeset.specs.NodeSet.{inserted, difference}
 use Rattle.queue.specs.Visiting.{unreached, Progress, joined, visited, visitedAll, Unvisited}
 
 -- ---- nodes without a distance
@@ -85,8 +85,8 @@ module _ (allowed unvisited : ℕ → Bool) (row : List ℕ) (o : Unvisited allo
   pub unvisited-new : unvisited w ≡ true → getD row w 0 ≡ none
   unvisited-new e = eqb→eq (getD row w 0) none (and-l (eqb (getD row w 0) none) (allowed w) (true-T (eqb (getD row w 0) none && allowed w) (sym (o w h) ∙ e)))
 
-  pub unvisited-joined : (d : ℕ) → d < none → (after : ℕ → Bool) → after ≡ without unvisited (λ x. eqb x w) → Unvisited allowed after (set row w d)
-  unfolding without
+  pub unvisited-joined : (d : ℕ) → d < none → (after : ℕ → Bool) → after ≡ difference unvisited (λ x. eqb x w) → Unvisited allowed after (set row w d)
+  unfolding difference
   unvisited-joined d l after e x k = ap (λ (f : ℕ → Bool). f x) e ∙ ⊎-elim same other (eq-or x w)
     where
       same : x ≡ w → (unvisited x && not (eqb x w)) ≡ (eqb (getD (set row w d) x 0) none && allowed x)
@@ -100,9 +100,9 @@ module _ (allowed unvisited : ℕ → Bool) (row : List ℕ) (o : Unvisited allo
           ∙ ap (λ (y : ℕ). eqb y none && allowed x) (sym (getD-set-other row w x d 0 q))
 
 -- at the start all allowed nodes but the source are unvisited
-pub unvisited-start : (allowed : ℕ → Bool) (n s : ℕ) {below others closed all unvisited : ℕ → Bool} → below ≡ (λ v. ltb v n) → others ≡ without below allowed
-    → closed ≡ with others s → all ≡ (λ v. ltb v n) → unvisited ≡ without all closed → s < n → Unvisited allowed unvisited (set (replicate n none) s 0)
-unfolding with without
+pub unvisited-start : (allowed : ℕ → Bool) (n s : ℕ) {below others closed all unvisited : ℕ → Bool} → below ≡ (λ v. ltb v n) → others ≡ difference below allowed
+    → closed ≡ inserted others s → all ≡ (λ v. ltb v n) → unvisited ≡ difference all closed → s < n → Unvisited allowed unvisited (set (replicate n none) s 0)
+unfolding inserted difference
 unvisited-start allowed n s {below} {others} {closed} {all} {unvisited} eb ew ec ea eo hs x k = says ∙ ⊎-elim same other (eq-or x s)
   where
     within : x < n

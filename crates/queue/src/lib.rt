@@ -27,7 +27,7 @@ fn visit(
     if !nodeset::contains(unvisited, w) {
         return tail;
     }
-    nodeset::take_out(unvisited, w);
+    nodeset::remove(unvisited, w);
     row[w] = d;
     queue[tail] = w as u16;
     tail + 1
@@ -66,10 +66,10 @@ pub fn unvisited_nodes(n: usize, allowed: &[u64], source: usize, unvisited: &mut
 {
     let mut closed = [0u64; 16];
     nodeset::insert_below(&mut closed, n);
-    nodeset::remove(&mut closed, allowed);
+    nodeset::subtract(&mut closed, allowed);
     nodeset::insert(&mut closed, source);
     nodeset::insert_below(unvisited, n);
-    nodeset::remove(unvisited, &closed);
+    nodeset::subtract(unvisited, &closed);
 }
 
 // The next place of the queue to take a node from: its end, where no node is unvisited, since no later visit finds one.

@@ -12,7 +12,7 @@ use Rattle.model.specs.declared.Refusal.{Refusal}
 use Rattle.model.specs.declared.Reading.the-variants as read
 use Rattle.model.specs.Basics.{upTo, has, over}
 use Rattle.model.specs.SurveyText.{line}
-use Rattle.model.specs.Reading.{named, readLinks, parsed, countsOf, parseLinks, parse, graphOf, startsOf, neighboursFrom, Reading, returned, readingOf, reading}
+use Rattle.model.specs.Reading.{named, readLinks, parsed, countsOf, parseLinks, parse, graphOf, startsOf, neighboursFrom, AfterReading, readReturned, readingOf, reading}
 use Rattle.model.proofs.Lists.{keep-same, keep-below, of-upTo}
 use Rattle.model.proofs.Links.{Within, AllFresh, of-first-taken, links-sound}
 use Rattle.model.specs.Demand.{ReadRight}
@@ -109,16 +109,16 @@ module _ (n m p q : ℕ) (t ws : List ℕ) where
   -- lists that were all zero before the rows were written
   pub read-written : Filled n m p q t ws → (s₀ x₀ s x : List ℕ) → s₀ ≡ replicate p 0 → x₀ ≡ replicate q 0
       → s ≡ over (startsOf n (rowsIn ws)) s₀ → x ≡ over (neighboursFrom n (rowsIn ws)) x₀
-      → returned (read.Read (record { nodes = n; links = m })) s x ≡ readingOf p q (parsed n (readLinks n m [] t))
+      → readReturned (read.Read (record { nodes = n; links = m })) s x ≡ readingOf p q (parsed n (readLinks n m [] t))
   read-written f s₀ x₀ s x hs hx es ex =
-      ap₂ (λ (a b : List ℕ). returned (read.Read (record { nodes = n; links = m })) a b)
+      ap₂ (λ (a b : List ℕ). readReturned (read.Read (record { nodes = n; links = m })) a b)
       (es ∙ ap (over (startsOf n (rowsIn ws))) hs) (ex ∙ ap (over (neighboursFrom n (rowsIn ws))) hx)
       ∙ f .is
 
 -- refused, the lists are as they were
-pub read-refused : (p q : ℕ) (r : Refusal) (s x : List ℕ) → s ≡ replicate p 0 → x ≡ replicate q 0 → returned (read.Refused r) s x ≡ readingOf p q (refused (number r))
+pub read-refused : (p q : ℕ) (r : Refusal) (s x : List ℕ) → s ≡ replicate p 0 → x ≡ replicate q 0 → readReturned (read.Refused r) s x ≡ readingOf p q (refused (number r))
 unfolding readingOf
-read-refused p q r s x hs hx = ap₂ (λ (a b : List ℕ). returned (read.Refused r) a b) hs hx
+read-refused p q r s x hs hx = ap₂ (λ (a b : List ℕ). readReturned (read.Refused r) a b) hs hx
 
 -- ---- the whole text, read into lists s and x that were cleared
 
@@ -134,19 +134,19 @@ module _ (N M : ℕ) (text s₀ x₀ s x : List ℕ) (hs : s ≡ replicate (leng
   lengths P h = subst (λ (q : ℕ). P (length s₀) q) same-x (subst (λ (p : ℕ). P p (length x)) same-s h)
 
   pub first-refused : (r : Refusal) → refused (number r) ≡ countsOf N M (length s) (length x) (line 83 text)
-      → returned (read.Refused r) s x ≡ readingOf (length s₀) (length x₀) (parse N M (length s₀) (length x₀) text)
+      → readReturned (read.Refused r) s x ≡ readingOf (length s₀) (length x₀) (parse N M (length s₀) (length x₀) text)
   first-refused r e =
-      lengths (λ p q. returned (read.Refused r) s x ≡ readingOf p q (parse N M p q text))
+      lengths (λ p q. readReturned (read.Refused r) s x ≡ readingOf p q (parse N M p q text))
       (read-refused (length s) (length x) r s x (filled-own 0 (length s₀) hs) (filled-own 0 (length x₀) hx) ∙ sym (parse-refused N M (length s) (length x) text (number r) (sym e)))
 
   pub first-read : (n m : ℕ) (rest : List ℕ) → answered (n, m, rest) ≡ countsOf N M (length s) (length x) (line 83 text)
-      → (r : Reading) → r ≡ readingOf (length s) (length x) (parsed n (readLinks n m [] rest))
+      → (r : AfterReading) → r ≡ readingOf (length s) (length x) (parsed n (readLinks n m [] rest))
       → r ≡ readingOf (length s₀) (length x₀) (parse N M (length s₀) (length x₀) text)
   first-read n m rest e r h =
       lengths (λ p q. r ≡ readingOf p q (parse N M p q text))
       (h ∙ sym (ap (readingOf (length s) (length x)) (parse-counted N M (length s) (length x) text n m rest (sym e))))
 
 -- within document 01's limits
-pub read-is : (text : List ℕ) (p q : ℕ) (r : Reading) → r ≡ readingOf p q (parse 1024 16384 p q text) → (r ≡ reading text p q) × ReadRight text r
+pub read-is : (text : List ℕ) (p q : ℕ) (r : AfterReading) → r ≡ readingOf p q (parse 1024 16384 p q text) → (r ≡ reading text p q) × ReadRight text r
 unfolding reading
-read-is text p q r e = (e, subst (λ (x : Reading). ReadRight text x) (sym e) (reading-right text p q))
+read-is text p q r e = (e, subst (λ (x : AfterReading). ReadRight text x) (sym e) (reading-right text p q))

@@ -7,7 +7,7 @@ ghost use mathlib.Core.Path.{_≡_};
 ghost use mathlib.Core.List.{[]};
 ghost use Prim.Native.Nat.{_+_, _*_, _≤_};
 ghost use lib.ListN.{length, replicate, drop};
-ghost use Rattle.model.specs.Reading.{readLinks, parsed, parse, returned, readingOf, reading};
+ghost use Rattle.model.specs.Reading.{readLinks, parsed, parse, readReturned, readingOf, reading};
 ghost use Rattle.model.specs.Demand.{ReadRight};
 
 // Reads the link lines from a place on and writes both lists, which are all zero; refused, they stay so.
@@ -21,7 +21,7 @@ fn read_lists(
 ) -> Reading
     requires { ⌜ (n ≤ 1024) × (m ≤ 16384) × (n + 1 ≤ length (now starts)) × (2 * m ≤ length (now neighbours)) ⌝ }
     requires { ⌜ (now starts ≡ replicate (length (now starts)) 0) × (now neighbours ≡ replicate (length (now neighbours)) 0) ⌝ }
-    ensures { λ r. ⌜ returned r (now (starts .exit)) (now (neighbours .exit))
+    ensures { λ r. ⌜ readReturned r (now (starts .exit)) (now (neighbours .exit))
         ≡ readingOf (length (now (starts .entry))) (length (now (neighbours .entry))) (parsed n (readLinks n m [] (drop at (now (text .entry))))) ⌝ }
 {
     let mut bits = [0u64; 16384];
@@ -43,7 +43,7 @@ pub fn read_within(
     neighbours: &mut [u16],
 ) -> Reading
     requires { ⌜ («most_nodes» ≤ 1024) × («most_links» ≤ 16384) ⌝ }
-    ensures { λ r. ⌜ returned r (now (starts .exit)) (now (neighbours .exit))
+    ensures { λ r. ⌜ readReturned r (now (starts .exit)) (now (neighbours .exit))
         ≡ readingOf (length (now (starts .entry))) (length (now (neighbours .entry)))
         (parse «most_nodes» «most_links» (length (now (starts .entry))) (length (now (neighbours .entry))) (now (text .entry))) ⌝ }
 {
@@ -57,9 +57,9 @@ pub fn read_within(
 
 // Reads a survey from its text into two lists.
 pub fn read_survey(text: &[u8], starts: &mut [u32], neighbours: &mut [u16]) -> Reading
-    ensures { λ r. ⌜ returned r (now (starts .exit)) (now (neighbours .exit))
+    ensures { λ r. ⌜ readReturned r (now (starts .exit)) (now (neighbours .exit))
         ≡ reading (now (text .entry)) (length (now (starts .entry))) (length (now (neighbours .entry))) ⌝ }
-    ensures { λ r. ⌜ ReadRight (now (text .entry)) (returned r (now (starts .exit)) (now (neighbours .exit))) ⌝ }
+    ensures { λ r. ⌜ ReadRight (now (text .entry)) (readReturned r (now (starts .exit)) (now (neighbours .exit))) ⌝ }
 {
     read_within(text, 1024, 16384, starts, neighbours)
 }

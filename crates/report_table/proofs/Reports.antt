@@ -15,7 +15,7 @@ use lib.Seq.{take-at, ext-getD, getD-take, getD-drop, take-suc, take-all, getD-s
 use Rattle.lists.specs.Writing.{Wrote}
 use Rattle.lists.proofs.Writing.{wrote-over, over-whole}
 use Rattle.model.specs.Basics.{none, if_then_else_, upTo, has, over}
-use Rattle.model.specs.Tables.{table, entry, sum, via, least, reportEntry, reportOf}
+use Rattle.model.specs.Tables.{table, entryAt, sum, via, least, reportEntry, reportOf}
 use Rattle.model.proofs.Allowance.{least-base}
 use Rattle.model.proofs.Entries.{length-row, getD-row, length-table, entry-front}
 use Rattle.model.proofs.Lists.{has-head, has-tail}
@@ -29,10 +29,10 @@ is-row n f l size e =
     ext-getD 0 l (map f (upTo n)) (size ∙ sym (length-row f n)) (λ b k. let j : b < n = omega (arith, size) in e b j ∙ sym (getD-row f n b 0 j))
 
 -- row a of a table, as a part of the list
-pub own-row : (n a : ℕ) (t : List ℕ) → a < n → n * n ≤ length t → midOf (a * n) (a * n + n - a * n) t ≡ map (entry n t a) (upTo n)
-unfolding entry
+pub own-row : (n a : ℕ) (t : List ℕ) → a < n → n * n ≤ length t → midOf (a * n) (a * n + n - a * n) t ≡ map (entryAt n t a) (upTo n)
+unfolding entryAt
 own-row n a t h room =
-    is-row n (entry n t a) (midOf (a * n) (a * n + n - a * n) t) (part-length n a t h room) (λ b k. getD-take (a * n + n - a * n) (drop (a * n) t) b 0 (omega arith) ∙ getD-drop (a * n) t b 0)
+    is-row n (entryAt n t a) (midOf (a * n) (a * n + n - a * n) t) (part-length n a t h room) (λ b k. getD-take (a * n + n - a * n) (drop (a * n) t) b 0 (omega arith) ∙ getD-drop (a * n) t b 0)
 
 pub relaxed-row : (x : ℕ) (f g : ℕ → ℕ) (l : List ℕ) → relaxed x (map f l) (map g l) ≡ map (λ b. min (x + f b) (g b)) l
 unfolding relaxed
@@ -53,31 +53,31 @@ lesser-sum x y e h = at (eq-or x none) (eq-or y none)
 
 module _ (n : ℕ) (full low : List ℕ) (hs : List ℕ) (a : ℕ) where
   unfoldable pub leastTo : ℕ → ℕ → ℕ
-  leastTo i b = least (via n full a b) (entry n low a b) (take i hs)
+  leastTo i b = least (via n full a b) (entryAt n low a b) (take i hs)
 
-  pub least-none : map (entry n low a) (upTo n) ≡ map (leastTo 0) (upTo n)
+  pub least-none : map (entryAt n low a) (upTo n) ≡ map (leastTo 0) (upTo n)
   unfolding leastTo
   least-none = refl
 
-  least-front : (b v : ℕ) (l : List ℕ) → least (via n full a b) (min v (entry n low a b)) l ≡ min v (least (via n full a b) (entry n low a b) l)
+  least-front : (b v : ℕ) (l : List ℕ) → least (via n full a b) (min v (entryAt n low a b)) l ≡ min v (least (via n full a b) (entryAt n low a b) l)
   least-front b v [] = refl
   least-front b v (h ∷ l) = omega (arith, least-front b v l)
 
-  least-snoc : (b u : ℕ) (l : List ℕ) → least (via n full a b) (entry n low a b) (l ++ u ∷ []) ≡ min (via n full a b u) (least (via n full a b) (entry n low a b) l)
+  least-snoc : (b u : ℕ) (l : List ℕ) → least (via n full a b) (entryAt n low a b) (l ++ u ∷ []) ≡ min (via n full a b u) (least (via n full a b) (entryAt n low a b) l)
   least-snoc b u [] = refl
   least-snoc b u (h ∷ l) = omega (arith, least-snoc b u l)
 
-  module _ (small : (b : ℕ) → b < n → entry n low a b ≤ none) where
+  module _ (small : (b : ℕ) → b < n → entryAt n low a b ≤ none) where
     pub least-next : (i : ℕ) → i < length hs
-        → relaxed (entry n full (getD hs i 0) a) (map (entry n full (getD hs i 0)) (upTo n)) (map (leastTo i) (upTo n)) ≡ map (leastTo (i + 1)) (upTo n)
+        → relaxed (entryAt n full (getD hs i 0) a) (map (entryAt n full (getD hs i 0)) (upTo n)) (map (leastTo i) (upTo n)) ≡ map (leastTo (i + 1)) (upTo n)
     unfolding leastTo via
     least-next i h =
         let u = getD hs i 0 in
-        relaxed-row (entry n full u a) (entry n full u) (leastTo i) (upTo n)
-        ∙ row-same n (λ b. min (entry n full u a + entry n full u b) (leastTo i b)) (leastTo (i + 1)) (λ b k.
-        lesser-sum (entry n full u a) (entry n full u b) (leastTo i b) (omega (arith, small b k, least-base (via n full a b) (entry n low a b) (take i hs)))
+        relaxed-row (entryAt n full u a) (entryAt n full u) (leastTo i) (upTo n)
+        ∙ row-same n (λ b. min (entryAt n full u a + entryAt n full u b) (leastTo i b)) (leastTo (i + 1)) (λ b k.
+        lesser-sum (entryAt n full u a) (entryAt n full u b) (leastTo i b) (omega (arith, small b k, least-base (via n full a b) (entryAt n low a b) (take i hs)))
         ∙ sym (least-snoc b u (take i hs))
-        ∙ ap (λ (l : List ℕ). least (via n full a b) (entry n low a b) l) (sym (ap (λ (k : ℕ). take k hs) (add-one i) ∙ take-suc hs i 0 h)))
+        ∙ ap (λ (l : List ℕ). least (via n full a b) (entryAt n low a b) l) (sym (ap (λ (k : ℕ). take k hs) (add-one i) ∙ take-suc hs i 0 h)))
 
   -- all hubs, and 0 at a itself
   pub least-done : (i : ℕ) → length hs ≤ i → a < n
@@ -98,7 +98,7 @@ module _ (n : ℕ) (full low : List ℕ) (hs : List ℕ) (a : ℕ) where
           rw (ne-eqb a b d) (
           getD-set-other (map (leastTo i) (upTo n)) a b 0 0 (λ e. d (sym e))
           ∙ getD-row (leastTo i) n b 0 j
-          ∙ ap (λ (l : List ℕ). least (via n full a b) (entry n low a b) l) (take-all i hs h)
+          ∙ ap (λ (l : List ℕ). least (via n full a b) (entryAt n low a b) l) (take-all i hs h)
           )
 
 -- a list that becomes another of its length
@@ -107,7 +107,7 @@ copied x x′ t e w l = wrote-over t w .0 ∙ over-whole t x l
 
 -- ---- Report from tables that stand in front of longer lists
 
-entry-over : (n : ℕ) (f : ℕ → ℕ → ℕ) (t : List ℕ) (a b : ℕ) → a < n → b < n → entry n (over (table n f) t) a b ≡ entry n (table n f) a b
+entry-over : (n : ℕ) (f : ℕ → ℕ → ℕ) (t : List ℕ) (a b : ℕ) → a < n → b < n → entryAt n (over (table n f) t) a b ≡ entryAt n (table n f) a b
 unfolding over
 entry-over n f t a b ha hb =
     entry-front n (over (table n f) t) (table n f) (take-at (table n f) (drop (length (table n f)) t) (n * n) (length-table n f)) a b ha hb
@@ -120,7 +120,7 @@ report-same n f g full low hs below =
     ap (λ (x : ℕ). if eqb a b then 0 else x) (at a b ha hb hs below))
   where
     at : (a b : ℕ) → a < n → b < n → (l : List ℕ) → ((h : ℕ) → T (has h l) → h < n)
-        → least (via n (over (table n f) full) a b) (entry n (over (table n g) low) a b) l ≡ least (via n (table n f) a b) (entry n (table n g) a b) l
+        → least (via n (over (table n f) full) a b) (entryAt n (over (table n g) low) a b) l ≡ least (via n (table n f) a b) (entryAt n (table n g) a b) l
     at a b ha hb [] below = entry-over n g low a b ha hb
     at a b ha hb (h ∷ l) below =
         let k = below h (has-head h l) in

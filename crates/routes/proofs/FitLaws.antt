@@ -15,7 +15,7 @@ use Rattle.model.specs.declared.Answer.{Answer}
 use Rattle.model.specs.Answers.{Outcome, refused, answered}
 use Rattle.model.specs.Basics.{none, over}
 use Rattle.model.specs.Walk.{join}
-use Rattle.model.specs.Walking.{Walking, refuseWalk, fit}
+use Rattle.model.specs.Walking.{AfterWalking, refuseWalk, fit}
 use Rattle.parts.specs.Parts.{PartIs}
 
 -- ---- lists
@@ -62,7 +62,7 @@ joined-length i j k l c d f =
 
 -- ---- what is given out
 
-abbrev pub outcome : Outcome Answer → List ℕ → Walking
+abbrev pub outcome : Outcome Answer → List ℕ → AfterWalking
 outcome o l = record { answer = o; walk = l }
 
 module _ (x : Answer) (W : List ℕ) (blank : W ≡ replicate (length W) none) where

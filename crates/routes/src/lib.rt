@@ -9,7 +9,7 @@ ghost use Rattle.model.specs.Basics.{none};
 ghost use Rattle.model.specs.Survey.{neighboursOf, Accepted};
 ghost use Rattle.model.specs.Threshold.{threshold};
 ghost use Rattle.model.specs.Walk.{byLow, toHub, join};
-ghost use Rattle.model.specs.Walking.{returned, fit};
+ghost use Rattle.model.specs.Walking.{walkReturned, fit};
 
 // Writes the walk over low nodes into a list that is all none. The steps are judged before the list's length.
 pub fn write_low(
@@ -24,7 +24,7 @@ pub fn write_low(
 ) -> Asking
     requires { ⌜ Accepted n (now starts) (now neighbours) × (n * n ≤ length (now low)) × (a < n) × (b < n) ⌝ }
     requires { ⌜ now walk ≡ replicate (length (now walk)) none ⌝ }
-    ensures { λ r. ⌜ returned r (now (walk .exit)) ≡ fit (length (now (walk .entry))) answer
+    ensures { λ r. ⌜ walkReturned r (now (walk .exit)) ≡ fit (length (now (walk .entry))) answer
         (byLow n (threshold n) (neighboursOf (now (starts .entry)) (now (neighbours .entry))) (now (low .entry)) a b) ⌝ }
 {
     let mut nodes = [0u16; 1024];
@@ -53,7 +53,7 @@ pub fn write_through(
 ) -> Asking
     requires { ⌜ Accepted n (now starts) (now neighbours) × (n * n ≤ length (now full)) × (a < n) × (b < n) × (h < n) ⌝ }
     requires { ⌜ now walk ≡ replicate (length (now walk)) none ⌝ }
-    ensures { λ r. ⌜ returned r (now (walk .exit)) ≡ fit (length (now (walk .entry))) answer
+    ensures { λ r. ⌜ walkReturned r (now (walk .exit)) ≡ fit (length (now (walk .entry))) answer
         (join (toHub n (neighboursOf (now (starts .entry)) (now (neighbours .entry))) (now (full .entry)) h a)
         (toHub n (neighboursOf (now (starts .entry)) (now (neighbours .entry))) (now (full .entry)) h b)) ⌝ }
 {

@@ -168,7 +168,7 @@ fn verdict_number(verdict: Verdict) -> u64 {
 pub fn print_tested(answer: Testing) {
     match answer {
         Testing::Refused(r) => print_line(b'T', &[refusal_number(r) as u64, 0, 0]),
-        Testing::Tested(x) => {
+        Testing::Answered(x) => {
             let verdict = x.verdict;
             print_line(b'T', &[0, verdict_number(verdict), x.searches as u64]);
         }

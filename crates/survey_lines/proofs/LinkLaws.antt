@@ -19,7 +19,7 @@ use Rattle.model.proofs.Tests.{true-T, and-l, and-r, or-turned, not-and, not-lt
 use Rattle.model.proofs.Loops.{drop-next}
 use Rattle.model.proofs.Links.{of-link-taken}
 use Rattle.model.proofs.Outcomes.{never}
-use Rattle.nodeset.specs.NodeSet.{member, with}
+use Rattle.nodeset.specs.NodeSet.{member, inserted}
 use Rattle.nodeset.proofs.Bits.{eqb-same}
 use Rattle.nodeset.specs.Matrix.{edgesIn}
 use Rattle.nodeset.proofs.Matrix.{edge-with, edges-none}
@@ -87,7 +87,7 @@ none-held = record {
 -- a link put in both ways round
 pub held-more : (ws ws′ ws″ : List ℕ) (ls : List (ℕ × ℕ)) (a b : ℕ) → a < 1024 → b < 1024 → Holds ws ls
     → length ws″ ≡ 16384
-    → member ws′ ≡ with (member ws) (1024 * a + b) → member ws″ ≡ with (member ws′) (1024 * b + a) → Holds ws″ ((a, b) ∷ ls)
+    → member ws′ ≡ inserted (member ws) (1024 * a + b) → member ws″ ≡ inserted (member ws′) (1024 * b + a) → Holds ws″ ((a, b) ∷ ls)
 unfolding named
 held-more ws ws′ ws″ ls a b ha hb h long p q = record {
   long = long;
@@ -228,7 +228,7 @@ module _ (n m : ℕ) (s : List ℕ) (at : ℕ) (ws : List ℕ) (next k : ℕ) (f
   progress-refused h c e = sym (p .rest) ∙ next-refused n (p .done) (edgesIn ws) agrees m k h (drop next s) c e
 
   pub progress-taken : k < m → (a b e : ℕ) (ws′ ws″ : List ℕ) → linkIn n (edgesIn ws) (drop next s) ≡ answered (a, b, drop e s)
-      → length ws″ ≡ length ws → member ws′ ≡ with (member ws) (1024 * a + b) → member ws″ ≡ with (member ws′) (1024 * b + a)
+      → length ws″ ≡ length ws → member ws′ ≡ inserted (member ws) (1024 * a + b) → member ws″ ≡ inserted (member ws′) (1024 * b + a)
       → Progress n m s at ws″ e (k + 1)
   progress-taken h a b e ws′ ws″ l long one two =
       let g = link-below n (edgesIn ws) (drop next s) a b (drop e s) l in

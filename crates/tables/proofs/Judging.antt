@@ -16,7 +16,7 @@ use Rattle.model.specs.Survey.{Graph, neighboursOf, badSize, isSurvey, Accepted
 use Rattle.model.specs.Threshold.{threshold}
 use Rattle.model.specs.Hubs.{hubs}
 use Rattle.model.specs.Tables.{shortTables, fullOf, fullTable, lowTable, reportOf, reportTable, hubList}
-use Rattle.model.specs.Building.{shortLists, built, building, returned}
+use Rattle.model.specs.Building.{shortLists, built, building, buildReturned}
 use Rattle.model.proofs.Acceptance.{good-size, survey-facts}
 use Rattle.model.proofs.Covering.{hubs-below}
 use Rattle.model.proofs.Demand.{building-answers}
@@ -68,16 +68,16 @@ module _ (n : ℕ) (starts neighbours full low report list : List ℕ) where
   abbrev short : Bool
   short = shortLists n (length starts) (length full) (length low) (length report) (length list)
 
-  pub build-size : badSize n ≡ true → returned (counting.Refused NodeCount) full low report list ≡ building n starts neighbours full low report list
+  pub build-size : badSize n ≡ true → buildReturned (counting.Refused NodeCount) full low report list ≡ building n starts neighbours full low report list
   unfolding building
   build-size b = rw b refl
 
   module _ (size : (1 ≤ n) × (n ≤ 1024)) where
-    pub build-short : short ≡ true → returned (counting.Refused ShortList) full low report list ≡ building n starts neighbours full low report list
+    pub build-short : short ≡ true → buildReturned (counting.Refused ShortList) full low report list ≡ building n starts neighbours full low report list
     unfolding building
     build-short h = rw (good-size n (size .0) (size .1), h) refl
 
-    pub build-other : short ≡ false → isSurvey n starts neighbours ≡ false → returned (counting.Refused NotSurvey) full low report list ≡ building n starts neighbours full low report list
+    pub build-other : short ≡ false → isSurvey n starts neighbours ≡ false → buildReturned (counting.Refused NotSurvey) full low report list ≡ building n starts neighbours full low report list
     unfolding building
     build-other h i = rw (good-size n (size .0) (size .1), h, i) refl
 
@@ -100,7 +100,7 @@ module _ (n : ℕ) (starts neighbours full low report list : List ℕ) where
 
     pub build-done : (h : short ≡ false) (i : isSurvey n starts neighbours ≡ true) (full′ low′ report′ list′ : List ℕ) (k s : ℕ) → s ≡ threshold n
         → record { answer = answered k; full = full′; low = low′; report = report′; hubs = list′ } ≡ built n s (neighboursOf starts neighbours) full low report list
-        → returned (counting.Count k) full′ low′ report′ list′ ≡ building n starts neighbours full low report list
+        → buildReturned (counting.Count k) full′ low′ report′ list′ ≡ building n starts neighbours full low report list
     build-done h i full′ low′ report′ list′ k s t e =
         let r = build-room h in
         e ∙ ap (λ (x : ℕ). built n x (neighboursOf starts neighbours) full low report list) t

@@ -7,7 +7,7 @@ ghost use Prim.Native.Nat.{_*_, _≤_};
 ghost use lib.ListN.{length};
 ghost use Rattle.model.specs.Survey.{neighboursOf, Accepted};
 ghost use Rattle.model.specs.Answers.{answered};
-ghost use Rattle.model.specs.Building.{shortLists, built, returned, building};
+ghost use Rattle.model.specs.Building.{shortLists, built, buildReturned, building};
 
 // The hub list and the three tables for threshold s; the count of hubs is returned.
 pub fn build_tables(
@@ -51,7 +51,7 @@ pub fn build(
     report: &mut [u16],
     hubs: &mut [u16],
 ) -> Counting
-    ensures { λ r. ⌜ returned r (now (full .exit)) (now (low .exit)) (now (report .exit)) (now (hubs .exit))
+    ensures { λ r. ⌜ buildReturned r (now (full .exit)) (now (low .exit)) (now (report .exit)) (now (hubs .exit))
         ≡ building n (now (starts .entry)) (now (neighbours .entry)) (now (full .entry)) (now (low .entry)) (now (report .entry)) (now (hubs .entry)) ⌝ }
 {
     if n < 1 {

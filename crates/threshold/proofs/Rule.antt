@@ -19,9 +19,9 @@ use Rattle.threshold.proofs.Table.{every, at}
 abbrev pub square : ℕ → ℕ → Bool
 square n s = leb (n * bitLength n) (s * s) && ltb (pred s * pred s) (n * bitLength n) && ltb s 65536
 
--- entry k of the table is for n = k + 1
-abbrev pub entry : ℕ → ℕ → Bool
-entry k s = square (suc k) s
+-- the rule at place k of the table, which is for n = k + 1
+abbrev pub ruleAt : ℕ → ℕ → Bool
+ruleAt k s = square (suc k) s
 
 least : (N s t : ℕ) → pred s * pred s < N → N ≤ t * t → s ≤ t
 least N s t below reaches =
@@ -39,12 +39,12 @@ square-is n s t =
     (r .least s (leb→le N (s * s) (and-l A B (and-l (A && B) C t))))
 
 -- a table of 1,024 entries that passes the test at every entry has the threshold of n at n - 1
-module _ (table : List ℕ) (tested : T (eqb (length table) 1024 && every entry 0 table)) (n : ℕ) (one : 1 ≤ n) (most : n ≤ 1024) where
+module _ (table : List ℕ) (passes : T (eqb (length table) 1024 && every ruleAt 0 table)) (n : ℕ) (one : 1 ≤ n) (most : n ≤ 1024) where
   passed : T (square n (getD table (n - 1) 0))
   passed =
-      let size : length table ≡ 1024 = eqb→eq (length table) 1024 (and-l (eqb (length table) 1024) (every entry 0 table) tested) in
+      let size : length table ≡ 1024 = eqb→eq (length table) 1024 (and-l (eqb (length table) 1024) (every ruleAt 0 table) passes) in
       subst (λ (m : ℕ). T (square m (getD table (n - 1) 0))) (omega arith)
-      (at entry table (and-r (eqb (length table) 1024) (every entry 0 table) tested) (n - 1) (omega arith))
+      (at ruleAt table (and-r (eqb (length table) 1024) (every ruleAt 0 table) passes) (n - 1) (omega arith))
 
   pub table-holds : getD table (n - 1) 0 ≡ threshold n
   table-holds = square-is n (getD table (n - 1) 0) passed

@@ -14,14 +14,14 @@ use Rattle.model.specs.Basics.{none, if_then_else_, upTo, firstOf}
 use Rattle.model.specs.declared.Verdict.{Verdict}
 use Rattle.model.specs.Graph.{fewest, linked}
 use Rattle.model.specs.declared.Refusal.{Refusal}
-use Rattle.model.specs.declared.Tested.{Tested}
+use Rattle.model.specs.declared.TestResult.{TestResult}
 use Rattle.model.specs.Answers.{Outcome, refused, answered, number, mapAnswer}
 use Rattle.model.specs.Survey.{Graph, neighboursOf, accepting, Accepted}
 use Rattle.model.specs.Threshold.{threshold}
 use Rattle.model.specs.Testing.{testing}
 use Rattle.model.specs.Demand.{RightVerdict}
 use Rattle.model.specs.Hubs.{isLow, closed, hubs}
-use Rattle.model.specs.TwoOrFour.{sources, verdictOf, tested}
+use Rattle.model.specs.TwoOrFour.{sources, verdictOf, testResult}
 use Rattle.model.proofs.Demand.{testing-right}
 use Rattle.model.proofs.Lists.{First, found, nothing, first-below, first-of, first-is}
 use Rattle.degrees.proofs.Degrees.{low-are}
@@ -77,28 +77,28 @@ module _ (n s : ℕ) (G : Graph) (list : List ℕ) (count : ℕ) (c : count ≡ 
   pub sources-long : count ≡ length (take count list)
   sources-long = c ∙ ap length (sym front)
 
-  pub tested-is : n ≤ 1024 → (v : Verdict) (d : ℕ) → v ≡ ofDepth d → d ≡ greatest (rowsOf n (fewest (linked n G) n) (take count list))
-      → record { verdict = v; searches = count } ≡ tested n s G
-  unfolding tested
-  tested-is size v d e f =
+  pub result-is : n ≤ 1024 → (v : Verdict) (d : ℕ) → v ≡ ofDepth d → d ≡ greatest (rowsOf n (fewest (linked n G) n) (take count list))
+      → record { verdict = v; searches = count } ≡ testResult n s G
+  unfolding testResult
+  result-is size v d e f =
       let right : v ≡ verdictOf n G (sources n s G) =
       e ∙ ap ofDepth (f ∙ ap (λ (l : List ℕ). greatest (rowsOf n (fewest (linked n G) n) l)) front) ∙ verdict-is n G size (sources n s G) in
       ap₂ (λ (x : Verdict) (k : ℕ). record { verdict = x; searches = k }) right c
 
 module _ (n : ℕ) (starts neighbours : List ℕ) where
-  abbrev Right : Outcome Tested → Type 0
+  abbrev Right : Outcome TestResult → Type 0
   Right o = (o ≡ testing n starts neighbours) × (Accepted n starts neighbours → RightVerdict n (linked n (neighboursOf starts neighbours)) o)
 
-  right : (o : Outcome Tested) → o ≡ testing n starts neighbours → Right o
-  right o e = (e, λ acc. subst (λ (x : Outcome Tested). RightVerdict n (linked n (neighboursOf starts neighbours)) x) (sym e) (testing-right n starts neighbours acc))
+  right : (o : Outcome TestResult) → o ≡ testing n starts neighbours → Right o
+  right o e = (e, λ acc. subst (λ (x : Outcome TestResult). RightVerdict n (linked n (neighboursOf starts neighbours)) x) (sym e) (testing-right n starts neighbours acc))
 
   pub test-refused : (r : Refusal) → refused (number r) ≡ accepting n starts neighbours → Right (refused (number r))
   unfolding testing
   test-refused r e =
-      right (refused (number r)) (ap (mapAnswer (λ _. tested n (threshold n) (neighboursOf starts neighbours))) e)
+      right (refused (number r)) (ap (mapAnswer (λ _. testResult n (threshold n) (neighboursOf starts neighbours))) e)
 
-  pub test-done : answered tt ≡ accepting n starts neighbours → (x : Tested) (s : ℕ) → s ≡ threshold n → x ≡ tested n s (neighboursOf starts neighbours) → Right (answered x)
+  pub test-done : answered tt ≡ accepting n starts neighbours → (x : TestResult) (s : ℕ) → s ≡ threshold n → x ≡ testResult n s (neighboursOf starts neighbours) → Right (answered x)
   unfolding testing
   test-done e x s h q =
-      right (answered x) (ap answered (q ∙ ap (λ (k : ℕ). tested n k (neighboursOf starts neighbours)) h)
-      ∙ ap (mapAnswer (λ _. tested n (threshold n) (neighboursOf starts neighbours))) e)
+      right (answered x) (ap answered (q ∙ ap (λ (k : ℕ). testResult n k (neighboursOf starts neighbours)) h)
+      ∙ ap (mapAnswer (λ _. testResult n (threshold n) (neighboursOf starts neighbours))) e)

@@ -1,6 +1,6 @@
 // The two-or-four test: whether some two nodes are unjoined, and which of two depths the searches from a few nodes show.
 use model::Accepting;
-use model::Tested;
+use model::TestResult;
 use model::Testing;
 ghost use mathlib.Core.Path.{_≡_};
 ghost use Prim.Native.Nat.{_≤_};
@@ -8,7 +8,7 @@ ghost use lib.ListN.{length, take};
 ghost use Rattle.model.specs.Answers.{testAnswer};
 ghost use Rattle.model.specs.Graph.{linked};
 ghost use Rattle.model.specs.Survey.{neighboursOf, Accepted};
-ghost use Rattle.model.specs.TwoOrFour.{sources, tested};
+ghost use Rattle.model.specs.TwoOrFour.{sources, testResult};
 ghost use Rattle.model.specs.Testing.{testing};
 ghost use Rattle.model.specs.Demand.{RightVerdict};
 
@@ -31,14 +31,14 @@ fn find_sources(n: usize, s: usize, starts: &[u32], neighbours: &[u16], list: &m
 }
 
 // The test for threshold s.
-fn run_test(n: usize, s: usize, starts: &[u32], neighbours: &[u16]) -> Tested
+fn run_test(n: usize, s: usize, starts: &[u32], neighbours: &[u16]) -> TestResult
     requires { ⌜ Accepted n (now starts) (now neighbours) ⌝ }
-    ensures { λ r. ⌜ r ≡ tested n s (neighboursOf (now (starts .entry)) (now (neighbours .entry))) ⌝ }
+    ensures { λ r. ⌜ r ≡ testResult n s (neighboursOf (now (starts .entry)) (now (neighbours .entry))) ⌝ }
 {
     let mut list = [0u16; 1024];
     let searches = find_sources(n, s, starts, neighbours, &mut list);
     let depth = depths::search_depth(n, starts, neighbours, &list[..searches]);
-    Tested {
+    TestResult {
         verdict: depths::verdict_on(depth),
         searches,
     }
@@ -54,7 +54,7 @@ pub fn test(n: usize, starts: &[u32], neighbours: &[u16]) -> Testing
         Accepting::Refused(r) => Testing::Refused(r),
         Accepting::Accepted => {
             let s = threshold::threshold_at(n);
-            Testing::Tested(run_test(n, s, starts, neighbours))
+            Testing::Answered(run_test(n, s, starts, neighbours))
         }
     }
 }

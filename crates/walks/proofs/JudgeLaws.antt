@@ -13,7 +13,7 @@ use Rattle.model.specs.declared.Answer.{Answer}
 use Rattle.model.specs.Answers.{Outcome, refused, answered}
 use Rattle.model.specs.Survey.{neighboursOf, badSize, isSurvey}
 use Rattle.model.specs.Threshold.{threshold}
-use Rattle.model.specs.Tables.{entry, shortTables}
+use Rattle.model.specs.Tables.{entryAt, shortTables}
 use Rattle.model.specs.Pair.{taken, attaining, pairBy, pair}
 use Rattle.model.specs.Walking.{walkOf, walking}
 use Rattle.model.proofs.Tests.{true-T, or-false}
@@ -26,15 +26,15 @@ use Rattle.walks.specs.Ready.{Ready}
 -- the hub of a route is a node
 hub-below : (n : ℕ) (full low report : List ℕ) (a b : ℕ) (x : Answer) → pair n full low report a b ≡ answered x → (h : ℕ) → x .route ≡ Through h → h < n
 unfolding pair pairBy
-hub-below n full low report a b x e h q = at (chosen a b r (entry n low a b) hub) e
+hub-below n full low report a b x e h q = at (chosen a b r (entryAt n low a b) hub) e
   where
     r : ℕ
-    r = entry n report a b
+    r = entryAt n report a b
 
     hub : ℕ
     hub = attaining (taken n full a b) n full a b r
 
-    at : {o : Outcome Answer} → Chosen a b r (entry n low a b) hub o → o ≡ answered x → h < n
+    at : {o : Outcome Answer} → Chosen a b r (entryAt n low a b) hub o → o ≡ answered x → h < n
     at (to-itself i z) e = let z : _≡_ {A = ℕ} 0 1 = cc in absurd (omega arith)
     at (to-none i z) e = let z : _≡_ {A = ℕ} 0 1 = cc in absurd (omega arith)
     at (to-low i z l) e = let z : _≡_ {A = ℕ} 0 1 = cc in absurd (omega arith)

@@ -17,7 +17,7 @@ use Rattle.model.specs.Threshold.{threshold}
 use Rattle.model.specs.Tables.{AreBuilt}
 use Rattle.model.specs.Asking.{asking}
 use Rattle.model.specs.Walk.{byLow, toHub, join, nodes}
-use Rattle.model.specs.Walking.{Walking, refuseWalk, fit, walkOf, walking}
+use Rattle.model.specs.Walking.{AfterWalking, refuseWalk, fit, walkOf, walking}
 use Rattle.model.specs.Demand.{AllowedAnswer, WalkSound, WalkAnswers}
 use Rattle.model.proofs.Demand.{walking-sound, asking-right, walking-right}
 use Rattle.routes.proofs.FitLaws.{outcome, fit-short, fit-given}
@@ -25,10 +25,10 @@ use Rattle.routes.proofs.FitLaws.{outcome, fit-short, fit-given}
 -- ---- the nodes of each route
 
 module _ (n s : ℕ) (G : Graph) (full low : List ℕ) (a b : ℕ) (x : Answer) (W : List ℕ) where
-  abbrev pub Given : Walking → Type 0
+  abbrev pub Given : AfterWalking → Type 0
   Given r = r ≡ fit (length W) x (nodes n s G full low a b (x .route))
 
-  by-route : (t : Route) → x .route ≡ t → {r : Walking} → r ≡ fit (length W) x (nodes n s G full low a b t) → Given r
+  by-route : (t : Route) → x .route ≡ t → {r : AfterWalking} → r ≡ fit (length W) x (nodes n s G full low a b t) → Given r
   by-route t e p = p ∙ ap (λ (u : Route). fit (length W) x (nodes n s G full low a b u)) (sym e)
 
   module _ (blank : W ≡ replicate (length W) none) where
@@ -44,11 +44,11 @@ module _ (n s : ℕ) (G : Graph) (full low : List ℕ) (a b : ℕ) (x : Answer) 
     unfolding nodes over
     none-given e = by-route NoRoute e (fit-given x W blank [] (omega arith) refl)
 
-  pub low-given : x .route ≡ Low → {r : Walking} → r ≡ fit (length W) x (byLow n s G low a b) → Given r
+  pub low-given : x .route ≡ Low → {r : AfterWalking} → r ≡ fit (length W) x (byLow n s G low a b) → Given r
   unfolding nodes
   low-given e p = by-route Low e p
 
-  pub through-given : (h : ℕ) → x .route ≡ Through h → {r : Walking} → r ≡ fit (length W) x (join (toHub n G full h a) (toHub n G full h b)) → Given r
+  pub through-given : (h : ℕ) → x .route ≡ Through h → {r : AfterWalking} → r ≡ fit (length W) x (join (toHub n G full h a) (toHub n G full h b)) → Given r
   unfolding nodes
   through-given h e p = by-route (Through h) e p
 
@@ -58,20 +58,20 @@ module _ (n : ℕ) (starts neighbours full low report : List ℕ) (a b w : ℕ) 
   abbrev G : Graph
   G = neighboursOf starts neighbours
 
-  abbrev pub Written : Walking → Type 0
+  abbrev pub Written : AfterWalking → Type 0
   Written r = (r ≡ walking n starts neighbours full low report a b w)
       × (WalkSound (linked n (neighboursOf starts neighbours)) a b r
       × (Accepted n starts neighbours → AreBuilt n (threshold n) (neighboursOf starts neighbours) full low report → a < n → b < n
       → AllowedAnswer (linked n (neighboursOf starts neighbours)) a b (asking n full low report a b) × WalkAnswers w (asking n full low report a b) r))
 
-  written : {r : Walking} → r ≡ walking n starts neighbours full low report a b w → Written r
+  written : {r : AfterWalking} → r ≡ walking n starts neighbours full low report a b w → Written r
   written e = (
     e,
     (
-      subst (λ (r : Walking). WalkSound (linked n G) a b r) (sym e) (walking-sound n starts neighbours full low report a b w),
+      subst (λ (r : AfterWalking). WalkSound (linked n G) a b r) (sym e) (walking-sound n starts neighbours full low report a b w),
       λ acc own ha hb. (
         asking-right n starts neighbours acc full low report own a b ha hb,
-        subst (λ (r : Walking). WalkAnswers w (asking n full low report a b) r) (sym e) (walking-right n starts neighbours acc full low report own a b ha hb w),
+        subst (λ (r : AfterWalking). WalkAnswers w (asking n full low report a b) r) (sym e) (walking-right n starts neighbours acc full low report own a b ha hb w),
       ),
     ),
   )
@@ -83,6 +83,6 @@ module _ (n : ℕ) (starts neighbours full low report : List ℕ) (a b w : ℕ) 
     refused-written {k} e f = written (ap (outcome (refused k)) f ∙ sym (judged w ∙ rw e))
 
     pub route-written : (x : Answer) → o ≡ answered x → {W : List ℕ} → W ≡ replicate w none
-        → {r : Walking} → r ≡ fit (length W) x (nodes n (threshold n) (neighboursOf starts neighbours) full low a b (x .route)) → Written r
+        → {r : AfterWalking} → r ≡ fit (length W) x (nodes n (threshold n) (neighboursOf starts neighbours) full low a b (x .route)) → Written r
     unfolding walkOf
     route-written x e f g = written (g ∙ ap (λ (k : ℕ). fit k x (nodes n (threshold n) G full low a b (x .route))) (ap length f ∙ length-replicate w none) ∙ sym (judged w ∙ rw e))

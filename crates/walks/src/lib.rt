@@ -14,7 +14,7 @@ ghost use Rattle.model.specs.Threshold.{threshold};
 ghost use Rattle.model.specs.Tables.{AreBuilt};
 ghost use Rattle.model.specs.Asking.{asking};
 ghost use Rattle.model.specs.Walk.{nodes};
-ghost use Rattle.model.specs.Walking.{returned, fit, walkOf, walking};
+ghost use Rattle.model.specs.Walking.{walkReturned, fit, walkOf, walking};
 ghost use Rattle.model.specs.Demand.{AllowedAnswer, WalkSound, WalkAnswers};
 ghost use Rattle.walks.specs.Ready.{Ready};
 
@@ -32,7 +32,7 @@ fn write_route(
 ) -> Asking
     requires { ⌜ Ready n (now starts) (now neighbours) (now full) (now low) a b answer ⌝ }
     requires { ⌜ now walk ≡ replicate (length (now walk)) none ⌝ }
-    ensures { λ r. ⌜ returned r (now (walk .exit)) ≡ fit (length (now (walk .entry))) answer
+    ensures { λ r. ⌜ walkReturned r (now (walk .exit)) ≡ fit (length (now (walk .entry))) answer
         (nodes n (threshold n) (neighboursOf (now (starts .entry)) (now (neighbours .entry))) (now (full .entry)) (now (low .entry)) a b (answer .route)) ⌝ }
 {
     let route = answer.route;
@@ -104,14 +104,14 @@ pub fn write_walk(
     b: usize,
     walk: &mut [u16],
 ) -> Asking
-    ensures { λ r. ⌜ returned r (now (walk .exit))
+    ensures { λ r. ⌜ walkReturned r (now (walk .exit))
         ≡ walking n (now (starts .entry)) (now (neighbours .entry)) (now (full .entry)) (now (low .entry)) (now (report .entry)) a b (length (now (walk .entry))) ⌝ }
-    ensures { λ r. ⌜ WalkSound (linked n (neighboursOf (now (starts .entry)) (now (neighbours .entry)))) a b (returned r (now (walk .exit))) ⌝ }
+    ensures { λ r. ⌜ WalkSound (linked n (neighboursOf (now (starts .entry)) (now (neighbours .entry)))) a b (walkReturned r (now (walk .exit))) ⌝ }
     ensures { λ r. ⌜ (Accepted n (now (starts .entry)) (now (neighbours .entry))
         → AreBuilt n (threshold n) (neighboursOf (now (starts .entry)) (now (neighbours .entry))) (now (full .entry)) (now (low .entry)) (now (report .entry))
         → a < n → b < n
         → AllowedAnswer (linked n (neighboursOf (now (starts .entry)) (now (neighbours .entry)))) a b (asking n (now (full .entry)) (now (low .entry)) (now (report .entry)) a b)
-        × WalkAnswers (length (now (walk .entry))) (asking n (now (full .entry)) (now (low .entry)) (now (report .entry)) a b) (returned r (now (walk .exit)))) ⌝ }
+        × WalkAnswers (length (now (walk .entry))) (asking n (now (full .entry)) (now (low .entry)) (now (report .entry)) a b) (walkReturned r (now (walk .exit)))) ⌝ }
 {
     lists::fill16(walk, model::NONE);
     match judge(n, starts, neighbours, full, low, report, a, b) {

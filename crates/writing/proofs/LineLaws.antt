@@ -16,7 +16,7 @@ use Rattle.model.specs.Answers.{Outcome, refused, answered, number}
 use Rattle.model.specs.Basics.{from, upTo, keep, gather, over}
 use Rattle.model.specs.SurveyText.{lineOf, linkLines, surveyText, ordered}
 use Rattle.model.specs.Survey.{Graph, neighboursOf, accepting, Accepted}
-use Rattle.model.specs.Writing.{textOf, returned, writingOf, writing}
+use Rattle.model.specs.Writing.{textOf, writeReturned, writingOf, writing}
 use Rattle.model.proofs.Acceptance.{accepting-facts}
 use Rattle.model.proofs.Lists.{keep-append, map-append, gather-append, gather-gather}
 use Rattle.model.proofs.Loops.{drop-next, gather-next, gather-end}
@@ -177,12 +177,12 @@ module _ (n : ℕ) (starts neighbours : List ℕ) (acc : Accepted n starts neigh
 -- ---- the whole call
 
 module _ (n : ℕ) (starts neighbours buffer : List ℕ) where
-  pub writing-refused : (r : Refusal) → refused (number r) ≡ accepting n starts neighbours → returned (counting.Refused r) buffer ≡ writing n starts neighbours buffer
+  pub writing-refused : (r : Refusal) → refused (number r) ≡ accepting n starts neighbours → writeReturned (counting.Refused r) buffer ≡ writing n starts neighbours buffer
   unfolding writing writingOf
   writing-refused r e = ap (λ (o : Outcome (Unit {0})). writingOf o (textOf n starts neighbours) buffer) e
 
   module _ (e : answered tt ≡ accepting n starts neighbours) where
-    pub writing-short : length buffer < length (textOf n starts neighbours) → returned (counting.Refused ShortBuffer) buffer ≡ writing n starts neighbours buffer
+    pub writing-short : length buffer < length (textOf n starts neighbours) → writeReturned (counting.Refused ShortBuffer) buffer ≡ writing n starts neighbours buffer
     unfolding writing
     writing-short h =
         sym (write-short (textOf n starts neighbours) buffer h)
@@ -190,7 +190,7 @@ module _ (n : ℕ) (starts neighbours buffer : List ℕ) where
 
     pub writing-whole : length (textOf n starts neighbours) ≤ length buffer
         → (b : List ℕ) (k : ℕ) → b ≡ over (textOf n starts neighbours) buffer → k ≡ length (textOf n starts neighbours)
-        → returned (counting.Count k) b ≡ writing n starts neighbours buffer
+        → writeReturned (counting.Count k) b ≡ writing n starts neighbours buffer
     writing-whole h b k i j =
-        ap₂ (λ (x : List ℕ) (y : ℕ). returned (counting.Count y) x) i j
+        ap₂ (λ (x : List ℕ) (y : ℕ). writeReturned (counting.Count y) x) i j
         ∙ sym (writing-answers n starts neighbours (accepting-facts n starts neighbours tt (sym e)) buffer h)

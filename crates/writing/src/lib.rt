@@ -9,7 +9,7 @@ ghost use lib.ListN.{length};
 ghost use Rattle.lists.specs.Writing.{Wrote};
 ghost use Rattle.model.specs.Basics.{over};
 ghost use Rattle.model.specs.Survey.{Accepted};
-ghost use Rattle.model.specs.Writing.{textOf, writing, returned};
+ghost use Rattle.model.specs.Writing.{textOf, writing, writeReturned};
 ghost use Rattle.writing.specs.Lines.{linesOf};
 
 // The length of the line of link a-b, which is written at its smaller node.
@@ -91,7 +91,7 @@ fn write_text(n: usize, starts: &[u32], neighbours: &[u16], buffer: &mut [u8])
 
 // Writes a survey's text into a buffer.
 pub fn write_survey(n: usize, starts: &[u32], neighbours: &[u16], buffer: &mut [u8]) -> Counting
-    ensures { λ r. ⌜ returned r (now (buffer .exit)) ≡ writing n (now (starts .entry)) (now (neighbours .entry)) (now (buffer .entry)) ⌝ }
+    ensures { λ r. ⌜ writeReturned r (now (buffer .exit)) ≡ writing n (now (starts .entry)) (now (neighbours .entry)) (now (buffer .entry)) ⌝ }
 {
     match survey::accept(n, starts, neighbours) {
         Accepting::Refused(r) => Counting::Refused(r),

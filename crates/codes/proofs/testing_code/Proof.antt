@@ -3,7 +3,7 @@
 use mathlib.Core.Path.{sym, ap, _∙_}
 use Rattle.model.specs.Answers.{testAnswer}
 use native.Mathlib.Omega.{arith}
-use Rattle.codes.specs.Code.{code, tested}
+use Rattle.codes.specs.Code.{code, testField}
 use Prim.Native.Nat.{_+_, _*_}
 use Rattle.model.specs.declared.Testing.{Testing}
 use borrow.Author.Needs.{needs}
@@ -38,7 +38,7 @@ returns : tie.Need-returns
 returns c = search needs
 
 returns-2 : tie.Need-returns-2
-returns-2 c = ap (λ k. 65536 * (k + 65536 * (c .before .before .x2 .given .0 .0 .searches))) ((c .verdict-field .ensures .0)) ∙ sym (ap (λ (y : Testing). code tested (testAnswer y)) (c .before .before .x2 .given .1))
+returns-2 c = ap (λ k. 65536 * (k + 65536 * (c .before .before .x2 .given .0 .0 .searches))) ((c .verdict-field .ensures .0)) ∙ sym (ap (λ (y : Testing). code testField (testAnswer y)) (c .before .before .x2 .given .1))
 
 pub testing-code-spec : {M : Type 1} → statement M
 testing-code-spec =

@@ -18,17 +18,17 @@ high-nodes-requires c κs = ((c .before .before .before .before .pre .0), refl)
 insert-below-requires : tie.Need-insert-below-requires
 insert-below-requires c κs = ((c .before .before .before .before .before .before .before .pre .1), (c .before .before .before .before .before .before .before .pre .0 .size))
 
-slice-aggregate-remove : tie.Need-slice-aggregate-remove
-slice-aggregate-remove c = sym (((c .before .before .before .before .before .before .before .high-nodes .kept .1 .1 .1 .1 .0)) ∙ length-replicate {A = ℕ} 16 0)
+slice-aggregate-subtract : tie.Need-slice-aggregate-subtract
+slice-aggregate-subtract c = sym (((c .before .before .before .before .before .before .before .high-nodes .kept .1 .1 .1 .1 .0)) ∙ length-replicate {A = ℕ} 16 0)
 
-remove-requires : tie.Need-remove-requires
-remove-requires c κs = ((c .before .before .before .before .insert-below .kept .0)) ∙ ap length ((c .before .before .before .before .before .before .before .before .before .before .before .before .pre .1)) ∙ length-replicate {A = ℕ} 16 0 ∙ sym (((c .before .before .before .before .before .before .before .high-nodes .kept .1 .1 .1 .1 .0)) ∙ length-replicate {A = ℕ} 16 0)
+subtract-requires : tie.Need-subtract-requires
+subtract-requires c κs = ((c .before .before .before .before .insert-below .kept .0)) ∙ ap length ((c .before .before .before .before .before .before .before .before .before .before .before .before .pre .1)) ∙ length-replicate {A = ℕ} 16 0 ∙ sym (((c .before .before .before .before .before .before .before .high-nodes .kept .1 .1 .1 .1 .0)) ∙ length-replicate {A = ℕ} 16 0)
 
 same-length : tie.Need-same-length
 same-length c = search needs
 
 returns : tie.Need-returns
-returns c = low-set ((c .before .before .before .before .before .before .before .before .before .before .before .before .before .before .before .args .n)) ((c .before .before .before .before .before .before .before .before .before .before .before .before .before .before .before .args .s)) (neighboursOf ((c .before .before .before .before .before .before .before .before .before .before .before .before .before .before .before .args .starts .now)) ((c .before .before .before .before .before .before .before .before .before .before .before .before .before .before .before .args .neighbours .now))) _ _ _ ((c .before .before .before .before .before .before .before .insert-below .ensures)) ((c .before .before .before .before .before .before .before .before .before .before .high-nodes .ensures)) ((c .before .before .remove .ensures))
+returns c = low-set ((c .before .before .before .before .before .before .before .before .before .before .before .before .before .before .before .args .n)) ((c .before .before .before .before .before .before .before .before .before .before .before .before .before .before .before .args .s)) (neighboursOf ((c .before .before .before .before .before .before .before .before .before .before .before .before .before .before .before .args .starts .now)) ((c .before .before .before .before .before .before .before .before .before .before .before .before .before .before .before .args .neighbours .now))) _ _ _ ((c .before .before .before .before .before .before .before .insert-below .ensures)) ((c .before .before .before .before .before .before .before .before .before .before .high-nodes .ensures)) ((c .before .before .subtract .ensures))
 
 pub low-nodes-spec : {M : Type 1} → statement M
 low-nodes-spec =
@@ -37,7 +37,7 @@ low-nodes-spec =
     slice-aggregate-high-nodes
     high-nodes-requires
     insert-below-requires
-    slice-aggregate-remove
-    remove-requires
+    slice-aggregate-subtract
+    subtract-requires
     same-length
     returns)

@@ -1,7 +1,7 @@
 -- `hubs::cover` meets its contract: the closed neighbourhood is taken out.
 -- Assumes nothing.
 use mathlib.Core.Path.{ap, _∙_}
-use Rattle.nodeset.specs.NodeSet.{member, without}
+use Rattle.nodeset.specs.NodeSet.{member, difference}
 use borrow.Author.Needs.{needs}
 use Rattle.hubs.proofs.cover.Statement.{statement}
 use Rattle.hubs.proofs.cover.Tie as tie
@@ -12,17 +12,17 @@ slice-aggregate-insert-closed c = search needs
 insert-closed-requires : tie.Need-insert-closed-requires
 insert-closed-requires c κs = search needs
 
-slice-aggregate-remove : tie.Need-slice-aggregate-remove
-slice-aggregate-remove c = search needs
+slice-aggregate-subtract : tie.Need-slice-aggregate-subtract
+slice-aggregate-subtract c = search needs
 
-remove-requires : tie.Need-remove-requires
-remove-requires c κs = search needs
+subtract-requires : tie.Need-subtract-requires
+subtract-requires c κs = search needs
 
 same-length : tie.Need-same-length
 same-length c = search needs
 
 returns : tie.Need-returns
-returns c = (c .before .before .remove .ensures) ∙ ap (without (member (c .before .before .before .before .before .before .before .before .before .before .before .args .uncovered .now))) (c .before .before .before .before .before .before .insert-closed .ensures)
+returns c = (c .before .before .subtract .ensures) ∙ ap (difference (member (c .before .before .before .before .before .before .before .before .before .before .before .args .uncovered .now))) (c .before .before .before .before .before .before .insert-closed .ensures)
 
 pub cover-spec : {M : Type 1} → statement M
 cover-spec =
@@ -30,7 +30,7 @@ cover-spec =
     (tie.spec
     slice-aggregate-insert-closed
     insert-closed-requires
-    slice-aggregate-remove
-    remove-requires
+    slice-aggregate-subtract
+    subtract-requires
     same-length
     returns)

@@ -1,4 +1,4 @@
--- `hubs::gain_of` meets its contract: words in common, counted.
+-- `hubs::gain_of` meets its contract: words in count-intersection, counted.
 -- Assumes nothing.
 use mathlib.Core.Path.{_∙_}
 use Rattle.hubs.proofs.Sets.{gain-words}
@@ -12,14 +12,14 @@ slice-aggregate-insert-closed c = search needs
 insert-closed-requires : tie.Need-insert-closed-requires
 insert-closed-requires c κs = search needs
 
-slice-aggregate-common : tie.Need-slice-aggregate-common
-slice-aggregate-common c = search needs
+slice-aggregate-count-intersection : tie.Need-slice-aggregate-count-intersection
+slice-aggregate-count-intersection c = search needs
 
-common-requires : tie.Need-common-requires
-common-requires c κs = search needs
+count-intersection-requires : tie.Need-count-intersection-requires
+count-intersection-requires c κs = search needs
 
 returns : tie.Need-returns
-returns c = (c .common .ensures) ∙ gain-words _ _ _ (c .before .before .before .before .before .before .before .before .pre .0) _ (c .before .before .before .before .before .before .before .before .pre .1) _ _ (search needs) (c .before .before .before .insert-closed .ensures)
+returns c = (c .count-intersection .ensures) ∙ gain-words _ _ _ (c .before .before .before .before .before .before .before .before .pre .0) _ (c .before .before .before .before .before .before .before .before .pre .1) _ _ (search needs) (c .before .before .before .insert-closed .ensures)
 
 pub gain-of-spec : {M : Type 1} → statement M
 gain-of-spec =
@@ -27,6 +27,6 @@ gain-of-spec =
     (tie.spec
     slice-aggregate-insert-closed
     insert-closed-requires
-    slice-aggregate-common
-    common-requires
+    slice-aggregate-count-intersection
+    count-intersection-requires
     returns)

@@ -34,14 +34,14 @@ slice-aggregate-insert-below c = search needs
 insert-below-requires : tie.Need-insert-below-requires Inv-loop μ-loop
 insert-below-requires c κs = (refl, (c .before .before .before .before .before .before .before .before .before .before .pre .0))
 
-slice-aggregate-take-out : tie.Need-slice-aggregate-take-out Inv-loop μ-loop
-slice-aggregate-take-out c = search needs
+slice-aggregate-remove : tie.Need-slice-aggregate-remove Inv-loop μ-loop
+slice-aggregate-remove c = search needs
 
-take-out-requires : tie.Need-take-out-requires Inv-loop μ-loop
-take-out-requires c κs = omega (arith, (c .before .before .insert-below .kept .0) ∙ length-replicate {A = ℕ} 16 0, (c .before .before .before .before .before .before .before .before .before .before .before .before .before .pre .0), (c .before .before .before .before .before .before .before .before .before .before .before .before .before .pre .2))
+remove-requires : tie.Need-remove-requires Inv-loop μ-loop
+remove-requires c κs = omega (arith, (c .before .before .insert-below .kept .0) ∙ length-replicate {A = ℕ} 16 0, (c .before .before .before .before .before .before .before .before .before .before .before .before .before .pre .0), (c .before .before .before .before .before .before .before .before .before .before .before .before .before .pre .2))
 
 loop-holds : tie.Need-loop-holds Inv-loop μ-loop
-loop-holds c = (turn-start (edgesIn (c .before .before .before .before .before .before .before .before .before .before .before .before .before .before .before .args .rows .now)) (c .before .before .before .before .before .before .before .before .before .before .before .before .before .before .before .args .n) (c .before .before .before .before .before .before .before .before .before .before .before .before .before .before .before .args .source) _ _ _ _ ((c .before .before .before .before .before .before .before .before .before .before .before .fill16 .ensures) ∙ ap (λ (m : ℕ). replicate m none) (c .before .before .before .before .before .before .before .before .before .before .before .before .before .before .before .pre .3)) (c .before .before .before .before .before .before .before .insert .ensures) (c .before .before .before .before .insert-below .ensures) (c .before .take-out .ensures), omega arith, (c .before .before .before .before .before .before .before .insert .kept .0) ∙ length-replicate {A = ℕ} 16 0, (c .before .take-out .kept .0) ∙ (c .before .before .before .before .insert-below .kept .0) ∙ length-replicate {A = ℕ} 16 0, length-replicate {A = ℕ} 16 0)
+loop-holds c = (turn-start (edgesIn (c .before .before .before .before .before .before .before .before .before .before .before .before .before .before .before .args .rows .now)) (c .before .before .before .before .before .before .before .before .before .before .before .before .before .before .before .args .n) (c .before .before .before .before .before .before .before .before .before .before .before .before .before .before .before .args .source) _ _ _ _ ((c .before .before .before .before .before .before .before .before .before .before .before .fill16 .ensures) ∙ ap (λ (m : ℕ). replicate m none) (c .before .before .before .before .before .before .before .before .before .before .before .before .before .before .before .pre .3)) (c .before .before .before .before .before .before .before .insert .ensures) (c .before .before .before .before .insert-below .ensures) (c .before .remove .ensures), omega arith, (c .before .before .before .before .before .before .before .insert .kept .0) ∙ length-replicate {A = ℕ} 16 0, (c .before .remove .kept .0) ∙ (c .before .before .before .before .insert-below .kept .0) ∙ length-replicate {A = ℕ} 16 0, length-replicate {A = ℕ} 16 0)
 
 slice-aggregate-smallest : tie.Need-slice-aggregate-smallest Inv-loop μ-loop
 slice-aggregate-smallest c = sym (c .before .before .loop .inv .2)
@@ -67,26 +67,26 @@ slice-aggregate-mark-layer-2 c = sym (c .before .before .before .before .before 
 mark-layer-requires : tie.Need-mark-layer-requires Inv-loop μ-loop
 mark-layer-requires c κs = (((c .before .before .before .before .before .before .before .loop .inv .2), (c .before .before .before .before .before .before .before .before .before .before .before .before .before .before .before .before .before .before .before .before .before .before .before .pre .1), (c .before .before .before .before .before .before .before .loop .inv .4)), front-inside (edgesIn (c .before .before .before .before .before .before .before .before .before .before .before .before .before .before .before .before .before .before .before .before .before .before .before .args .rows .now)) (c .before .before .before .before .before .before .before .before .before .before .before .before .before .before .before .before .before .before .before .before .before .before .before .args .n) (c .before .before .before .before .before .before .before .before .before .before .before .before .before .before .before .before .before .before .before .before .before .before .before .args .source) (c .before .before .before .before .before .before .before .before .before .before .before .before .before .before .before .before .before .before .before .before .before .before .before .pre .2) (c .before .before .before .before .before .before .before .before .before .before .before .before .before .before .before .before .before .before .before .before .before .before .before .pre .0) (c .before .before .before .before .before .before .before .loop .k) _ _ _ _ (c .before .before .before .before .before .before .before .loop .inv .0))
 
-slice-aggregate-write-common : tie.Need-slice-aggregate-write-common Inv-loop μ-loop
-slice-aggregate-write-common c = omega (arith, (c .before .before .before .before .before .before .before .before .before .before .before .before .loop .inv .2), (c .before .before .before .before .before .before .before .before .before .before .before .before .loop .inv .3), (c .before .before .before .before .before .before .before .before .before .before .before .before .loop .inv .4), (c .before .before .before .before .mark-layer .kept .1 .1 .1 .1 .0))
+slice-aggregate-write-intersection : tie.Need-slice-aggregate-write-intersection Inv-loop μ-loop
+slice-aggregate-write-intersection c = omega (arith, (c .before .before .before .before .before .before .before .before .before .before .before .before .loop .inv .2), (c .before .before .before .before .before .before .before .before .before .before .before .before .loop .inv .3), (c .before .before .before .before .before .before .before .before .before .before .before .before .loop .inv .4), (c .before .before .before .before .mark-layer .kept .1 .1 .1 .1 .0))
 
-slice-aggregate-write-common-2 : tie.Need-slice-aggregate-write-common-2 Inv-loop μ-loop
-slice-aggregate-write-common-2 c = omega (arith, (c .before .before .before .before .before .before .before .before .before .before .before .before .before .loop .inv .2), (c .before .before .before .before .before .before .before .before .before .before .before .before .before .loop .inv .3), (c .before .before .before .before .before .before .before .before .before .before .before .before .before .loop .inv .4), (c .before .before .before .before .before .mark-layer .kept .1 .1 .1 .1 .0))
+slice-aggregate-write-intersection-2 : tie.Need-slice-aggregate-write-intersection-2 Inv-loop μ-loop
+slice-aggregate-write-intersection-2 c = omega (arith, (c .before .before .before .before .before .before .before .before .before .before .before .before .before .loop .inv .2), (c .before .before .before .before .before .before .before .before .before .before .before .before .before .loop .inv .3), (c .before .before .before .before .before .before .before .before .before .before .before .before .before .loop .inv .4), (c .before .before .before .before .before .mark-layer .kept .1 .1 .1 .1 .0))
 
-slice-aggregate-write-common-3 : tie.Need-slice-aggregate-write-common-3 Inv-loop μ-loop
-slice-aggregate-write-common-3 c = sym (c .before .before .before .before .before .before .before .before .before .before .before .before .before .before .loop .inv .2)
+slice-aggregate-write-intersection-3 : tie.Need-slice-aggregate-write-intersection-3 Inv-loop μ-loop
+slice-aggregate-write-intersection-3 c = sym (c .before .before .before .before .before .before .before .before .before .before .before .before .before .before .loop .inv .2)
 
-write-common-requires : tie.Need-write-common-requires Inv-loop μ-loop
-write-common-requires c κs = (omega (arith, (c .before .before .before .before .before .before .before .before .before .before .before .before .before .before .loop .inv .2), (c .before .before .before .before .before .before .before .before .before .before .before .before .before .before .loop .inv .3), (c .before .before .before .before .before .before .before .before .before .before .before .before .before .before .loop .inv .4), (c .before .before .before .before .before .before .mark-layer .kept .1 .1 .1 .1 .0)), omega (arith, (c .before .before .before .before .before .before .before .before .before .before .before .before .before .before .loop .inv .2), (c .before .before .before .before .before .before .before .before .before .before .before .before .before .before .loop .inv .3), (c .before .before .before .before .before .before .before .before .before .before .before .before .before .before .loop .inv .4), (c .before .before .before .before .before .before .mark-layer .kept .1 .1 .1 .1 .0)))
+write-intersection-requires : tie.Need-write-intersection-requires Inv-loop μ-loop
+write-intersection-requires c κs = (omega (arith, (c .before .before .before .before .before .before .before .before .before .before .before .before .before .before .loop .inv .2), (c .before .before .before .before .before .before .before .before .before .before .before .before .before .before .loop .inv .3), (c .before .before .before .before .before .before .before .before .before .before .before .before .before .before .loop .inv .4), (c .before .before .before .before .before .before .mark-layer .kept .1 .1 .1 .1 .0)), omega (arith, (c .before .before .before .before .before .before .before .before .before .before .before .before .before .before .loop .inv .2), (c .before .before .before .before .before .before .before .before .before .before .before .before .before .before .loop .inv .3), (c .before .before .before .before .before .before .before .before .before .before .before .before .before .before .loop .inv .4), (c .before .before .before .before .before .before .mark-layer .kept .1 .1 .1 .1 .0)))
 
-slice-aggregate-remove : tie.Need-slice-aggregate-remove Inv-loop μ-loop
-slice-aggregate-remove c = sym (c .before .before .before .before .before .before .before .before .before .before .before .before .before .before .before .before .before .loop .inv .3)
+slice-aggregate-subtract : tie.Need-slice-aggregate-subtract Inv-loop μ-loop
+slice-aggregate-subtract c = sym (c .before .before .before .before .before .before .before .before .before .before .before .before .before .before .before .before .before .loop .inv .3)
 
-slice-aggregate-remove-2 : tie.Need-slice-aggregate-remove-2 Inv-loop μ-loop
-slice-aggregate-remove-2 c = sym ((c .before .before .before .write-common .kept .1 .1 .0) ∙ (c .before .before .before .before .before .before .before .before .before .before .before .before .before .before .before .before .before .before .loop .inv .2))
+slice-aggregate-subtract-2 : tie.Need-slice-aggregate-subtract-2 Inv-loop μ-loop
+slice-aggregate-subtract-2 c = sym ((c .before .before .before .write-intersection .kept .1 .1 .0) ∙ (c .before .before .before .before .before .before .before .before .before .before .before .before .before .before .before .before .before .before .loop .inv .2))
 
-remove-requires : tie.Need-remove-requires Inv-loop μ-loop
-remove-requires c κs = (c .before .before .before .before .before .before .before .before .before .before .before .before .before .before .before .before .before .before .loop .inv .3) ∙ sym ((c .before .before .before .write-common .kept .1 .1 .0) ∙ (c .before .before .before .before .before .before .before .before .before .before .before .before .before .before .before .before .before .before .loop .inv .2))
+subtract-requires : tie.Need-subtract-requires Inv-loop μ-loop
+subtract-requires c κs = (c .before .before .before .before .before .before .before .before .before .before .before .before .before .before .before .before .before .before .loop .inv .3) ∙ sym ((c .before .before .before .write-intersection .kept .1 .1 .0) ∙ (c .before .before .before .before .before .before .before .before .before .before .before .before .before .before .before .before .before .before .loop .inv .2))
 
 add-k : tie.Need-add-k Inv-loop μ-loop
 add-k c = omega (arith, (c .before .before .before .before .before .before .before .before .before .before .before .before .before .before .before .before .before .before .before .loop-test .taken), (c .before .before .before .before .before .before .before .before .before .before .before .before .before .before .before .before .before .before .before .before .before .before .before .before .before .before .before .before .before .before .before .before .before .before .before .before .pre .0))
@@ -95,7 +95,7 @@ loop-less : tie.Need-loop-less Inv-loop μ-loop
 loop-less c = omega (arith, (c .before .before .before .before .before .before .before .before .before .before .before .before .before .before .before .before .before .before .before .loop-test .taken))
 
 loop-again : tie.Need-loop-again Inv-loop μ-loop
-loop-again c = (turn-more (edgesIn (c .before .before .before .before .before .before .before .before .before .before .before .before .before .before .before .before .before .before .before .before .before .before .before .before .before .before .before .before .before .before .before .before .before .before .before .before .args .rows .now)) (c .before .before .before .before .before .before .before .before .before .before .before .before .before .before .before .before .before .before .before .before .before .before .before .before .before .before .before .before .before .before .before .before .before .before .before .before .args .n) (c .before .before .before .before .before .before .before .before .before .before .before .before .before .before .before .before .before .before .before .before .before .before .before .before .before .before .before .before .before .before .before .before .before .before .before .before .args .source) (c .before .before .before .before .before .before .before .before .before .before .before .before .before .before .before .before .before .before .before .before .before .before .before .before .before .before .before .before .before .before .before .before .before .before .before .before .pre .2) (c .before .before .before .before .before .before .before .before .before .before .before .before .before .before .before .before .before .before .before .before .before .before .before .before .before .before .before .before .before .before .before .before .before .before .before .before .pre .0) (c .before .before .before .before .before .before .before .before .before .before .before .before .before .before .before .before .before .before .before .before .loop .k) _ _ _ _ _ _ _ _ (c .before .before .before .before .before .before .before .before .before .before .before .before .before .before .before .before .before .before .before .before .loop .inv .0) (c .before .before .before .before .before .before .before .before .before .before .before .before .mark-layer .ensures .0) (c .before .before .before .before .before .before .before .before .before .before .before .before .mark-layer .ensures .1) (c .before .before .before .before .before .write-common .ensures) (c .before .remove .ensures), omega (arith, (c .before .before .before .before .before .before .before .before .before .before .before .before .before .before .before .before .before .before .before .loop-test .taken)), (c .before .before .before .before .before .write-common .kept .1 .1 .0) ∙ (c .before .before .before .before .before .before .before .before .before .before .before .before .before .before .before .before .before .before .before .before .loop .inv .2), (c .before .remove .kept .0) ∙ (c .before .before .before .before .before .before .before .before .before .before .before .before .before .before .before .before .before .before .before .before .loop .inv .3), (c .before .before .before .before .before .before .before .before .before .before .before .before .mark-layer .kept .1 .1 .1 .1 .0) ∙ (c .before .before .before .before .before .before .before .before .before .before .before .before .before .before .before .before .before .before .before .before .loop .inv .4))
+loop-again c = (turn-more (edgesIn (c .before .before .before .before .before .before .before .before .before .before .before .before .before .before .before .before .before .before .before .before .before .before .before .before .before .before .before .before .before .before .before .before .before .before .before .before .args .rows .now)) (c .before .before .before .before .before .before .before .before .before .before .before .before .before .before .before .before .before .before .before .before .before .before .before .before .before .before .before .before .before .before .before .before .before .before .before .before .args .n) (c .before .before .before .before .before .before .before .before .before .before .before .before .before .before .before .before .before .before .before .before .before .before .before .before .before .before .before .before .before .before .before .before .before .before .before .before .args .source) (c .before .before .before .before .before .before .before .before .before .before .before .before .before .before .before .before .before .before .before .before .before .before .before .before .before .before .before .before .before .before .before .before .before .before .before .before .pre .2) (c .before .before .before .before .before .before .before .before .before .before .before .before .before .before .before .before .before .before .before .before .before .before .before .before .before .before .before .before .before .before .before .before .before .before .before .before .pre .0) (c .before .before .before .before .before .before .before .before .before .before .before .before .before .before .before .before .before .before .before .before .loop .k) _ _ _ _ _ _ _ _ (c .before .before .before .before .before .before .before .before .before .before .before .before .before .before .before .before .before .before .before .before .loop .inv .0) (c .before .before .before .before .before .before .before .before .before .before .before .before .mark-layer .ensures .0) (c .before .before .before .before .before .before .before .before .before .before .before .before .mark-layer .ensures .1) (c .before .before .before .before .before .write-intersection .ensures) (c .before .subtract .ensures), omega (arith, (c .before .before .before .before .before .before .before .before .before .before .before .before .before .before .before .before .before .before .before .loop-test .taken)), (c .before .before .before .before .before .write-intersection .kept .1 .1 .0) ∙ (c .before .before .before .before .before .before .before .before .before .before .before .before .before .before .before .before .before .before .before .before .loop .inv .2), (c .before .subtract .kept .0) ∙ (c .before .before .before .before .before .before .before .before .before .before .before .before .before .before .before .before .before .before .before .before .loop .inv .3), (c .before .before .before .before .before .before .before .before .before .before .before .before .mark-layer .kept .1 .1 .1 .1 .0) ∙ (c .before .before .before .before .before .before .before .before .before .before .before .before .before .before .before .before .before .before .before .before .loop .inv .4))
 
 same-length-2 : tie.Need-same-length-2 Inv-loop μ-loop
 same-length-2 c = ((c .before .loop .inv .0)) .size ∙ sym (c .before .before .before .before .before .before .before .before .before .before .before .before .before .before .before .before .before .pre .3)
@@ -114,8 +114,8 @@ search-spec =
     insert-requires
     slice-aggregate-insert-below
     insert-below-requires
-    slice-aggregate-take-out
-    take-out-requires
+    slice-aggregate-remove
+    remove-requires
     loop-holds
     slice-aggregate-smallest
     smallest-requires
@@ -125,13 +125,13 @@ search-spec =
     cast-mark-layer
     slice-aggregate-mark-layer-2
     mark-layer-requires
-    slice-aggregate-write-common
-    slice-aggregate-write-common-2
-    slice-aggregate-write-common-3
-    write-common-requires
-    slice-aggregate-remove
-    slice-aggregate-remove-2
-    remove-requires
+    slice-aggregate-write-intersection
+    slice-aggregate-write-intersection-2
+    slice-aggregate-write-intersection-3
+    write-intersection-requires
+    slice-aggregate-subtract
+    slice-aggregate-subtract-2
+    subtract-requires
     add-k
     loop-less
     loop-again

@@ -6,7 +6,7 @@ use Prim.Native.Nat.{ℕ}
 use lib.ListN.{length-replicate}
 use Rattle.lists.specs.Writing.{Wrote}
 use Rattle.model.specs.declared.Reading.{Reading}
-use Rattle.model.specs.Reading.{returned}
+use Rattle.model.specs.Reading.{readReturned}
 use Rattle.listing.proofs.Whole.{listing-refused, listing-read}
 use borrow.Author.Needs.{needs}
 use Rattle.listing.proofs.write_text.Statement.{statement}
@@ -37,19 +37,19 @@ slice-aggregate-write-survey-2 : tie.Need-slice-aggregate-write-survey-2
 slice-aggregate-write-survey-2 c = search needs
 
 write-survey-requires : tie.Need-write-survey-requires
-write-survey-requires c κs = ((listing-read (c .before .before .before .before .before .before .before .before .before .before .before .before .before .args .text .now) _ _ (length-replicate {A = ℕ} 129 0) (length-replicate {A = ℕ} 4096 0) (c .before .before .before .before .before .before .before .before .read-within .last .1 .1 .1 .0) (c .before .before .before .before .before .before .before .before .read-within .last .1 .1 .1 .1 .0) (c .before .before .before .before .size .given .0 .0) (sym (ap (λ (z : Reading). returned z (c .before .before .before .before .before .before .before .before .read-within .last .1 .1 .1 .0) (c .before .before .before .before .before .before .before .before .read-within .last .1 .1 .1 .1 .0)) (c .before .before .before .before .size .given .1)) ∙ (c .before .before .before .before .before .before .before .before .read-within .ensures))) .survey, (listing-read (c .before .before .before .before .before .before .before .before .before .before .before .before .before .args .text .now) _ _ (length-replicate {A = ℕ} 129 0) (length-replicate {A = ℕ} 4096 0) (c .before .before .before .before .before .before .before .before .read-within .last .1 .1 .1 .0) (c .before .before .before .before .before .before .before .before .read-within .last .1 .1 .1 .1 .0) (c .before .before .before .before .size .given .0 .0) (sym (ap (λ (z : Reading). returned z (c .before .before .before .before .before .before .before .before .read-within .last .1 .1 .1 .0) (c .before .before .before .before .before .before .before .before .read-within .last .1 .1 .1 .1 .0)) (c .before .before .before .before .size .given .1)) ∙ (c .before .before .before .before .before .before .before .before .read-within .ensures))) .few, (c .before .before .before .before .before .before .before .before .before .before .before .before .before .pre))
+write-survey-requires c κs = ((listing-read (c .before .before .before .before .before .before .before .before .before .before .before .before .before .args .text .now) _ _ (length-replicate {A = ℕ} 129 0) (length-replicate {A = ℕ} 4096 0) (c .before .before .before .before .before .before .before .before .read-within .last .1 .1 .1 .0) (c .before .before .before .before .before .before .before .before .read-within .last .1 .1 .1 .1 .0) (c .before .before .before .before .size .given .0 .0) (sym (ap (λ (z : Reading). readReturned z (c .before .before .before .before .before .before .before .before .read-within .last .1 .1 .1 .0) (c .before .before .before .before .before .before .before .before .read-within .last .1 .1 .1 .1 .0)) (c .before .before .before .before .size .given .1)) ∙ (c .before .before .before .before .before .before .before .before .read-within .ensures))) .survey, (listing-read (c .before .before .before .before .before .before .before .before .before .before .before .before .before .args .text .now) _ _ (length-replicate {A = ℕ} 129 0) (length-replicate {A = ℕ} 4096 0) (c .before .before .before .before .before .before .before .before .read-within .last .1 .1 .1 .0) (c .before .before .before .before .before .before .before .before .read-within .last .1 .1 .1 .1 .0) (c .before .before .before .before .size .given .0 .0) (sym (ap (λ (z : Reading). readReturned z (c .before .before .before .before .before .before .before .before .read-within .last .1 .1 .1 .0) (c .before .before .before .before .before .before .before .before .read-within .last .1 .1 .1 .1 .0)) (c .before .before .before .before .size .given .1)) ∙ (c .before .before .before .before .before .before .before .before .read-within .ensures))) .few, (c .before .before .before .before .before .before .before .before .before .before .before .before .before .pre))
 
 same-length : tie.Need-same-length
 same-length c = search needs
 
 returns : tie.Need-returns
-returns c = subst (λ (t : List ℕ). Wrote (c .before .before .before .before .before .before .before .before .before .before .before .before .before .before .args .buffer .now) (c .before .before .write-refusal .last .1 .0) 0 (c .before .before .write-refusal .result) t) (listing-refused (c .before .before .before .before .before .before .before .before .before .before .before .before .before .before .args .text .now) _ _ (length-replicate {A = ℕ} 129 0) (length-replicate {A = ℕ} 4096 0) (c .before .before .before .before .before .before .before .before .before .read-within .last .1 .1 .1 .0) (c .before .before .before .before .before .before .before .before .before .read-within .last .1 .1 .1 .1 .0) (c .before .before .before .before .before .r .given .0 .0) (sym (ap (λ (z : Reading). returned z (c .before .before .before .before .before .before .before .before .before .read-within .last .1 .1 .1 .0) (c .before .before .before .before .before .before .before .before .before .read-within .last .1 .1 .1 .1 .0)) (c .before .before .before .before .before .r .given .1)) ∙ (c .before .before .before .before .before .before .before .before .before .read-within .ensures))) (c .before .before .write-refusal .ensures)
+returns c = subst (λ (t : List ℕ). Wrote (c .before .before .before .before .before .before .before .before .before .before .before .before .before .before .args .buffer .now) (c .before .before .write-refusal .last .1 .0) 0 (c .before .before .write-refusal .result) t) (listing-refused (c .before .before .before .before .before .before .before .before .before .before .before .before .before .before .args .text .now) _ _ (length-replicate {A = ℕ} 129 0) (length-replicate {A = ℕ} 4096 0) (c .before .before .before .before .before .before .before .before .before .read-within .last .1 .1 .1 .0) (c .before .before .before .before .before .before .before .before .before .read-within .last .1 .1 .1 .1 .0) (c .before .before .before .before .before .r .given .0 .0) (sym (ap (λ (z : Reading). readReturned z (c .before .before .before .before .before .before .before .before .before .read-within .last .1 .1 .1 .0) (c .before .before .before .before .before .before .before .before .before .read-within .last .1 .1 .1 .1 .0)) (c .before .before .before .before .before .r .given .1)) ∙ (c .before .before .before .before .before .before .before .before .before .read-within .ensures))) (c .before .before .write-refusal .ensures)
 
 same-length-2 : tie.Need-same-length-2
 same-length-2 c = search needs
 
 returns-2 : tie.Need-returns-2
-returns-2 c = subst (λ (t : List ℕ). Wrote (c .before .before .before .before .before .before .before .before .before .before .before .before .before .before .before .before .args .buffer .now) (c .before .before .write-survey .last .1 .1 .1 .0) 0 (c .before .before .write-survey .result) t) ((listing-read (c .before .before .before .before .before .before .before .before .before .before .before .before .before .before .before .before .args .text .now) _ _ (length-replicate {A = ℕ} 129 0) (length-replicate {A = ℕ} 4096 0) (c .before .before .before .before .before .before .before .before .before .before .before .read-within .last .1 .1 .1 .0) (c .before .before .before .before .before .before .before .before .before .before .before .read-within .last .1 .1 .1 .1 .0) (c .before .before .before .before .before .before .before .size .given .0 .0) (sym (ap (λ (z : Reading). returned z (c .before .before .before .before .before .before .before .before .before .before .before .read-within .last .1 .1 .1 .0) (c .before .before .before .before .before .before .before .before .before .before .before .read-within .last .1 .1 .1 .1 .0)) (c .before .before .before .before .before .before .before .size .given .1)) ∙ (c .before .before .before .before .before .before .before .before .before .before .before .read-within .ensures))) .lines) (c .before .before .write-survey .ensures)
+returns-2 c = subst (λ (t : List ℕ). Wrote (c .before .before .before .before .before .before .before .before .before .before .before .before .before .before .before .before .args .buffer .now) (c .before .before .write-survey .last .1 .1 .1 .0) 0 (c .before .before .write-survey .result) t) ((listing-read (c .before .before .before .before .before .before .before .before .before .before .before .before .before .before .before .before .args .text .now) _ _ (length-replicate {A = ℕ} 129 0) (length-replicate {A = ℕ} 4096 0) (c .before .before .before .before .before .before .before .before .before .before .before .read-within .last .1 .1 .1 .0) (c .before .before .before .before .before .before .before .before .before .before .before .read-within .last .1 .1 .1 .1 .0) (c .before .before .before .before .before .before .before .size .given .0 .0) (sym (ap (λ (z : Reading). readReturned z (c .before .before .before .before .before .before .before .before .before .before .before .read-within .last .1 .1 .1 .0) (c .before .before .before .before .before .before .before .before .before .before .before .read-within .last .1 .1 .1 .1 .0)) (c .before .before .before .before .before .before .before .size .given .1)) ∙ (c .before .before .before .before .before .before .before .before .before .before .before .read-within .ensures))) .lines) (c .before .before .write-survey .ensures)
 
 pub write-text-spec : {M : Type 1} → statement M
 write-text-spec =

@@ -1,70 +1,39 @@
--- `nodeset::remove` meets its contract: the first i words are without the other set, the rest is as it was.
+-- `nodeset::remove` meets its contract, by the law for one cleared bit.
 -- Assumes nothing.
-use Prim.Native.Nat.{_-_}
-use native.Mathlib.Omega.{arith}
-use lib.ListN.{length}
-use Rattle.nodeset.proofs.Words.{Removed, removed-none, removed-more, removed-all}
+use Rattle.nodeset.proofs.Bits.{set-without}
 use borrow.Author.Needs.{needs}
 use Rattle.nodeset.proofs.remove.Statement.{statement}
 use Rattle.nodeset.proofs.remove.Tie as tie
 
-abbrev Inv-loop : tie.InvT-loop
-Inv-loop a₀ b i₀ a i = Removed b a₀ a i
+mul-words : tie.Need-mul-words
+mul-words c = search needs
 
-abbrev μ-loop : tie.MeasureT-loop
-μ-loop a₀ b i₀ a i = length a₀ - i
+slice-read-words : tie.Need-slice-read-words
+slice-read-words c = search needs
 
-loop-holds : tie.Need-loop-holds Inv-loop μ-loop
-loop-holds c = removed-none _ _
+shl-words : tie.Need-shl-words
+shl-words c = search needs
 
-mul-a : tie.Need-mul-a Inv-loop μ-loop
-mul-a c = search needs
+mul-words-2 : tie.Need-mul-words-2
+mul-words-2 c = search needs
 
-slice-read-a : tie.Need-slice-read-a Inv-loop μ-loop
-slice-read-a c = search needs
+slice-write-words : tie.Need-slice-write-words
+slice-write-words c = search needs
 
-mul-a-2 : tie.Need-mul-a-2 Inv-loop μ-loop
-mul-a-2 c = omega (arith, (c .before .before .before .pre), (c .before .before .loop .inv) .same)
+same-length : tie.Need-same-length
+same-length c = search needs
 
-shared-slice-read-a : tie.Need-shared-slice-read-a Inv-loop μ-loop
-shared-slice-read-a c = omega (arith, (c .before .before .before .before .pre), (c .before .before .before .loop .inv) .same)
-
-mul-a-3 : tie.Need-mul-a-3 Inv-loop μ-loop
-mul-a-3 c = search needs
-
-slice-write-a : tie.Need-slice-write-a Inv-loop μ-loop
-slice-write-a c = search needs
-
-add-i : tie.Need-add-i Inv-loop μ-loop
-add-i c = search needs
-
-loop-less : tie.Need-loop-less Inv-loop μ-loop
-loop-less c = omega (arith, (c .before .before .before .loop .inv) .same)
-
-loop-again : tie.Need-loop-again Inv-loop μ-loop
-loop-again c = removed-more _ _ _ _ (c .before .before .before .loop .inv) (c .before .before .loop-test .taken) ((c .shared-slice-known .given) (c .before .before .before .loop .i) .fits)
-
-same-length : tie.Need-same-length Inv-loop μ-loop
-same-length c = (c .before .loop .inv) .same
-
-returns : tie.Need-returns Inv-loop μ-loop
-returns c = removed-all _ _ _ _ (c .before .loop .inv) (c .loop-test .left)
+returns : tie.Need-returns
+returns c = set-without (c .before .args .words .now) (c .before .args .v) (c .before .pre)
 
 pub remove-spec : {M : Type 1} → statement M
 remove-spec =
     tie.close
     (tie.spec
-    Inv-loop
-    μ-loop
-    loop-holds
-    mul-a
-    slice-read-a
-    mul-a-2
-    shared-slice-read-a
-    mul-a-3
-    slice-write-a
-    add-i
-    loop-less
-    loop-again
+    mul-words
+    slice-read-words
+    shl-words
+    mul-words-2
+    slice-write-words
     same-length
     returns)

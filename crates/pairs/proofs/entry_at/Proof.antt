@@ -2,7 +2,7 @@
 -- Assumes nothing.
 use mathlib.Core.Path.{refl}
 use native.Mathlib.Omega.{arith}
-use Rattle.model.specs.Tables.{entry}
+use Rattle.model.specs.Tables.{entryAt}
 use Rattle.model.proofs.Entries.{place-inside, square-small}
 use Rattle.pairs.proofs.entry_at.Statement.{statement}
 use Rattle.pairs.proofs.entry_at.Tie as tie
@@ -20,7 +20,7 @@ shared-slice-read-result : tie.Need-shared-slice-read-result
 shared-slice-read-result c = omega (arith, place-inside ((c .before .args .n)) ((c .before .args .row)) ((c .before .args .column)) ((c .before .pre .2)) ((c .before .pre .3)))
 
 returns : tie.Need-returns
-unfolding entry
+unfolding entryAt
 returns c = refl
 
 pub entry-at-spec : {M : Type 1} → statement M

@@ -76,7 +76,7 @@ take-steps-returns : (t : ℕ) → take-steps-lts.Need-returns (
   take-steps-below t,
   take-steps.Post,
 ) (take-steps-at t) take-steps.Post
-take-steps-returns t c = last-step (c .before .before .before .before .before .args .n) (c .before .before .before .before .before .args .starts .now) (c .before .before .before .before .before .args .neighbours .now) (c .before .before .before .before .before .pre .1 .0) (c .before .before .before .before .before .args .limit) (c .before .before .before .before .before .args .table .now) (c .before .before .before .before .before .args .step) (c .before .before .before .before .before .args .goal) (c .before .before .before .before .before .args .d) (c .before .before .before .before .before .args .v) (c .before .before .before .before .before .args .nodes .now) (c .if1 .taken) (c .before .before .before .before .before .pre .1 .3)
+take-steps-returns t c = last-step (c .before .before .before .before .before .args .n) (c .before .before .before .before .before .args .starts .now) (c .before .before .before .before .before .args .neighbours .now) (c .before .before .before .before .before .pre .1 .0) (c .before .before .before .before .before .args .limit) (c .before .before .before .before .before .args .table .now) (c .before .before .before .before .before .args .stride) (c .before .before .before .before .before .args .goal) (c .before .before .before .before .before .args .d) (c .before .before .before .before .before .args .v) (c .before .before .before .before .before .args .nodes .now) (c .if1 .taken) (c .before .before .before .before .before .pre .1 .3)
 
 take-steps-own-requires : (t : ℕ) → take-steps-lts.Need-own-requires (
   own-reads.Asked,
@@ -126,7 +126,7 @@ take-steps-returns-2 : (t : ℕ) → take-steps-lts.Need-returns-2 (
   take-steps-below t,
   take-steps.Post,
 ) (take-steps-at t) take-steps.Post
-take-steps-returns-2 t c = no-step (c .before .before .before .before .before .before .before .before .args .n) (c .before .before .before .before .before .before .before .before .args .starts .now) (c .before .before .before .before .before .before .before .before .args .neighbours .now) (c .before .before .before .before .before .before .before .before .pre .1 .0) (c .before .before .before .before .before .before .before .before .args .limit) (c .before .before .before .before .before .before .before .before .args .table .now) (c .before .before .before .before .before .before .before .before .args .step) (c .before .before .before .before .before .before .before .before .args .goal) (c .before .before .before .before .before .before .before .before .args .d) (c .before .before .before .before .before .before .before .before .args .v) (c .before .next-node .result) (c .before .before .before .if1 .left) (c .before .next-node .ensures) (c .before .before .own .ensures) (c .if2 .taken) _ _
+take-steps-returns-2 t c = no-step (c .before .before .before .before .before .before .before .before .args .n) (c .before .before .before .before .before .before .before .before .args .starts .now) (c .before .before .before .before .before .before .before .before .args .neighbours .now) (c .before .before .before .before .before .before .before .before .pre .1 .0) (c .before .before .before .before .before .before .before .before .args .limit) (c .before .before .before .before .before .before .before .before .args .table .now) (c .before .before .before .before .before .before .before .before .args .stride) (c .before .before .before .before .before .before .before .before .args .goal) (c .before .before .before .before .before .before .before .before .args .d) (c .before .before .before .before .before .before .before .before .args .v) (c .before .next-node .result) (c .before .before .before .if1 .left) (c .before .next-node .ensures) (c .before .before .own .ensures) (c .if2 .taken) _ _
 
 take-steps-sub-take-steps : (t : ℕ) → take-steps-lts.Need-sub-take-steps (
   own-reads.Asked,
@@ -156,7 +156,7 @@ take-steps-take-steps-requires : (t : ℕ) → take-steps-lts.Need-take-steps-re
   take-steps-below t,
   take-steps.Post,
 ) (take-steps-at t) take-steps.Post
-take-steps-take-steps-requires t c κs = (omega (arith, (c .before .before .before .before .before .before .before .before .before .pre .0)), ((c .before .before .before .before .before .before .before .before .before .pre .1 .0), (c .before .before .before .before .before .before .before .before .before .pre .1 .1), step-below (c .before .before .before .before .before .before .before .before .before .args .n) (c .before .before .before .before .before .before .before .before .before .args .starts .now) (c .before .before .before .before .before .before .before .before .before .args .neighbours .now) (c .before .before .before .before .before .before .before .before .before .pre .1 .0) (c .before .before .before .before .before .before .before .before .before .args .limit) (c .before .before .before .before .before .before .before .before .before .args .table .now) (c .before .before .before .before .before .before .before .before .before .args .step) (c .before .before .before .before .before .before .before .before .before .args .goal) (c .before .before .before .before .before .before .before .before .before .args .d) (c .before .before .before .before .before .before .before .before .before .args .v) (c .before .before .next-node .result) (c .before .before .before .before .if1 .left) (c .before .before .next-node .ensures) (c .before .before .before .own .ensures) (c .before .before .before .before .before .before .before .before .before .pre .1 .2) (c .before .if2 .left), simp length-set (omega arith)))
+take-steps-take-steps-requires t c κs = (omega (arith, (c .before .before .before .before .before .before .before .before .before .pre .0)), ((c .before .before .before .before .before .before .before .before .before .pre .1 .0), (c .before .before .before .before .before .before .before .before .before .pre .1 .1), step-below (c .before .before .before .before .before .before .before .before .before .args .n) (c .before .before .before .before .before .before .before .before .before .args .starts .now) (c .before .before .before .before .before .before .before .before .before .args .neighbours .now) (c .before .before .before .before .before .before .before .before .before .pre .1 .0) (c .before .before .before .before .before .before .before .before .before .args .limit) (c .before .before .before .before .before .before .before .before .before .args .table .now) (c .before .before .before .before .before .before .before .before .before .args .stride) (c .before .before .before .before .before .before .before .before .before .args .goal) (c .before .before .before .before .before .before .before .before .before .args .d) (c .before .before .before .before .before .before .before .before .before .args .v) (c .before .before .next-node .result) (c .before .before .before .before .if1 .left) (c .before .before .next-node .ensures) (c .before .before .before .own .ensures) (c .before .before .before .before .before .before .before .before .before .pre .1 .2) (c .before .if2 .left), simp length-set (omega arith)))
 
 take-steps-same-length-3 : (t : ℕ) → take-steps-lts.Need-same-length-3 (
   own-reads.Asked,
@@ -176,7 +176,7 @@ take-steps-returns-3 : (t : ℕ) → take-steps-lts.Need-returns-3 (
   take-steps-below t,
   take-steps.Post,
 ) (take-steps-at t) take-steps.Post
-take-steps-returns-3 t c = step-on (c .before .before .before .before .before .before .before .before .before .before .before .before .args .n) (c .before .before .before .before .before .before .before .before .before .before .before .before .args .starts .now) (c .before .before .before .before .before .before .before .before .before .before .before .before .args .neighbours .now) (c .before .before .before .before .before .before .before .before .before .before .before .before .pre .1 .0) (c .before .before .before .before .before .before .before .before .before .before .before .before .args .limit) (c .before .before .before .before .before .before .before .before .before .before .before .before .args .table .now) (c .before .before .before .before .before .before .before .before .before .before .before .before .args .step) (c .before .before .before .before .before .before .before .before .before .before .before .before .args .goal) (c .before .before .before .before .before .before .before .before .before .before .before .before .args .d) (c .before .before .before .before .before .before .before .before .before .before .before .before .args .v) (c .before .before .before .before .before .next-node .result) (c .before .before .before .before .before .before .before .if1 .left) (c .before .before .before .before .before .next-node .ensures) (c .before .before .before .before .before .before .own .ensures) (c .before .before .before .before .before .before .before .before .before .before .before .before .pre .1 .2) (c .before .before .before .before .if2 .left) (c .before .before .before .before .before .before .before .before .before .before .before .before .args .nodes .now) _ (c .before .before .before .before .before .before .before .before .before .before .before .before .pre .1 .3) _ (c .before .before .take-steps .ensures)
+take-steps-returns-3 t c = step-on (c .before .before .before .before .before .before .before .before .before .before .before .before .args .n) (c .before .before .before .before .before .before .before .before .before .before .before .before .args .starts .now) (c .before .before .before .before .before .before .before .before .before .before .before .before .args .neighbours .now) (c .before .before .before .before .before .before .before .before .before .before .before .before .pre .1 .0) (c .before .before .before .before .before .before .before .before .before .before .before .before .args .limit) (c .before .before .before .before .before .before .before .before .before .before .before .before .args .table .now) (c .before .before .before .before .before .before .before .before .before .before .before .before .args .stride) (c .before .before .before .before .before .before .before .before .before .before .before .before .args .goal) (c .before .before .before .before .before .before .before .before .before .before .before .before .args .d) (c .before .before .before .before .before .before .before .before .before .before .before .before .args .v) (c .before .before .before .before .before .next-node .result) (c .before .before .before .before .before .before .before .if1 .left) (c .before .before .before .before .before .next-node .ensures) (c .before .before .before .before .before .before .own .ensures) (c .before .before .before .before .before .before .before .before .before .before .before .before .pre .1 .2) (c .before .before .before .before .if2 .left) (c .before .before .before .before .before .before .before .before .before .before .before .before .args .nodes .now) _ (c .before .before .before .before .before .before .before .before .before .before .before .before .pre .1 .3) _ (c .before .before .take-steps .ensures)
 
 pub +take-steps-spec : {M : Type 1} → statement M
 +take-steps-spec = close μ-take-steps λ t. take-steps-lts.spec (

@@ -12,10 +12,10 @@ use Rattle.parts.proofs.next_node.Statement.{statement}
 use Rattle.parts.proofs.next_node.Tie as tie
 
 abbrev Inv-loop : tie.InvT-loop
-Inv-loop n starts neighbours row limit table step d i₀ i = Searched (leadsOn starts neighbours limit table step d) none row i
+Inv-loop n starts neighbours row limit table stride d i₀ i = Searched (leadsOn starts neighbours limit table stride d) none row i
 
 abbrev μ-loop : tie.MeasureT-loop
-μ-loop n starts neighbours row limit table step d i₀ i = length row - i
+μ-loop n starts neighbours row limit table stride d i₀ i = length row - i
 
 loop-holds : tie.Need-loop-holds Inv-loop μ-loop
 loop-holds c = refl
@@ -33,7 +33,7 @@ leads-on-requires : tie.Need-leads-on-requires Inv-loop μ-loop
 leads-on-requires c κs = ((c .before .before .before .before .before .before .before .pre .0 .0), (c .before .before .before .before .before .before .before .pre .0 .1), (c .before .before .before .before .before .before .before .pre .1) (getD (c .before .before .before .before .before .before .before .args .row .now) (c .before .before .loop .i) 0) (getD-has (c .before .before .before .before .before .before .before .args .row .now) (c .before .before .loop .i) (c .before .loop-test .taken)))
 
 returns : tie.Need-returns Inv-loop μ-loop
-returns c = searched-found (leadsOn (c .before .before .before .before .before .before .before .before .before .args .starts .now) (c .before .before .before .before .before .before .before .before .before .args .neighbours .now) (c .before .before .before .before .before .before .before .before .before .args .limit) (c .before .before .before .before .before .before .before .before .before .args .table .now) (c .before .before .before .before .before .before .before .before .before .args .step) (c .before .before .before .before .before .before .before .before .before .args .d)) none (c .before .before .before .before .before .before .before .before .before .args .row .now) (c .before .before .before .before .loop .i) (c .before .before .before .before .loop .inv) (c .before .before .before .loop-test .taken) (sym (c .before .leads-on .ensures) ∙ (c .if1 .taken))
+returns c = searched-found (leadsOn (c .before .before .before .before .before .before .before .before .before .args .starts .now) (c .before .before .before .before .before .before .before .before .before .args .neighbours .now) (c .before .before .before .before .before .before .before .before .before .args .limit) (c .before .before .before .before .before .before .before .before .before .args .table .now) (c .before .before .before .before .before .before .before .before .before .args .stride) (c .before .before .before .before .before .before .before .before .before .args .d)) none (c .before .before .before .before .before .before .before .before .before .args .row .now) (c .before .before .before .before .loop .i) (c .before .before .before .before .loop .inv) (c .before .before .before .loop-test .taken) (sym (c .before .leads-on .ensures) ∙ (c .if1 .taken))
 
 add-i : tie.Need-add-i Inv-loop μ-loop
 add-i c = omega arith
@@ -42,10 +42,10 @@ loop-less : tie.Need-loop-less Inv-loop μ-loop
 loop-less c = omega arith
 
 loop-again : tie.Need-loop-again Inv-loop μ-loop
-loop-again c = searched-more (leadsOn (c .before .before .before .before .before .before .before .before .before .args .starts .now) (c .before .before .before .before .before .before .before .before .before .args .neighbours .now) (c .before .before .before .before .before .before .before .before .before .args .limit) (c .before .before .before .before .before .before .before .before .before .args .table .now) (c .before .before .before .before .before .before .before .before .before .args .step) (c .before .before .before .before .before .before .before .before .before .args .d)) none (c .before .before .before .before .before .before .before .before .before .args .row .now) (c .before .before .before .before .loop .i) (c .before .before .before .before .loop .inv) (c .before .before .before .loop-test .taken) (sym (c .before .leads-on .ensures) ∙ (c .if1 .left))
+loop-again c = searched-more (leadsOn (c .before .before .before .before .before .before .before .before .before .args .starts .now) (c .before .before .before .before .before .before .before .before .before .args .neighbours .now) (c .before .before .before .before .before .before .before .before .before .args .limit) (c .before .before .before .before .before .before .before .before .before .args .table .now) (c .before .before .before .before .before .before .before .before .before .args .stride) (c .before .before .before .before .before .before .before .before .before .args .d)) none (c .before .before .before .before .before .before .before .before .before .args .row .now) (c .before .before .before .before .loop .i) (c .before .before .before .before .loop .inv) (c .before .before .before .loop-test .taken) (sym (c .before .leads-on .ensures) ∙ (c .if1 .left))
 
 returns-2 : tie.Need-returns-2 Inv-loop μ-loop
-returns-2 c = searched-all (leadsOn (c .before .before .before .before .before .before .args .starts .now) (c .before .before .before .before .before .before .args .neighbours .now) (c .before .before .before .before .before .before .args .limit) (c .before .before .before .before .before .before .args .table .now) (c .before .before .before .before .before .before .args .step) (c .before .before .before .before .before .before .args .d)) none (c .before .before .before .before .before .before .args .row .now) (c .before .loop .i) (c .before .loop .inv) (c .loop-test .left)
+returns-2 c = searched-all (leadsOn (c .before .before .before .before .before .before .args .starts .now) (c .before .before .before .before .before .before .args .neighbours .now) (c .before .before .before .before .before .before .args .limit) (c .before .before .before .before .before .before .args .table .now) (c .before .before .before .before .before .before .args .stride) (c .before .before .before .before .before .before .args .d)) none (c .before .before .before .before .before .before .args .row .now) (c .before .loop .i) (c .before .loop .inv) (c .loop-test .left)
 
 pub next-node-spec : {M : Type 1} → statement M
 next-node-spec =

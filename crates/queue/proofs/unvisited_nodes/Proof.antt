@@ -15,11 +15,11 @@ slice-aggregate-insert-below c = search needs
 insert-below-requires : tie.Need-insert-below-requires
 insert-below-requires c κs = search needs
 
-slice-aggregate-remove : tie.Need-slice-aggregate-remove
-slice-aggregate-remove c = search needs
+slice-aggregate-subtract : tie.Need-slice-aggregate-subtract
+slice-aggregate-subtract c = search needs
 
-remove-requires : tie.Need-remove-requires
-remove-requires c κs = search needs
+subtract-requires : tie.Need-subtract-requires
+subtract-requires c κs = search needs
 
 slice-aggregate-insert : tie.Need-slice-aggregate-insert
 slice-aggregate-insert c = search needs
@@ -30,17 +30,17 @@ insert-requires c κs = search needs
 insert-below-requires-2 : tie.Need-insert-below-requires-2
 insert-below-requires-2 c κs = search needs
 
-slice-aggregate-remove-2 : tie.Need-slice-aggregate-remove-2
-slice-aggregate-remove-2 c = search needs
+slice-aggregate-subtract-2 : tie.Need-slice-aggregate-subtract-2
+slice-aggregate-subtract-2 c = search needs
 
-remove-requires-2 : tie.Need-remove-requires-2
-remove-requires-2 c κs = omega (arith, ap length (c .before .before .before .before .before .before .before .before .before .before .before .before .before .before .before .before .before .pre .3), (c .before .before .before .before .insert-below2 .kept .0), (c .before .before .before .before .before .before .before .insert .kept .0), (c .before .before .before .before .before .before .before .before .before .before .remove .kept .0), (c .before .before .before .before .before .before .before .before .before .before .before .before .before .insert-below .kept .0))
+subtract-requires-2 : tie.Need-subtract-requires-2
+subtract-requires-2 c κs = omega (arith, ap length (c .before .before .before .before .before .before .before .before .before .before .before .before .before .before .before .before .before .pre .3), (c .before .before .before .before .insert-below2 .kept .0), (c .before .before .before .before .before .before .before .insert .kept .0), (c .before .before .before .before .before .before .before .before .before .before .subtract .kept .0), (c .before .before .before .before .before .before .before .before .before .before .before .before .before .insert-below .kept .0))
 
 same-length : tie.Need-same-length
 same-length c = search needs
 
 returns : tie.Need-returns
-returns c = unvisited-start (member (c .before .before .before .before .before .before .before .before .before .before .before .before .before .before .before .before .before .before .before .before .args .allowed .now)) (c .before .before .before .before .before .before .before .before .before .before .before .before .before .before .before .before .before .before .before .before .args .n) (c .before .before .before .before .before .before .before .before .before .before .before .before .before .before .before .before .before .before .before .before .args .source) (c .before .before .before .before .before .before .before .before .before .before .before .before .before .before .before .before .insert-below .ensures) (c .before .before .before .before .before .before .before .before .before .before .before .before .before .remove .ensures) (c .before .before .before .before .before .before .before .before .before .before .insert .ensures) (c .before .before .before .before .before .before .before .insert-below2 .ensures) (c .before .before .remove2 .ensures) (c .before .before .before .before .before .before .before .before .before .before .before .before .before .before .before .before .before .before .before .before .pre .2)
+returns c = unvisited-start (member (c .before .before .before .before .before .before .before .before .before .before .before .before .before .before .before .before .before .before .before .before .args .allowed .now)) (c .before .before .before .before .before .before .before .before .before .before .before .before .before .before .before .before .before .before .before .before .args .n) (c .before .before .before .before .before .before .before .before .before .before .before .before .before .before .before .before .before .before .before .before .args .source) (c .before .before .before .before .before .before .before .before .before .before .before .before .before .before .before .before .insert-below .ensures) (c .before .before .before .before .before .before .before .before .before .before .before .before .before .subtract .ensures) (c .before .before .before .before .before .before .before .before .before .before .insert .ensures) (c .before .before .before .before .before .before .before .insert-below2 .ensures) (c .before .before .subtract2 .ensures) (c .before .before .before .before .before .before .before .before .before .before .before .before .before .before .before .before .before .before .before .before .pre .2)
 
 pub unvisited-nodes-spec : {M : Type 1} → statement M
 unvisited-nodes-spec =
@@ -48,12 +48,12 @@ unvisited-nodes-spec =
     (tie.spec
     slice-aggregate-insert-below
     insert-below-requires
-    slice-aggregate-remove
-    remove-requires
+    slice-aggregate-subtract
+    subtract-requires
     slice-aggregate-insert
     insert-requires
     insert-below-requires-2
-    slice-aggregate-remove-2
-    remove-requires-2
+    slice-aggregate-subtract-2
+    subtract-requires-2
     same-length
     returns)

@@ -18,8 +18,8 @@ same-length c = search needs
 returns : tie.Need-returns
 returns c = (sym (visited-not _ _ _ _ (sym ((c .before .before .before .before .before .before .pre .1 .1) (c .before .before .before .before .before .before .args .w) (c .before .before .before .before .before .before .pre .0 .0)) ∙ (sym (c .before .contains .ensures) ∙ not-true _ (c .if1 .taken)))), (c .before .before .before .before .before .before .pre .1 .1))
 
-take-out-requires : tie.Need-take-out-requires
-take-out-requires c κs = search needs
+remove-requires : tie.Need-remove-requires
+remove-requires c κs = search needs
 
 mul-row : tie.Need-mul-row
 mul-row c = search needs
@@ -46,7 +46,7 @@ same-length-3 : tie.Need-same-length-3
 same-length-3 c = search needs
 
 returns-2 : tie.Need-returns-2
-returns-2 c = (sym (visited-new _ _ _ _ (sym ((c .before .before .before .before .before .before .before .before .before .before .pre .1 .1) (c .before .before .before .before .before .before .before .before .before .before .args .w) (c .before .before .before .before .before .before .before .before .before .before .pre .0 .0)) ∙ (sym (c .before .before .before .before .before .contains .ensures) ∙ not-false _ (c .before .before .before .before .if1 .left)))), unvisited-joined (member (c .before .before .before .before .before .before .before .before .before .before .args .allowed .now)) (member (c .before .before .before .before .before .before .before .before .before .before .args .unvisited .now)) (c .before .before .before .before .before .before .before .before .before .before .args .row .now) (c .before .before .before .before .before .before .before .before .before .before .pre .1 .1) (c .before .before .before .before .before .before .before .before .before .before .args .w) (c .before .before .before .before .before .before .before .before .before .before .pre .0 .0) (c .before .before .before .before .before .before .before .before .before .before .args .d) (c .before .before .before .before .before .before .before .before .before .before .pre .0 .2) _ (c .before .before .take-out .ensures))
+returns-2 c = (sym (visited-new _ _ _ _ (sym ((c .before .before .before .before .before .before .before .before .before .before .pre .1 .1) (c .before .before .before .before .before .before .before .before .before .before .args .w) (c .before .before .before .before .before .before .before .before .before .before .pre .0 .0)) ∙ (sym (c .before .before .before .before .before .contains .ensures) ∙ not-false _ (c .before .before .before .before .if1 .left)))), unvisited-joined (member (c .before .before .before .before .before .before .before .before .before .before .args .allowed .now)) (member (c .before .before .before .before .before .before .before .before .before .before .args .unvisited .now)) (c .before .before .before .before .before .before .before .before .before .before .args .row .now) (c .before .before .before .before .before .before .before .before .before .before .pre .1 .1) (c .before .before .before .before .before .before .before .before .before .before .args .w) (c .before .before .before .before .before .before .before .before .before .before .pre .0 .0) (c .before .before .before .before .before .before .before .before .before .before .args .d) (c .before .before .before .before .before .before .before .before .before .before .pre .0 .2) _ (c .before .before .remove .ensures))
 
 pub visit-spec : {M : Type 1} → statement M
 visit-spec =
@@ -55,7 +55,7 @@ visit-spec =
     contains-requires
     same-length
     returns
-    take-out-requires
+    remove-requires
     mul-row
     slice-write-row
     cast-queue

@@ -6,7 +6,7 @@ use Prim.Native.Nat.{ℕ, _+_, _-_, _*_, _≤_}
 use native.Mathlib.Omega.{arith}
 use lib.ListN.{length, getD, set, length-set}
 use Rattle.model.specs.Basics.{upTo}
-use Rattle.model.specs.Tables.{entry}
+use Rattle.model.specs.Tables.{entryAt}
 use Rattle.model.proofs.Ascending.{getD-has}
 use Rattle.model.proofs.Entries.{length-row, place-inside}
 use Rattle.lists.proofs.TableRows.{row-ends, part-length}
@@ -92,7 +92,7 @@ loop-less : tie.Need-loop-less Inv-loop μ-loop
 loop-less c = search needs
 
 loop-again : tie.Need-loop-again Inv-loop μ-loop
-unfolding entry
+unfolding entryAt
 loop-again c = (omega arith, ((c .before .before .relax .ensures)) ∙ ap₂ (relaxed (getD ((c .before .before .before .before .before .before .before .before .before .before .before .before .before .before .before .before .before .before .args .full .now)) ((getD ((c .before .before .before .before .before .before .before .before .before .before .before .before .before .before .before .before .before .before .args .hubs .now)) ((c .before .before .before .before .before .before .before .before .loop .k)) 0) * ((c .before .before .before .before .before .before .before .before .before .before .before .before .before .before .before .before .before .before .args .n)) + ((c .before .before .before .before .before .before .before .before .before .before .before .before .before .before .before .before .before .before .args .a))) 0)) (own-row ((c .before .before .before .before .before .before .before .before .before .before .before .before .before .before .before .before .before .before .args .n)) (getD ((c .before .before .before .before .before .before .before .before .before .before .before .before .before .before .before .before .before .before .args .hubs .now)) ((c .before .before .before .before .before .before .before .before .loop .k)) 0) ((c .before .before .before .before .before .before .before .before .before .before .before .before .before .before .before .before .before .before .args .full .now)) ((c .before .before .before .before .before .before .before .before .before .before .before .before .before .before .before .before .before .before .pre .1) (getD ((c .before .before .before .before .before .before .before .before .before .before .before .before .before .before .before .before .before .before .args .hubs .now)) ((c .before .before .before .before .before .before .before .before .loop .k)) 0) (getD-has ((c .before .before .before .before .before .before .before .before .before .before .before .before .before .before .before .before .before .before .args .hubs .now)) ((c .before .before .before .before .before .before .before .before .loop .k)) ((c .before .before .before .before .before .before .before .loop-test .taken)))) ((c .before .before .before .before .before .before .before .before .before .before .before .before .before .before .before .before .before .before .pre .0 .1))) ((c .before .before .before .before .before .before .before .before .loop .inv .1)) ∙ least-next ((c .before .before .before .before .before .before .before .before .before .before .before .before .before .before .before .before .before .before .args .n)) ((c .before .before .before .before .before .before .before .before .before .before .before .before .before .before .before .before .before .before .args .full .now)) ((c .before .before .before .before .before .before .before .before .before .before .before .before .before .before .before .before .before .before .args .low .now)) ((c .before .before .before .before .before .before .before .before .before .before .before .before .before .before .before .before .before .before .args .hubs .now)) ((c .before .before .before .before .before .before .before .before .before .before .before .before .before .before .before .before .before .before .args .a)) (λ b k. omega (arith, (c .before .before .before .before .before .before .before .before .before .before .before .before .before .before .before .before .shared-slice-known2 .given) (((c .before .before .before .before .before .before .before .before .before .before .before .before .before .before .before .before .before .before .args .a)) * ((c .before .before .before .before .before .before .before .before .before .before .before .before .before .before .before .before .before .before .args .n)) + b))) ((c .before .before .before .before .before .before .before .before .loop .k)) ((c .before .before .before .before .before .before .before .loop-test .taken)))
 
 mul-row : tie.Need-mul-row Inv-loop μ-loop

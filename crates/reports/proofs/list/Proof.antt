@@ -4,7 +4,7 @@ use mathlib.Core.Path.{sym, ap, _∙_}
 use lib.Seq.{length-take-le}
 use Rattle.model.specs.declared.Counting.{Counting}
 use Rattle.model.specs.Listing.{listing}
-use Rattle.model.specs.Writing.{returned}
+use Rattle.model.specs.Writing.{writeReturned}
 use Rattle.model.proofs.ReadBack.{write-fits}
 use borrow.Author.Needs.{needs}
 use Rattle.reports.proofs.list.Statement.{statement}
@@ -29,10 +29,10 @@ enum-known-k : tie.Need-enum-known-k
 enum-known-k c = search needs
 
 slice-reshare-prefix-write-all : tie.Need-slice-reshare-prefix-write-all
-slice-reshare-prefix-write-all c = write-fits (listing _) _ (c .before .k .given .0 .0) (c .before .before .before .before .before .write-listing .last .1 .0) (sym (ap (λ (z : Counting). returned z (c .before .before .before .before .before .write-listing .last .1 .0)) (c .before .k .given .1)) ∙ (c .before .before .before .before .before .write-listing .ensures .0))
+slice-reshare-prefix-write-all c = write-fits (listing _) _ (c .before .k .given .0 .0) (c .before .before .before .before .before .write-listing .last .1 .0) (sym (ap (λ (z : Counting). writeReturned z (c .before .before .before .before .before .write-listing .last .1 .0)) (c .before .k .given .1)) ∙ (c .before .before .before .before .before .write-listing .ensures .0))
 
 slice-aggregate-write-all : tie.Need-slice-aggregate-write-all
-slice-aggregate-write-all c = sym (length-take-le (c .before .before .k .given .0 .0) (c .before .before .before .before .before .before .write-listing .last .1 .0) (write-fits (listing _) _ (c .before .before .k .given .0 .0) (c .before .before .before .before .before .before .write-listing .last .1 .0) (sym (ap (λ (z : Counting). returned z (c .before .before .before .before .before .before .write-listing .last .1 .0)) (c .before .before .k .given .1)) ∙ (c .before .before .before .before .before .before .write-listing .ensures .0))))
+slice-aggregate-write-all c = sym (length-take-le (c .before .before .k .given .0 .0) (c .before .before .before .before .before .before .write-listing .last .1 .0) (write-fits (listing _) _ (c .before .before .k .given .0 .0) (c .before .before .before .before .before .before .write-listing .last .1 .0) (sym (ap (λ (z : Counting). writeReturned z (c .before .before .before .before .before .before .write-listing .last .1 .0)) (c .before .before .k .given .1)) ∙ (c .before .before .before .before .before .before .write-listing .ensures .0))))
 
 write-all-requires : tie.Need-write-all-requires
 write-all-requires c κs = search needs

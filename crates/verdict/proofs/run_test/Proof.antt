@@ -8,7 +8,7 @@ use lib.Dec.{T}
 use Rattle.model.specs.Basics.{has}
 use Rattle.model.specs.Survey.{neighboursOf}
 use Rattle.model.proofs.Verdicts.{source-cases, source-below}
-use Rattle.verdict.proofs.Sources.{sources-fit, sources-long, tested-is}
+use Rattle.verdict.proofs.Sources.{sources-fit, sources-long, result-is}
 use borrow.Author.Needs.{needs}
 use Rattle.verdict.proofs.run_test.Statement.{statement}
 use Rattle.verdict.proofs.run_test.Tie as tie
@@ -32,7 +32,7 @@ verdict-on-requires : tie.Need-verdict-on-requires
 verdict-on-requires c κs = search needs
 
 returns : tie.Need-returns
-returns c = tested-is ((c .before .before .before .before .before .before .before .before .args .n)) ((c .before .before .before .before .before .before .before .before .args .s)) (neighboursOf ((c .before .before .before .before .before .before .before .before .args .starts .now)) ((c .before .before .before .before .before .before .before .before .args .neighbours .now))) ((c .before .before .before .before .find-sources .last .1 .1 .1 .1 .0)) ((c .before .before .before .before .find-sources .result)) ((c .before .before .before .before .find-sources .ensures .0)) ((c .before .before .before .before .find-sources .ensures .1)) ((c .before .before .before .before .before .before .before .before .pre .size)) _ _ ((c .verdict-on .ensures)) ((c .before .search-depth .ensures))
+returns c = result-is ((c .before .before .before .before .before .before .before .before .args .n)) ((c .before .before .before .before .before .before .before .before .args .s)) (neighboursOf ((c .before .before .before .before .before .before .before .before .args .starts .now)) ((c .before .before .before .before .before .before .before .before .args .neighbours .now))) ((c .before .before .before .before .find-sources .last .1 .1 .1 .1 .0)) ((c .before .before .before .before .find-sources .result)) ((c .before .before .before .before .find-sources .ensures .0)) ((c .before .before .before .before .find-sources .ensures .1)) ((c .before .before .before .before .before .before .before .before .pre .size)) _ _ ((c .verdict-on .ensures)) ((c .before .search-depth .ensures))
 
 pub run-test-spec : {M : Type 1} → statement M
 run-test-spec =

@@ -1,10 +1,10 @@
--- `library::puxerdau_accept` meets its contract: the call's outcome, in code.
+-- `puxerdau::puxerdau_accept` meets its contract: the call's outcome, in code.
 -- Assumes nothing.
 use mathlib.Core.Path.{ap, _∙_}
 use Rattle.codes.specs.Code.{code, nothing}
 use borrow.Author.Needs.{needs}
-use Rattle.library.proofs.puxerdau_accept.Statement.{statement}
-use Rattle.library.proofs.puxerdau_accept.Tie as tie
+use Rattle.puxerdau.proofs.puxerdau_accept.Statement.{statement}
+use Rattle.puxerdau.proofs.puxerdau_accept.Tie as tie
 
 accept-requires : tie.Need-accept-requires
 accept-requires c κs = search needs

@@ -1,10 +1,10 @@
--- `library::puxerdau_ask` meets its contract: the call's outcome, in code.
+-- `puxerdau::puxerdau_ask` meets its contract: the call's outcome, in code.
 -- Assumes nothing.
 use mathlib.Core.Path.{ap, _∙_}
 use Rattle.codes.specs.Code.{code, answerField}
 use borrow.Author.Needs.{needs}
-use Rattle.library.proofs.puxerdau_ask.Statement.{statement}
-use Rattle.library.proofs.puxerdau_ask.Tie as tie
+use Rattle.puxerdau.proofs.puxerdau_ask.Statement.{statement}
+use Rattle.puxerdau.proofs.puxerdau_ask.Tie as tie
 
 ask-requires : tie.Need-ask-requires
 ask-requires c κs = search needs

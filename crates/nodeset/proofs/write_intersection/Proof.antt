@@ -1,4 +1,4 @@
--- `nodeset::write_common` meets its contract: the first i words are those of what is in both.
+-- `nodeset::write_intersection` meets its contract: the first i words are those of what is in both.
 -- Assumes nothing.
 use mathlib.Core.Path.{sym, _∙_}
 use Prim.Native.Nat.{_-_}
@@ -6,8 +6,8 @@ use native.Mathlib.Omega.{arith}
 use lib.ListN.{length}
 use Rattle.nodeset.proofs.Words.{Shared, shared-none, shared-more, shared-all}
 use borrow.Author.Needs.{needs}
-use Rattle.nodeset.proofs.write_common.Statement.{statement}
-use Rattle.nodeset.proofs.write_common.Tie as tie
+use Rattle.nodeset.proofs.write_intersection.Statement.{statement}
+use Rattle.nodeset.proofs.write_intersection.Tie as tie
 
 abbrev Inv-loop : tie.InvT-loop
 Inv-loop a b into₀ i₀ into i = Shared a b into i
@@ -51,8 +51,8 @@ same-length c = ((c .before .loop .inv)) .same ∙ sym (c .before .before .pre .
 returns : tie.Need-returns Inv-loop μ-loop
 returns c = shared-all _ _ _ _ (c .before .loop .inv) (c .loop-test .left)
 
-pub write-common-spec : {M : Type 1} → statement M
-write-common-spec =
+pub write-intersection-spec : {M : Type 1} → statement M
+write-intersection-spec =
     tie.close
     (tie.spec
     Inv-loop

@@ -1,12 +1,12 @@
--- `nodeset::common` meets its contract: the total counts the members of both in the first i words.
+-- `nodeset::count_intersection` meets its contract: the total counts the members of both in the first i words.
 -- Assumes nothing.
 use Prim.Native.Nat.{_-_}
 use native.Mathlib.Omega.{arith}
 use lib.ListN.{length}
 use Rattle.nodeset.proofs.Words.{Counted, counted-none, counted-few, counted-ones, counted-more, counted-all}
 use borrow.Author.Needs.{needs}
-use Rattle.nodeset.proofs.common.Statement.{statement}
-use Rattle.nodeset.proofs.common.Tie as tie
+use Rattle.nodeset.proofs.count_intersection.Statement.{statement}
+use Rattle.nodeset.proofs.count_intersection.Tie as tie
 
 abbrev Inv-loop : tie.InvT-loop
 Inv-loop a b total₀ i₀ total i = Counted a b total i
@@ -47,8 +47,8 @@ loop-again c = counted-more _ _ _ _ (c .before .before .before .loop .inv) (c .b
 returns : tie.Need-returns Inv-loop μ-loop
 returns c = counted-all _ _ _ _ (c .before .loop .inv) (c .loop-test .left)
 
-pub common-spec : {M : Type 1} → statement M
-common-spec =
+pub count-intersection-spec : {M : Type 1} → statement M
+count-intersection-spec =
     tie.close
     (tie.spec
     Inv-loop

@@ -1,12 +1,12 @@
--- `library::puxerdau_threshold` meets its contract: the call's outcome, in code.
+-- `puxerdau::puxerdau_threshold` meets its contract: the call's outcome, in code.
 -- Assumes nothing.
 use mathlib.Core.Path.{sym, ap, _∙_}
-use Rattle.library.proofs.Fits.{threshold-fits}
+use Rattle.puxerdau.proofs.Fits.{threshold-fits}
 use native.Mathlib.Omega.{arith}
 use Rattle.codes.specs.Code.{code, count}
 use borrow.Author.Needs.{needs}
-use Rattle.library.proofs.puxerdau_threshold.Statement.{statement}
-use Rattle.library.proofs.puxerdau_threshold.Tie as tie
+use Rattle.puxerdau.proofs.puxerdau_threshold.Statement.{statement}
+use Rattle.puxerdau.proofs.puxerdau_threshold.Tie as tie
 
 threshold-of-requires : tie.Need-threshold-of-requires
 threshold-of-requires c κs = search needs

@@ -9,18 +9,18 @@ use native.Mathlib.Omega.{arith}
 use lib.Dec.{ltb}
 use lib.ListN.{length, getD, length-append}
 use Rattle.model.specs.declared.Size.{Size}
-use Rattle.model.specs.declared.Tested.{Tested}
+use Rattle.model.specs.declared.TestResult.{TestResult}
 use Rattle.model.specs.Answers.{Outcome, refused, answered, mapAnswer}
 use Rattle.model.specs.Basics.{gather}
 use Rattle.model.specs.SurveyText.{lineOf, linkLines, surveyText}
 use Rattle.model.specs.Survey.{Graph, neighboursOf, badSize, isSurvey, accepting, Accepted}
 use Rattle.model.specs.Threshold.{threshold, thresholdAnswer, bitLength}
 use Rattle.model.specs.Hubs.{closed, hubs}
-use Rattle.model.specs.Reading.{Parsed, parse, Reading, readingOf, reading}
-use Rattle.model.specs.Building.{Building, shortLists, built, building}
-use Rattle.model.specs.TwoOrFour.{sources, tested}
+use Rattle.model.specs.Reading.{Parsed, parse, AfterReading, readingOf, reading}
+use Rattle.model.specs.Building.{AfterBuilding, shortLists, built, building}
+use Rattle.model.specs.TwoOrFour.{sources, testResult}
 use Rattle.model.specs.Testing.{testing}
-use Rattle.model.specs.Writing.{Writing, textOf, writingOf, writing}
+use Rattle.model.specs.Writing.{AfterWriting, textOf, writingOf, writing}
 use Rattle.model.proofs.Tests.{picked}
 use Rattle.model.proofs.Outcomes.{never}
 use Rattle.model.proofs.Verdicts.{Sources, round, covers, source-cases}
@@ -47,7 +47,7 @@ read-fits text p q x e = at (parse 1024 16384 p q text) refl e
 pub hubs-fit : (n : ℕ) (starts neighbours full low report list : List ℕ) (k : ℕ) → building n starts neighbours full low report list .answer ≡ answered k → k ≤ 1024
 unfolding building built
 hubs-fit n starts neighbours full low report list k =
-    let P : Building → Type 0 = λ b. b .answer ≡ answered k → k ≤ 1024 in
+    let P : AfterBuilding → Type 0 = λ b. b .answer ≡ answered k → k ≤ 1024 in
     picked P (badSize n) _ _ (λ h e. never e) (λ g.
     picked P (shortLists n (length starts) (length full) (length low) (length report) (length list)) _ _ (λ h e. never e) (λ h.
     picked P (not (isSurvey n starts neighbours)) _ _ (λ i e. never e) (λ i e.
@@ -98,7 +98,7 @@ text-few : (n : ℕ) (starts neighbours : List ℕ) → Accepted n starts neighb
 unfolding reading readingOf
 text-few n starts neighbours acc =
     at (parse 1024 16384 (n + 1) (getD starts n 0) text) refl
-    (ap (λ (r : Reading). r .answer) (read-back n starts neighbours acc (n + 1) (getD starts n 0) (le-refl (n + 1)) (le-refl (getD starts n 0))))
+    (ap (λ (r : AfterReading). r .answer) (read-back n starts neighbours acc (n + 1) (getD starts n 0) (le-refl (n + 1)) (le-refl (getD starts n 0))))
   where
     text : List ℕ
     text = textOf n starts neighbours
@@ -114,7 +114,7 @@ text-fits n starts neighbours buffer k = at (accepting n starts neighbours) refl
     at : (o : Outcome (Unit {0})) → accepting n starts neighbours ≡ o → writingOf o (textOf n starts neighbours) buffer .answer ≡ answered k → k ≤ 24 * 16385
     at (refused r) h e = never e
     at (answered x) h e =
-        picked (λ (w : Writing). w .answer ≡ answered k → k ≤ 24 * 16385) (ltb (length buffer) (length (textOf n starts neighbours))) _ _ (λ i e. never e) (λ i e.
+        picked (λ (w : AfterWriting). w .answer ≡ answered k → k ≤ 24 * 16385) (ltb (length buffer) (length (textOf n starts neighbours))) _ _ (λ i e. never e) (λ i e.
         let j : length (textOf n starts neighbours) ≡ k = cc in
         omega (arith, text-few n starts neighbours (accepting-facts n starts neighbours x h))) e
 
@@ -130,12 +130,12 @@ sources-few n starts neighbours s acc = at (source-cases n s G (acc .lists .grap
     at (round v h t l) = omega (arith, few-neighbours n starts neighbours acc v h, acc .size)
     at (covers f) = omega (arith, hubs-length n G s, acc .size)
 
-pub searches-fit : (n : ℕ) (starts neighbours : List ℕ) (t : Tested) → testing n starts neighbours ≡ answered t → t .searches ≤ 1024
-unfolding testing tested
+pub searches-fit : (n : ℕ) (starts neighbours : List ℕ) (t : TestResult) → testing n starts neighbours ≡ answered t → t .searches ≤ 1024
+unfolding testing testResult
 searches-fit n starts neighbours t = at (accepting n starts neighbours) refl
   where
-    at : (o : Outcome (Unit {0})) → accepting n starts neighbours ≡ o → mapAnswer (λ _. tested n (threshold n) (neighboursOf starts neighbours)) o ≡ answered t → t .searches ≤ 1024
+    at : (o : Outcome (Unit {0})) → accepting n starts neighbours ≡ o → mapAnswer (λ _. testResult n (threshold n) (neighboursOf starts neighbours)) o ≡ answered t → t .searches ≤ 1024
     at (refused r) h e = never e
     at (answered x) h e =
-        let j : _≡_ {A = Tested} (tested n (threshold n) (neighboursOf starts neighbours)) t = cc in
-        subst (λ (y : Tested). y .searches ≤ 1024) j (sources-few n starts neighbours (threshold n) (accepting-facts n starts neighbours x h))
+        let j : _≡_ {A = TestResult} (testResult n (threshold n) (neighboursOf starts neighbours)) t = cc in
+        subst (λ (y : TestResult). y .searches ≤ 1024) j (sources-few n starts neighbours (threshold n) (accepting-facts n starts neighbours x h))

@@ -10,7 +10,7 @@ ghost use Rattle.model.specs.Building.{building};
 ghost use Rattle.model.specs.Asking.{asking};
 ghost use Rattle.model.specs.Walking.{walking};
 ghost use Rattle.model.specs.Testing.{testing};
-ghost use Rattle.codes.specs.Code.{code, nothing, count, size, answerField, tested};
+ghost use Rattle.codes.specs.Code.{code, nothing, count, size, answerField, testField};
 
 // The threshold of n nodes.
 #[no_mangle]
@@ -109,7 +109,7 @@ pub extern "C" fn puxerdau_walk(
 // The two-or-four test of a survey.
 #[no_mangle]
 pub extern "C" fn puxerdau_test(n: usize, starts: &[u32], neighbours: &[u16]) -> u64
-    ensures { λ r. ⌜ r ≡ code tested (testing n (now (starts .entry)) (now (neighbours .entry))) ⌝ }
+    ensures { λ r. ⌜ r ≡ code testField (testing n (now (starts .entry)) (now (neighbours .entry))) ⌝ }
 {
     codes::testing_code(verdict::test(n, starts, neighbours))
 }
