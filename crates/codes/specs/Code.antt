@@ -1,6 +1,9 @@
--- Answers as one number of 64 bits, for callers in C.
+-- Answers as one number of 64 bits, for callers in C, and how such a number is read back.
 -- Assumes nothing.
-use Prim.Native.Nat.{ℕ, _+_, _*_}
+use mathlib.Core.Path.{_≡_}
+use Prim.Native.Nat.{ℕ, _+_, _*_, _/_, _^_}
+use lib.Bits.{bitAnd}
+use lib.Dec.{eqb}
 use Rattle.model.specs.declared.Size.{Size}
 use Rattle.model.specs.declared.Route.{Route}
 use Rattle.model.specs.declared.Route.the-variants.{Itself, Low, Through, NoRoute}
@@ -9,41 +12,87 @@ use Rattle.model.specs.declared.Verdict.{Verdict}
 use Rattle.model.specs.declared.Verdict.the-variants.{Parted, Long, Short}
 use Rattle.model.specs.declared.TestResult.{TestResult}
 use Rattle.model.specs.Answers.{Outcome, refused, answered}
+use Rattle.model.specs.Basics.{if_then_else_}
 
--- the low 16 bits are document 01's number of the refusal, or 0 where there is an answer; above them stand the answer's values. That
--- each value fits its field is proved in puxerdau/proofs/Fits.antt
+-- ---- an answer's number
+
+-- the low 16 bits are the refusal's number, or 0 where there is an answer; above them stand the answer's values
 abbrev pub code : {A : Type 0} → (values : A → ℕ) → Outcome A → ℕ
 code values (refused k) = k
 code values (answered x) = 65536 * values x
 
 -- acceptance has no value
-abbrev pub nothing : Unit {0} → ℕ
-nothing x = 0
+abbrev pub noField : Unit {0} → ℕ
+noField x = 0
 
 -- a count has the 48 bits that are left
-abbrev pub count : ℕ → ℕ
-count k = k
+abbrev pub countField : ℕ → ℕ
+countField k = k
 
 -- two fields of 16 bits: nodes, then links
-abbrev pub size : Size → ℕ
-size x = x .nodes + 65536 * x .links
+abbrev pub sizeField : Size → ℕ
+sizeField x = x .nodes + 65536 * x .links
 
--- two fields of 16 bits: which of the four routes, then the hub, or 0
-abbrev pub routeField : Route → ℕ
-routeField Itself = 0
-routeField Low = 1
-routeField (Through h) = 2 + 65536 * h
-routeField NoRoute = 3
+abbrev pub routeNumber : Route → ℕ
+routeNumber Itself = 0
+routeNumber Low = 1
+routeNumber (Through h) = 2
+routeNumber NoRoute = 3
 
--- the report in 16 bits, then the route
+-- the hub that a route goes through, or 0
+abbrev pub hubNumber : Route → ℕ
+hubNumber Itself = 0
+hubNumber Low = 0
+hubNumber (Through h) = h
+hubNumber NoRoute = 0
+
+-- three fields of 16 bits: the report, the route, its hub
 abbrev pub answerField : Answer → ℕ
-answerField x = x .report + 65536 * routeField (x .route)
+answerField x = x .report + 65536 * (routeNumber (x .route) + 65536 * hubNumber (x .route))
 
-abbrev pub verdictField : Verdict → ℕ
-verdictField Parted = 0
-verdictField Long = 1
-verdictField Short = 2
+abbrev pub verdictNumber : Verdict → ℕ
+verdictNumber Parted = 0
+verdictNumber Long = 1
+verdictNumber Short = 2
 
 -- two fields of 16 bits: the verdict, then the count of searches
 abbrev pub testField : TestResult → ℕ
-testField x = verdictField (x .verdict) + 65536 * x .searches
+testField x = verdictNumber (x .verdict) + 65536 * x .searches
+
+-- ---- and back, by the shifts and masks of include/puxerdau.h
+
+-- `x >> k & 65535`
+unfoldable pub field : ℕ → ℕ → ℕ
+field k x = bitAnd (x / 2 ^ k) 65535
+
+-- a refusal where the low 16 bits are not 0, else the value
+unfoldable pub decoded : {A : Type 0} → (value : ℕ → A) → ℕ → Outcome A
+decoded value x = if eqb (field 0 x) 0 then answered (value x) else refused (field 0 x)
+
+unfoldable pub noValue : ℕ → Unit {0}
+noValue x = tt
+
+-- `x >> 16`
+unfoldable pub countIn : ℕ → ℕ
+countIn x = x / 2 ^ 16
+
+unfoldable pub sizeIn : ℕ → Size
+sizeIn x = record { nodes = field 16 x; links = field 32 x }
+
+unfoldable pub routeIn : (number hub : ℕ) → Route
+routeIn k h = if eqb k 0 then Itself else if eqb k 1 then Low else if eqb k 2 then Through h else NoRoute
+
+-- the hub is `x >> 48`
+unfoldable pub answerIn : ℕ → Answer
+answerIn x = record { report = field 16 x; route = routeIn (field 32 x) (x / 2 ^ 48) }
+
+unfoldable pub verdictIn : ℕ → Verdict
+verdictIn k = if eqb k 0 then Parted else if eqb k 1 then Long else Short
+
+unfoldable pub testIn : ℕ → TestResult
+testIn x = record { verdict = verdictIn (field 16 x); searches = field 32 x }
+
+-- x is the number of the outcome o, and o is what is read back from x
+pub record IsCode {A : Type 0} (values : A → ℕ) (value : ℕ → A) (o : Outcome A) (x : ℕ) : Type 0 where
+  pub number : x ≡ code values o
+  pub back : decoded value x ≡ o

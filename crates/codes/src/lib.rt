@@ -1,4 +1,5 @@
-// What the open calls answer, each as one number of 64 bits: `code` of specs/Code.antt says where a refusal's number and the values stand.
+// What the open calls answer, each as one number of 64 bits: specs/Code.antt says where a refusal's number and the values stand, and how
+// they are read back.
 use model::Accepting;
 use model::Asking;
 use model::Counting;
@@ -11,11 +12,11 @@ use model::Verdict;
 ghost use mathlib.Core.Path.{_≡_};
 ghost use Prim.Native.Nat.{ℕ, _<_, _^_};
 ghost use Rattle.model.specs.Answers.{answered, acceptAnswer, readAnswer, countAnswer, pairAnswer, testAnswer};
-ghost use Rattle.codes.specs.Code.{code, nothing, count, size, routeField, answerField, verdictField, testField};
+ghost use Rattle.codes.specs.Code.{noField, countField, sizeField, routeNumber, hubNumber, answerField, verdictNumber, testField, noValue, countIn, sizeIn, answerIn, testIn, IsCode};
 
 // What acceptance answers, as one number.
 pub fn accepting_code(x: Accepting) -> u64
-    ensures { λ r. ⌜ r ≡ code nothing (acceptAnswer x) ⌝ }
+    ensures { λ r. ⌜ IsCode noField noValue (acceptAnswer x) r ⌝ }
 {
     match x {
         Accepting::Refused(k) => refusals::refusal_number(k) as u64,
@@ -26,7 +27,7 @@ pub fn accepting_code(x: Accepting) -> u64
 // What a call answers whose value is a count, as one number.
 pub fn counting_code(x: Counting) -> u64
     requires { ⌜ ((k : ℕ) → countAnswer x ≡ answered k → k < 2 ^ 48) ⌝ }
-    ensures { λ r. ⌜ r ≡ code count (countAnswer x) ⌝ }
+    ensures { λ r. ⌜ IsCode countField countIn (countAnswer x) r ⌝ }
 {
     match x {
         Counting::Refused(k) => refusals::refusal_number(k) as u64,
@@ -37,7 +38,7 @@ pub fn counting_code(x: Counting) -> u64
 // What reading answers, as one number.
 pub fn reading_code(x: Reading) -> u64
     requires { ⌜ ((s : Size) → readAnswer x ≡ answered s → (s .nodes < 65536) × (s .links < 65536)) ⌝ }
-    ensures { λ r. ⌜ r ≡ code size (readAnswer x) ⌝ }
+    ensures { λ r. ⌜ IsCode sizeField sizeIn (readAnswer x) r ⌝ }
 {
     match x {
         Reading::Refused(k) => refusals::refusal_number(k) as u64,
@@ -45,35 +46,48 @@ pub fn reading_code(x: Reading) -> u64
     }
 }
 
-// A route: which of the four, and the hub.
-fn route_field(x: Route) -> u64
-    ensures { λ r. ⌜ r ≡ routeField x ⌝ }
-    ensures bounded { λ r. ⌜ r < 2 ^ 32 ⌝ }
+// Which of the four routes.
+pub fn route_number(x: Route) -> u64
+    ensures { λ r. ⌜ r ≡ routeNumber x ⌝ }
+    ensures bounded { λ r. ⌜ r < 4 ⌝ }
 {
     match x {
         Route::Itself => 0,
         Route::Low => 1,
-        Route::Through(h) => 2 + 65536 * (h as u64),
+        Route::Through(_) => 2,
         Route::NoRoute => 3,
+    }
+}
+
+// The hub that a route goes through, or 0.
+pub fn hub_number(x: Route) -> u64
+    ensures { λ r. ⌜ r ≡ hubNumber x ⌝ }
+    ensures bounded { λ r. ⌜ r < 65536 ⌝ }
+{
+    match x {
+        Route::Itself => 0,
+        Route::Low => 0,
+        Route::Through(h) => h as u64,
+        Route::NoRoute => 0,
     }
 }
 
 // What asking a pair and writing a walk answer, as one number.
 pub fn asking_code(x: Asking) -> u64
-    ensures { λ r. ⌜ r ≡ code answerField (pairAnswer x) ⌝ }
+    ensures { λ r. ⌜ IsCode answerField answerIn (pairAnswer x) r ⌝ }
 {
     match x {
         Asking::Refused(k) => refusals::refusal_number(k) as u64,
         Asking::Answered(a) => {
             let route = a.route;
-            65536 * (a.report as u64 + 65536 * route_field(route))
+            65536 * (a.report as u64 + 65536 * (route_number(route) + 65536 * hub_number(route)))
         }
     }
 }
 
-// A verdict.
-fn verdict_field(x: Verdict) -> u64
-    ensures { λ r. ⌜ r ≡ verdictField x ⌝ }
+// Which of the three verdicts.
+pub fn verdict_number(x: Verdict) -> u64
+    ensures { λ r. ⌜ r ≡ verdictNumber x ⌝ }
     ensures bounded { λ r. ⌜ r < 3 ⌝ }
 {
     match x {
@@ -86,13 +100,13 @@ fn verdict_field(x: Verdict) -> u64
 // What testing answers, as one number.
 pub fn testing_code(x: Testing) -> u64
     requires { ⌜ ((t : TestResult) → testAnswer x ≡ answered t → t .searches < 65536) ⌝ }
-    ensures { λ r. ⌜ r ≡ code testField (testAnswer x) ⌝ }
+    ensures { λ r. ⌜ IsCode testField testIn (testAnswer x) r ⌝ }
 {
     match x {
         Testing::Refused(k) => refusals::refusal_number(k) as u64,
         Testing::Answered(t) => {
             let verdict = t.verdict;
-            65536 * (verdict_field(verdict) + 65536 * (t.searches as u64))
+            65536 * (verdict_number(verdict) + 65536 * (t.searches as u64))
         }
     }
 }

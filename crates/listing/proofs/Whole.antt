@@ -111,6 +111,9 @@ module _ (t buf buf′ : List ℕ) (e : ℕ) (w : Wrote buf buf′ 0 e t) where
       let o = wrote-over t w in
       omega (arith, o .1, ap length (o .0) ∙ length-append t (drop (length t) buf))
 
+  pub listing-fits : {k : ℕ} → length buf′ ≡ k → length t ≤ k
+  listing-fits l = omega (arith, front-fits, wrote-over t w .1)
+
   pub front-is : take e buf′ ≡ t
   unfolding over
   front-is =

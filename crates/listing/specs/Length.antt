@@ -2,6 +2,6 @@
 -- Assumes nothing.
 use Prim.Native.Nat.{ℕ, _+_, _*_}
 
--- no listing is longer: a first line and 128 x 128 lines of at most 24 bytes
+-- no listing is longer: a first line of at most 10 bytes, and a line of at most 18 for each pair of 128 nodes
 abbrev pub most : ℕ
-most = 24 * (1 + 128 * 128)
+most = 10 + 9 * (128 * 127)

@@ -1,9 +1,11 @@
--- A refusal is no answer; and the number in an outcome.
+-- A refusal is no answer; the number in an outcome; and how large a refusal's number is.
 -- Assumes nothing.
 use mathlib.Core.Path.{_≡_}
-use Prim.Native.Nat.{ℕ}
+use Prim.Native.Nat.{ℕ, _<_}
 use native.Mathlib.Omega.{arith}
-use Rattle.model.specs.Answers.{Outcome, refused, answered}
+use Rattle.model.specs.declared.Refusal.{Refusal}
+use Rattle.model.specs.declared.Refusal.the-variants.{Form, NodeCount, LinkCount, LineNode, EqualEnds, RepeatedLink, LineCount, ShortList, NotSurvey, NoNode, NotAttained, ShortBuffer}
+use Rattle.model.specs.Answers.{Outcome, refused, answered, number}
 
 pub never : {A B : Type 0} {k : ℕ} {x : A} → refused k ≡ answered x → B
 never {k = k} {x = x} e = let z : _≡_ {A = ℕ} 0 1 = cc in absurd (omega arith)
@@ -12,3 +14,18 @@ never {k = k} {x = x} e = let z : _≡_ {A = ℕ} 0 1 = cc in absurd (omega arit
 unfoldable pub numberIn : {A : Type 0} → (A → ℕ) → Outcome A → ℕ
 numberIn f (refused k) = k
 numberIn f (answered x) = f x
+
+-- a refusal has a number of one or two digits, and none has 0, which stands for an answer
+pub number-bounds : (r : Refusal) → (0 < number r) × (number r < 100)
+number-bounds Form = omega arith
+number-bounds NodeCount = omega arith
+number-bounds LinkCount = omega arith
+number-bounds LineNode = omega arith
+number-bounds EqualEnds = omega arith
+number-bounds RepeatedLink = omega arith
+number-bounds LineCount = omega arith
+number-bounds ShortList = omega arith
+number-bounds NotSurvey = omega arith
+number-bounds NoNode = omega arith
+number-bounds NotAttained = omega arith
+number-bounds ShortBuffer = omega arith

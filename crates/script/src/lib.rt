@@ -1,12 +1,13 @@
 // Scripts of calls: what the programs that run them share.
 // A line of a script is a letter and two numbers. A call prints one line: its letter, 0 or the refusal's number, the answer's
-// numbers, and a sum over each list that it may write to.
+// numbers (those of routes and verdicts as C gets them: crate `codes`), and a sum over each list that it may write to.
+use codes::hub_number;
+use codes::route_number;
+use codes::verdict_number;
 use model::Asking;
 use model::Counting;
 use model::Reading;
-use model::Route;
 use model::Testing;
-use model::Verdict;
 use refusals::refusal_number;
 use text::Line;
 ghost use mathlib.Core.Path.{_≡_};
@@ -134,33 +135,16 @@ pub fn print_built(answer: Counting, full: &[u16], low: &[u16], report: &[u16], 
     }
 }
 
-// A route as a number.
-fn route_number(route: Route) -> u64 {
-    match route {
-        Route::Itself => 0,
-        Route::Low => 1,
-        Route::NoRoute => 2,
-        Route::Through(h) => 3 + h as u64,
-    }
-}
-
-// What asking or walking answers, and the sum of the list that it leaves.
+// What asking or walking answers: report, route and hub; and the sum of the list that it leaves.
 pub fn print_answer(letter: u8, answer: Asking, sum: u64) {
     match answer {
-        Asking::Refused(k) => print_line(letter, &[refusal_number(k) as u64, 0, 0, sum]),
+        Asking::Refused(k) => print_line(letter, &[refusal_number(k) as u64, 0, 0, 0, sum]),
         Asking::Answered(x) => {
             let route = x.route;
-            print_line(letter, &[0, x.report as u64, route_number(route), sum]);
+            let kind = route_number(route);
+            let hub = hub_number(route);
+            print_line(letter, &[0, x.report as u64, kind, hub, sum]);
         }
-    }
-}
-
-// A verdict as a number.
-fn verdict_number(verdict: Verdict) -> u64 {
-    match verdict {
-        Verdict::Parted => 0,
-        Verdict::Long => 1,
-        Verdict::Short => 2,
     }
 }
 

@@ -1,10 +1,11 @@
 -- `codes::asking_code` meets its contract: by cases of the answer.
 -- Assumes nothing.
-use mathlib.Core.Path.{sym, ap, _∙_}
-use Rattle.model.specs.Answers.{pairAnswer}
-use Rattle.codes.specs.Code.{code, answerField}
+use mathlib.Core.Path.{ap, ap₂}
 use Prim.Native.Nat.{_+_, _*_}
-use Rattle.model.specs.declared.Asking.{Asking}
+use native.Mathlib.Omega.{arith}
+use Rattle.model.specs.Answers.{pairAnswer}
+use Rattle.codes.specs.Code.{answerField, answerIn}
+use Rattle.codes.proofs.Decoding.{refusal-code, answer-code, pair-back}
 use borrow.Author.Needs.{needs}
 use Rattle.codes.proofs.asking_code.Statement.{statement}
 use Rattle.codes.proofs.asking_code.Tie as tie
@@ -24,8 +25,11 @@ enum-known-x-2 c = search needs
 cast-result-2 : tie.Need-cast-result-2
 cast-result-2 c = search needs
 
-route-field-requires : tie.Need-route-field-requires
-route-field-requires c κs = search needs
+route-number-requires : tie.Need-route-number-requires
+route-number-requires c κs = search needs
+
+hub-number-requires : tie.Need-hub-number-requires
+hub-number-requires c κs = search needs
 
 mul-result : tie.Need-mul-result
 mul-result c = search needs
@@ -36,11 +40,17 @@ add-result c = search needs
 mul-result-2 : tie.Need-mul-result-2
 mul-result-2 c = search needs
 
+add-result-2 : tie.Need-add-result-2
+add-result-2 c = search needs
+
+mul-result-3 : tie.Need-mul-result-3
+mul-result-3 c = search needs
+
 returns : tie.Need-returns
-returns c = search needs
+returns c = let x = c .before .before .x in refusal-code answerField answerIn (x .given .0 .0) (ap pairAnswer (x .given .1)) (c .refusal-number .ensures)
 
 returns-2 : tie.Need-returns-2
-returns-2 c = ap (λ k. 65536 * ((c .before .before .before .x2 .given .0 .0 .report) + 65536 * k)) ((c .route-field .ensures .0)) ∙ sym (ap (λ (y : Asking). code answerField (pairAnswer y)) (c .before .before .before .x2 .given .1))
+returns-2 c = let x = c .before .before .before .before .x2 in answer-code answerField answerIn (x .given .0 .0) (pair-back (x .given .0 .0) (omega arith)) (ap pairAnswer (x .given .1)) (ap₂ (λ k h. 65536 * (x .given .0 .0 .report + 65536 * (k + 65536 * h))) (c .before .route-number .ensures .0) (c .hub-number .ensures .0))
 
 pub asking-code-spec : {M : Type 1} → statement M
 asking-code-spec =
@@ -51,9 +61,12 @@ asking-code-spec =
     cast-result
     enum-known-x-2
     cast-result-2
-    route-field-requires
+    route-number-requires
+    hub-number-requires
     mul-result
     add-result
     mul-result-2
+    add-result-2
+    mul-result-3
     returns
     returns-2)

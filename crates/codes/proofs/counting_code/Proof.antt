@@ -1,10 +1,10 @@
 -- `codes::counting_code` meets its contract: by cases of the answer.
 -- Assumes nothing.
-use mathlib.Core.Path.{sym, ap}
-use Rattle.model.specs.Answers.{countAnswer}
+use mathlib.Core.Path.{ap, refl}
 use native.Mathlib.Omega.{arith}
-use Rattle.codes.specs.Code.{code, count}
-use Rattle.model.specs.declared.Counting.{Counting}
+use Rattle.model.specs.Answers.{countAnswer}
+use Rattle.codes.specs.Code.{countField, countIn}
+use Rattle.codes.proofs.Decoding.{refusal-code, answer-code, count-back}
 use borrow.Author.Needs.{needs}
 use Rattle.codes.proofs.counting_code.Statement.{statement}
 use Rattle.codes.proofs.counting_code.Tie as tie
@@ -22,13 +22,13 @@ enum-known-x-2 : tie.Need-enum-known-x-2
 enum-known-x-2 c = search needs
 
 mul-result : tie.Need-mul-result
-mul-result c = omega (arith, (c .before .before .before .pre) (c .before .x2 .given .0 .0) (ap countAnswer (c .before .x2 .given .1)))
+mul-result c = let x = c .before .x2 in omega (arith, c .before .before .before .pre (x .given .0 .0) (ap countAnswer (x .given .1)))
 
 returns : tie.Need-returns
-returns c = search needs
+returns c = let x = c .before .before .x in refusal-code countField countIn (x .given .0 .0) (ap countAnswer (x .given .1)) (c .refusal-number .ensures)
 
 returns-2 : tie.Need-returns-2
-returns-2 c = sym (ap (λ (y : Counting). code count (countAnswer y)) (c .before .x2 .given .1))
+returns-2 c = let x = c .before .x2 in answer-code countField countIn (x .given .0 .0) (count-back (x .given .0 .0)) (ap countAnswer (x .given .1)) refl
 
 pub counting-code-spec : {M : Type 1} → statement M
 counting-code-spec =

@@ -1,10 +1,10 @@
 -- `codes::reading_code` meets its contract: by cases of the answer.
 -- Assumes nothing.
-use mathlib.Core.Path.{sym, ap}
-use Rattle.model.specs.Answers.{readAnswer}
+use mathlib.Core.Path.{ap, refl}
 use native.Mathlib.Omega.{arith}
-use Rattle.codes.specs.Code.{code, size}
-use Rattle.model.specs.declared.Reading.{Reading}
+use Rattle.model.specs.Answers.{readAnswer}
+use Rattle.codes.specs.Code.{sizeField, sizeIn}
+use Rattle.codes.proofs.Decoding.{refusal-code, answer-code, size-back}
 use borrow.Author.Needs.{needs}
 use Rattle.codes.proofs.reading_code.Statement.{statement}
 use Rattle.codes.proofs.reading_code.Tie as tie
@@ -22,19 +22,19 @@ enum-known-x-2 : tie.Need-enum-known-x-2
 enum-known-x-2 c = search needs
 
 mul-result : tie.Need-mul-result
-mul-result c = omega (arith, ((c .before .before .before .pre) (c .before .x2 .given .0 .0) (ap readAnswer (c .before .x2 .given .1))) .1)
+mul-result c = let x = c .before .x2 in let few = c .before .before .before .pre (x .given .0 .0) (ap readAnswer (x .given .1)) in omega arith
 
 add-result : tie.Need-add-result
-add-result c = omega (arith, ((c .before .before .before .pre) (c .before .x2 .given .0 .0) (ap readAnswer (c .before .x2 .given .1))) .0, ((c .before .before .before .pre) (c .before .x2 .given .0 .0) (ap readAnswer (c .before .x2 .given .1))) .1)
+add-result c = let x = c .before .x2 in let few = c .before .before .before .pre (x .given .0 .0) (ap readAnswer (x .given .1)) in omega arith
 
 mul-result-2 : tie.Need-mul-result-2
-mul-result-2 c = omega (arith, ((c .before .before .before .pre) (c .before .x2 .given .0 .0) (ap readAnswer (c .before .x2 .given .1))) .0, ((c .before .before .before .pre) (c .before .x2 .given .0 .0) (ap readAnswer (c .before .x2 .given .1))) .1)
+mul-result-2 c = let x = c .before .x2 in let few = c .before .before .before .pre (x .given .0 .0) (ap readAnswer (x .given .1)) in omega arith
 
 returns : tie.Need-returns
-returns c = search needs
+returns c = let x = c .before .before .x in refusal-code sizeField sizeIn (x .given .0 .0) (ap readAnswer (x .given .1)) (c .refusal-number .ensures)
 
 returns-2 : tie.Need-returns-2
-returns-2 c = sym (ap (λ (y : Reading). code size (readAnswer y)) (c .before .x2 .given .1))
+returns-2 c = let x = c .before .x2 in let few = c .before .before .before .pre (x .given .0 .0) (ap readAnswer (x .given .1)) in answer-code sizeField sizeIn (x .given .0 .0) (size-back (x .given .0 .0) (few .0) (few .1)) (ap readAnswer (x .given .1)) refl
 
 pub reading-code-spec : {M : Type 1} → statement M
 reading-code-spec =

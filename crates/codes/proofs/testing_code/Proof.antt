@@ -1,11 +1,11 @@
 -- `codes::testing_code` meets its contract: by cases of the answer.
 -- Assumes nothing.
-use mathlib.Core.Path.{sym, ap, _∙_}
-use Rattle.model.specs.Answers.{testAnswer}
-use native.Mathlib.Omega.{arith}
-use Rattle.codes.specs.Code.{code, testField}
+use mathlib.Core.Path.{ap}
 use Prim.Native.Nat.{_+_, _*_}
-use Rattle.model.specs.declared.Testing.{Testing}
+use native.Mathlib.Omega.{arith}
+use Rattle.model.specs.Answers.{testAnswer}
+use Rattle.codes.specs.Code.{testField, testIn}
+use Rattle.codes.proofs.Decoding.{refusal-code, answer-code, test-back}
 use borrow.Author.Needs.{needs}
 use Rattle.codes.proofs.testing_code.Statement.{statement}
 use Rattle.codes.proofs.testing_code.Tie as tie
@@ -22,23 +22,23 @@ cast-result c = search needs
 enum-known-x-2 : tie.Need-enum-known-x-2
 enum-known-x-2 c = search needs
 
-verdict-field-requires : tie.Need-verdict-field-requires
-verdict-field-requires c κs = search needs
+verdict-number-requires : tie.Need-verdict-number-requires
+verdict-number-requires c κs = search needs
 
 mul-result : tie.Need-mul-result
-mul-result c = omega (arith, (c .before .before .before .before .pre) (c .before .before .x2 .given .0 .0) (ap testAnswer (c .before .before .x2 .given .1)))
+mul-result c = let x = c .before .before .x2 in let few = c .before .before .before .before .pre (x .given .0 .0) (ap testAnswer (x .given .1)) in omega arith
 
 add-result : tie.Need-add-result
-add-result c = omega (arith, (c .before .before .before .before .pre) (c .before .before .x2 .given .0 .0) (ap testAnswer (c .before .before .x2 .given .1)), (c .verdict-field .ensures .1))
+add-result c = let x = c .before .before .x2 in let few = c .before .before .before .before .pre (x .given .0 .0) (ap testAnswer (x .given .1)) in omega arith
 
 mul-result-2 : tie.Need-mul-result-2
-mul-result-2 c = omega (arith, (c .before .before .before .before .pre) (c .before .before .x2 .given .0 .0) (ap testAnswer (c .before .before .x2 .given .1)), (c .verdict-field .ensures .1))
+mul-result-2 c = let x = c .before .before .x2 in let few = c .before .before .before .before .pre (x .given .0 .0) (ap testAnswer (x .given .1)) in omega arith
 
 returns : tie.Need-returns
-returns c = search needs
+returns c = let x = c .before .before .x in refusal-code testField testIn (x .given .0 .0) (ap testAnswer (x .given .1)) (c .refusal-number .ensures)
 
 returns-2 : tie.Need-returns-2
-returns-2 c = ap (λ k. 65536 * (k + 65536 * (c .before .before .x2 .given .0 .0 .searches))) ((c .verdict-field .ensures .0)) ∙ sym (ap (λ (y : Testing). code testField (testAnswer y)) (c .before .before .x2 .given .1))
+returns-2 c = let x = c .before .before .x2 in let few = c .before .before .before .before .pre (x .given .0 .0) (ap testAnswer (x .given .1)) in answer-code testField testIn (x .given .0 .0) (test-back (x .given .0 .0) few) (ap testAnswer (x .given .1)) (ap (λ k. 65536 * (k + 65536 * x .given .0 .0 .searches)) (c .verdict-number .ensures .0))
 
 pub testing-code-spec : {M : Type 1} → statement M
 testing-code-spec =
@@ -48,7 +48,7 @@ testing-code-spec =
     refusal-number-requires
     cast-result
     enum-known-x-2
-    verdict-field-requires
+    verdict-number-requires
     mul-result
     add-result
     mul-result-2

@@ -1,12 +1,10 @@
 -- `listing::write_by_way` meets its contract: the listing stands in front of the lines, and is copied where there is room.
 -- Assumes nothing.
-use mathlib.Core.Path.{sym, ap}
+use mathlib.Core.Path.{sym, _∙_}
 use native.Mathlib.Omega.{arith}
 use lib.Seq.{length-take-le}
-use Rattle.lists.proofs.Writing.{wrote-over}
-use Rattle.model.specs.Answers.{answered}
 use Rattle.model.specs.Listing.{listing}
-use Rattle.listing.proofs.Whole.{front-fits, listing-short, listing-whole}
+use Rattle.listing.proofs.Whole.{front-fits, listing-fits, listing-short, listing-whole}
 use borrow.Author.Needs.{needs}
 use Rattle.listing.proofs.write_by_way.Statement.{statement}
 use Rattle.listing.proofs.write_by_way.Tie as tie
@@ -18,7 +16,12 @@ same-length : tie.Need-same-length
 same-length c = search needs
 
 returns : tie.Need-returns
-returns c = (listing-short (listing (c .before .before .before .before .before .before .before .before .args .text .now)) _ (c .before .before .before .write-text .last .1 .0) (c .before .before .before .write-text .result) (c .before .before .before .write-text .ensures) (c .before .before .before .before .before .before .before .before .args .buffer .now) (c .if1 .taken), λ h. absurd (omega (arith, h, c .if1 .taken, front-fits (listing (c .before .before .before .before .before .before .before .before .args .text .now)) _ (c .before .before .before .write-text .last .1 .0) (c .before .before .before .write-text .result) (c .before .before .before .write-text .ensures), c .before .before .before .write-text .kept .1 .0, c .before .before .before .before .before .before .before .before .pre)))
+returns c =
+    let start = c .before .before .before .before .before .before .before .before in
+    let wrote = c .before .before .before .write-text in (
+      listing-short (listing (start .args .text .now)) _ (wrote .last .1 .0) (wrote .result) (wrote .ensures) (start .args .buffer .now) (c .if1 .taken),
+      listing-fits (listing (start .args .text .now)) _ (wrote .last .1 .0) (wrote .result) (wrote .ensures) (wrote .kept .1 .0 ∙ start .pre),
+    )
 
 slice-reshare-prefix-copy8 : tie.Need-slice-reshare-prefix-copy8
 slice-reshare-prefix-copy8 c = front-fits (listing (c .before .before .before .before .before .before .before .before .args .text .now)) _ (c .before .before .before .write-text .last .1 .0) (c .before .before .before .write-text .result) (c .before .before .before .write-text .ensures)
@@ -36,7 +39,13 @@ same-length-3 : tie.Need-same-length-3
 same-length-3 c = search needs
 
 returns-2 : tie.Need-returns-2
-returns-2 c = (listing-whole (listing (c .before .before .before .before .before .before .before .before .before .before .before .before .before .args .text .now)) _ (c .before .before .before .before .before .before .before .before .write-text .last .1 .0) (c .before .before .before .before .before .before .before .before .write-text .result) (c .before .before .before .before .before .before .before .before .write-text .ensures) (c .before .before .before .before .before .before .before .before .before .before .before .before .before .args .buffer .now) (c .before .before .before .before .before .if1 .left) _ _ (c .before .before .copy8 .ensures), λ h. ap answered (wrote-over (listing (c .before .before .before .before .before .before .before .before .before .before .before .before .before .args .text .now)) (c .before .before .before .before .before .before .before .before .write-text .ensures) .1))
+returns-2 c =
+    let start = c .before .before .before .before .before .before .before .before .before .before .before .before .before in
+    let wrote = c .before .before .before .before .before .before .before .before .write-text in (
+      listing-whole (listing (start .args .text .now)) _ (wrote .last .1 .0) (wrote .result) (wrote .ensures) (start .args .buffer .now)
+      (c .before .before .before .before .before .if1 .left) _ _ (c .before .before .copy8 .ensures),
+      listing-fits (listing (start .args .text .now)) _ (wrote .last .1 .0) (wrote .result) (wrote .ensures) (wrote .kept .1 .0 ∙ start .pre),
+    )
 
 pub write-by-way-spec : {M : Type 1} → statement M
 write-by-way-spec =
