@@ -113,18 +113,22 @@ unfolding badSize
 size-bounds = of-in-range 1024
 
 module _ (n : ℕ) (starts neighbours : List ℕ) where
+  -- the three tests passed
+  pub tests-facts : badSize n ≡ false → ltb (length starts) (n + 1) ≡ false → not (isSurvey n starts neighbours) ≡ false → Accepted n starts neighbours
+  tests-facts size room lists = let b = size-bounds n size in record {
+    some-node = b .0;
+    size = b .1;
+    room = ltb-false (length starts) (n + 1) room;
+    lists = survey-facts n starts neighbours (not-not (isSurvey n starts neighbours) lists);
+  }
+
   pub accepted-facts : T (accepted n starts neighbours) → Accepted n starts neighbours
   unfolding accepted accepting
   accepted-facts =
       let P : Outcome (Unit {0}) → Type 0 = λ o. T (isAnswered o) → Accepted n starts neighbours in
       picked P (badSize n) _ _ (λ _ t. absurd t) (λ size.
       picked P (ltb (length starts) (n + 1)) _ _ (λ _ t. absurd t) (λ room.
-      picked P (not (isSurvey n starts neighbours)) _ _ (λ _ t. absurd t) (λ lists t. let b = size-bounds n size in record {
-        some-node = b .0;
-        size = b .1;
-        room = ltb-false (length starts) (n + 1) room;
-        lists = survey-facts n starts neighbours (not-not (isSurvey n starts neighbours) lists);
-      })))
+      picked P (not (isSurvey n starts neighbours)) _ _ (λ _ t. absurd t) (λ lists t. tests-facts size room lists)))
 
   -- what is accepted is not refused, and the other way round
   pub accepting-answers : Accepted n starts neighbours → accepting n starts neighbours ≡ answered tt

@@ -24,15 +24,15 @@ use Rattle.model.specs.Tables.{entryAt, fullTable, lowTable, reportTable
 use Rattle.model.specs.Pair.{answer, taken, attaining, pairBy, pair}
 use Rattle.model.specs.Walk.{nodes}
 use Rattle.model.specs.TwoOrFour.{testResult}
-use Rattle.model.specs.Building.{built, building}
+use Rattle.model.specs.Building.{AfterBuilding, shortLists, built, building}
 use Rattle.model.specs.Asking.{asking}
 use Rattle.model.specs.Walking.{AfterWalking, refuseWalk, fit, walkOf, walking}
 use Rattle.model.specs.Testing.{testing}
-use Rattle.model.specs.Demand.{Allowed, AllowedAnswer, WalkSound, WalkAnswers, RightVerdict}
-use Rattle.model.proofs.Outcomes.{never}
+use Rattle.model.specs.Demand.{Allowed, AllowedAnswer, AskRight, WalkSound, WalkAnswers, WalkRight, RightVerdict, TestRight, BuildRight}
+use Rattle.model.proofs.Outcomes.{never, numberIn}
 use Rattle.model.proofs.Tests.{or-false, of-or-false, picked, not-not, lt-or}
 use Rattle.model.proofs.Chains.{walked-chain}
-use Rattle.model.proofs.Acceptance.{survey-test, survey-facts, good-size, accepting-answers}
+use Rattle.model.proofs.Acceptance.{survey-test, survey-facts, tests-facts, good-size, accepting-answers}
 use Rattle.model.proofs.Entries.{front-length, length-table, long-tables, of-long-tables}
 use Rattle.model.proofs.Covering.{hubs-length}
 use Rattle.model.proofs.Allowance.{allowed}
@@ -157,8 +157,8 @@ module _ (n : ℕ) (starts neighbours : List ℕ) (acc : Accepted n starts neigh
   unfolding testing
   testing-answers = rw (accepting-answers n starts neighbours acc) refl
 
-  pub testing-right : RightVerdict n (linked n G) (testing n starts neighbours)
-  testing-right = record {
+  testing-verdict : RightVerdict n (linked n G) (testing n starts neighbours)
+  testing-verdict = record {
     value = testResult n (threshold n) G;
     given = testing-answers;
     right = verdict-right n (threshold n) G (acc .lists .graph) (acc .size);
@@ -185,11 +185,11 @@ module _ (n : ℕ) (starts neighbours : List ℕ) (acc : Accepted n starts neigh
     fits : shortTables n (length full) (length low) (length report) ≡ false
     fits = long-tables n (length full) (length low) (length report) hf hl hr
 
-    asks : asking n full low report a b ≡ pair n full low report a b
+    pub asks : asking n full low report a b ≡ pair n full low report a b
     unfolding asking
     asks = rw (good-size n (acc .some-node) (acc .size), fits, below) refl
 
-    walks : (w : ℕ) → walking n starts neighbours full low report a b w ≡ walkOf w n (threshold n) G full low a b (pair n full low report a b)
+    pub walks : (w : ℕ) → walking n starts neighbours full low report a b w ≡ walkOf w n (threshold n) G full low a b (pair n full low report a b)
     unfolding walking
     walks w = rw (good-size n (acc .some-node) (acc .size), le-ltb (length starts) (n + 1) (acc .room), fits, is-survey, below) refl
 
@@ -212,42 +212,79 @@ module _ (n : ℕ) (starts neighbours : List ℕ) (acc : Accepted n starts neigh
       let j = short-fit w x l in
       (λ q. i .0 (j .0 (sym (ap (λ (y : AfterWalking). y .answer) o) ∙ q)), λ h. ap (λ (y : AfterWalking). y .answer) o ∙ j .1 (i .1 h))
 
-  module _ (full low report : List ℕ) (own : AreBuilt n (threshold n) (neighboursOf starts neighbours) full low report) (a b : ℕ) (ha : a < n) (hb : b < n) where
+  -- tables built with any threshold
+  module _ (s : ℕ) (full low report : List ℕ) (own : AreBuilt n s (neighboursOf starts neighbours) full low report) (a b : ℕ) (ha : a < n) (hb : b < n) where
     hf : n * n ≤ length full
-    hf = full-room n (threshold n) G full low report own
+    hf = full-room n s G full low report own
 
     hl : n * n ≤ length low
-    hl = low-room n (threshold n) G full low report own
+    hl = low-room n s G full low report own
 
     hr : n * n ≤ length report
-    hr = report-room n (threshold n) G full low report own
+    hr = report-room n s G full low report own
 
     -- asking is not refused, and answers the entry of Report
-    pub asking-answers : (x : Answer) × (asking n full low report a b ≡ answered x) × (x .report ≡ entryAt n (reportTable n (threshold n) G) a b)
+    pub asking-answers : (x : Answer) × (asking n full low report a b ≡ answered x) × (x .report ≡ entryAt n (reportTable n s G) a b)
     unfolding pair
     asking-answers =
         let g = acc .lists .graph in
-        let i = pair-built n (threshold n) G g (acc .size) full low report own a b ha hb (taken n full a b)
-        (taken-right n (threshold n) G g (acc .size) full low report own a b ha hb) in
-        (answer (entryAt n report a b) (i .0), asks full low report hf hl hr a b ha hb ∙ i .1, report-at n (threshold n) G g (acc .size) full low report own a b ha hb)
+        let i = pair-built n s G g (acc .size) full low report own a b ha hb (taken n full a b) (taken-right n s G g (acc .size) full low report own a b ha hb) in
+        (answer (entryAt n report a b) (i .0), asks full low report hf hl hr a b ha hb ∙ i .1, report-at n s G g (acc .size) full low report own a b ha hb)
 
     -- the report is none exactly where no chain joins the pair, else from the fewest links to two more
-    pub asking-right : AllowedAnswer (linked n G) a b (asking n full low report a b)
-    asking-right = let i = asking-answers in record {
+    pub asking-allowed : AllowedAnswer (linked n G) a b (asking n full low report a b)
+    asking-allowed = let i = asking-answers in record {
       value = i .0;
       given = i .1;
-      allowed = subst (λ (r : ℕ). Allowed (linked n G) a b r) (sym (i .2)) (allowed n (threshold n) G (acc .lists .graph) (acc .size) a b ha hb);
+      allowed = subst (λ (r : ℕ). Allowed (linked n G) a b r) (sym (i .2)) (allowed n s G (acc .lists .graph) (acc .size) a b ha hb);
     }
 
-    -- and writing the walk answers as asking does, if the walk list has report + 1 entries or there is no route
-    pub walking-right : (w : ℕ) → WalkAnswers w (asking n full low report a b) (walking n starts neighbours full low report a b w)
-    unfolding pair
-    walking-right w x e room =
-        let g = acc .lists .graph in
-        let p = taken-right n (threshold n) G g (acc .size) full low report own a b ha hb in
-        let i = pair-built n (threshold n) G g (acc .size) full low report own a b ha hb (taken n full a b) p in
-        let q : answer (entryAt n report a b) (i .0) ≡ x = cc (asks full low report hf hl hr a b ha hb, i .1) in
-        ap (λ (r : AfterWalking). r .answer) (walks full low report hf hl hr a b ha hb w)
-        ∙ walk-built n (threshold n) G g (acc .size) full low report own a b ha hb (taken n full a b) p w
-        (subst (λ (y : Answer). (y .report ≡ none) ⊎ (y .report < w)) (sym q) room)
-        ∙ sym (asks full low report hf hl hr a b ha hb) ∙ e
+  -- and writing the walk answers as asking does, if the walk list has report + 1 entries or there is no route
+  walking-answers : (full low report : List ℕ) → AreBuilt n (threshold n) (neighboursOf starts neighbours) full low report → (a b : ℕ) → a < n → b < n
+      → (w : ℕ) → WalkAnswers w (asking n full low report a b) (walking n starts neighbours full low report a b w)
+  unfolding pair
+  walking-answers full low report own a b ha hb w x e room =
+      let s = threshold n in
+      let g = acc .lists .graph in
+      let f = full-room n s G full low report own in
+      let l = low-room n s G full low report own in
+      let r = report-room n s G full low report own in
+      let p = taken-right n s G g (acc .size) full low report own a b ha hb in
+      let i = pair-built n s G g (acc .size) full low report own a b ha hb (taken n full a b) p in
+      let q : answer (entryAt n report a b) (i .0) ≡ x = cc (asks full low report f l r a b ha hb, i .1) in
+      ap (λ (y : AfterWalking). y .answer) (walks full low report f l r a b ha hb w)
+      ∙ walk-built n s G g (acc .size) full low report own a b ha hb (taken n full a b) p w
+      (subst (λ (y : Answer). (y .report ≡ none) ⊎ (y .report < w)) (sym q) room)
+      ∙ sym (asks full low report f l r a b ha hb) ∙ e
+
+-- ---- what the calls promise, in the words of specs/Demand.antt
+
+pub asking-right : (n : ℕ) (full low report : List ℕ) (a b : ℕ) → AskRight n full low report a b (asking n full low report a b)
+asking-right n full low report a b s starts neighbours acc own = asking-allowed n starts neighbours acc s full low report own a b
+
+pub walking-right : (n : ℕ) (starts neighbours full low report : List ℕ) (a b w : ℕ)
+    → WalkRight n (threshold n) starts neighbours full low report a b w (walking n starts neighbours full low report a b w)
+walking-right n starts neighbours full low report a b w acc own ha hb = (
+  asking-allowed n starts neighbours acc (threshold n) full low report own a b ha hb,
+  walking-answers n starts neighbours acc full low report own a b ha hb w,
+)
+
+pub testing-right : (n : ℕ) (starts neighbours : List ℕ) → TestRight n starts neighbours (testing n starts neighbours)
+testing-right n starts neighbours acc = testing-verdict n starts neighbours acc
+
+pub building-right : (n : ℕ) (starts neighbours full low report list : List ℕ)
+    → BuildRight n (threshold n) starts neighbours (building n starts neighbours full low report list)
+unfolding building built numberIn
+building-right n starts neighbours full low report list =
+    picked P (badSize n) _ _ (λ _ k e. never e) (λ size.
+    picked P (shortLists n (length starts) (length full) (length low) (length report) (length list)) _ _ (λ _ k e. never e) (λ room.
+    picked P (not (isSurvey n starts neighbours)) _ _ (λ _ k e. never e) (λ lists k e.
+    let some-room = of-or-false (ltb (length starts) (n + 1)) _ (of-or-false (ltb (length starts) (n + 1) || shortTables n (length full) (length low) (length report)) _ room .0) .0 in
+    record {
+      survey = tests-facts n starts neighbours size some-room lists;
+      tables = built-right n (threshold n) (neighboursOf starts neighbours) full low report list;
+      count = sym (ap (numberIn (λ i. i)) e);
+    })))
+  where
+    P : AfterBuilding → Type 0
+    P r = BuildRight n (threshold n) starts neighbours r

@@ -21,6 +21,8 @@ pub mod Links
 pub mod SurveyLists
 pub mod Totals
 pub mod ReadBack
+pub mod WholeWay
+pub mod Sizes
 pub mod Fronts
 pub mod Listing
 pub mod Starred

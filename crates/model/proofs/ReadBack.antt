@@ -17,15 +17,15 @@ use Rattle.model.specs.declared.Size.{Size}
 use Rattle.model.specs.Answers.{Outcome, refused, answered}
 use Rattle.model.specs.Basics.{from, upTo, has, keep, gather, over}
 use Rattle.model.specs.SurveyText.{surveyText, ordered}
-use Rattle.model.specs.Survey.{Graph, neighboursOf, ascending, Accepted}
+use Rattle.model.specs.Survey.{Graph, neighboursOf, ascending, accepting, Accepted}
 use Rattle.model.specs.Graph.{linked}
 use Rattle.model.specs.Reading.{named, Parsed, parse, graphOf, startsOf, neighboursFrom, readingOf, reading}
 use Rattle.model.specs.Writing.{textOf, AfterWriting, writingOf, writing}
-use Rattle.model.specs.Demand.{IsRead, ReadRight}
+use Rattle.model.specs.Demand.{IsRead, ReadRight, asRead, WriteRight}
 use Rattle.model.proofs.Tests.{picked, and-l, and-r, and-i, or-l, or-r, or-e, eq-T, no-false, same-test, lt-or}
 use Rattle.model.proofs.Lists.{has-head, has-tail, of-cons, has-keep, of-keep, has-upTo, of-upTo, none-in, keep-same, keep-none}
 use Rattle.model.proofs.Ascending.{ascending-tail, ascending-above, keep-ascending, ascending-keep, keep-of-ascending}
-use Rattle.model.proofs.Acceptance.{accepting-answers, linked-is, is-linked}
+use Rattle.model.proofs.Acceptance.{accepting-facts, accepting-answers, linked-is, is-linked}
 use Rattle.model.proofs.Outcomes.{never, numberIn}
 use Rattle.model.proofs.Entries.{getD-same}
 use Rattle.model.proofs.Links.{Fresh, AllFresh, TextRead, parse-complete, parse-sound}
@@ -338,7 +338,7 @@ module _ (n : ℕ) (starts′ neighbours′ : List ℕ) (acc : Accepted n starts
   ls : List (ℕ × ℕ)
   ls = ordered n (neighboursOf starts′ neighbours′)
 
-  all-fresh : AllFresh n [] ls
+  pub all-fresh : AllFresh n [] (ordered n (neighboursOf starts′ neighbours′))
   unfolding ls ordered upTo row AllLess named
   all-fresh = rows-fresh n G n 0 [] (zero-add n) (acc .lists .sorted) (acc .lists .graph .below) (λ u v t h. absurd t)
 
@@ -386,14 +386,8 @@ module _ (n : ℕ) (starts′ neighbours′ : List ℕ) (acc : Accepted n starts
   pub half-count : getD starts′ n 0 / 2 ≡ length (ordered n (neighboursOf starts′ neighbours′))
   half-count = omega (arith, ordered-count)
 
-  -- what it reads back as: n and m, the entries used, and zero past them
-  pub read-back : (p q : ℕ) → n + 1 ≤ p → getD starts′ n 0 ≤ q
-      → reading (textOf n starts′ neighbours′) p q ≡ record {
-        answer = answered (record { nodes = n; links = getD starts′ n 0 / 2 });
-        starts = over (take (n + 1) starts′) (replicate p 0);
-        neighbours = over (take (getD starts′ n 0) neighbours′) (replicate q 0);
-      }
-  unfolding reading readingOf textOf ls
+  pub read-back : (p q : ℕ) → n + 1 ≤ p → getD starts′ n 0 ≤ q → reading (textOf n starts′ neighbours′) p q ≡ asRead n starts′ neighbours′ p q
+  unfolding asRead reading readingOf textOf ls
   read-back p q hp hq =
       let x : Parsed = record { nodes = n; links = ls } in
       let m = length ls in
@@ -434,11 +428,14 @@ module _ (n : ℕ) (starts′ neighbours′ : List ℕ) (acc : Accepted n starts
       let j : length text ≡ k = cc in
       take-at text (drop (length text) buffer) k j))
 
-  -- written and read again it is the same survey
-  pub round-trip : (buffer : List ℕ) (k : ℕ) → writing n starts′ neighbours′ buffer .answer ≡ answered k → (p q : ℕ) → n + 1 ≤ p → getD starts′ n 0 ≤ q
-      → reading (take k (writing n starts′ neighbours′ buffer .buffer)) p q ≡ record {
-        answer = answered (record { nodes = n; links = getD starts′ n 0 / 2 });
-        starts = over (take (n + 1) starts′) (replicate p 0);
-        neighbours = over (take (getD starts′ n 0) neighbours′) (replicate q 0);
-      }
-  round-trip buffer k e p q hp hq = ap (λ (t : List ℕ). reading t p q) (written-text buffer k e) ∙ read-back p q hp hq
+-- written and read again it is the same survey
+pub writing-right : (n : ℕ) (starts neighbours buffer : List ℕ) → WriteRight n starts neighbours (writing n starts neighbours buffer)
+unfolding writing writingOf
+writing-right n starts neighbours buffer k e p q hp hq = at (accepting n starts neighbours) refl e
+  where
+    at : (o : Outcome (Unit {0})) → accepting n starts neighbours ≡ o → writingOf o (textOf n starts neighbours) buffer .answer ≡ answered k
+        → reading (take k (writing n starts neighbours buffer .buffer)) p q ≡ asRead n starts neighbours p q
+    at (refused j) i f = never f
+    at (answered x) i f =
+        let acc = accepting-facts n starts neighbours x i in
+        ap (λ (t : List ℕ). reading t p q) (written-text n starts neighbours acc buffer k e) ∙ read-back n starts neighbours acc p q hp hq

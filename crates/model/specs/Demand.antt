@@ -4,20 +4,25 @@
 use mathlib.Core.Path.{_≡_}
 use mathlib.Core.Logic.{_⊎_, _↔_}
 use mathlib.Core.List.{List}
-use Prim.Native.Nat.{ℕ, _+_, _≤_, _<_}
-use lib.ListN.{length, take}
+use Prim.Native.Nat.{ℕ, _+_, _/_, _≤_, _<_}
+use lib.ListN.{length, getD, take, replicate}
 use Rattle.model.specs.declared.Answer.{Answer}
 use Rattle.model.specs.declared.TestResult.{TestResult}
 use Rattle.model.specs.declared.Verdict.{Verdict}
 use Rattle.model.specs.declared.Verdict.the-variants.{Parted, Long, Short}
 use Rattle.model.specs.Answers.{Outcome, answered}
-use Rattle.model.specs.Basics.{none}
+use Rattle.model.specs.Basics.{none, over}
 use Rattle.model.specs.Graph.{Edges, linked, Chain, Unjoined, Fewest, WithinTwo, Walked}
 use Rattle.model.specs.declared.Size.{Size}
 use Rattle.model.specs.SurveyText.{surveyText}
 use Rattle.model.specs.Survey.{neighboursOf, Accepted}
-use Rattle.model.specs.Reading.{named, AfterReading}
-use Rattle.model.specs.Walking.{AfterWalking}
+use Rattle.model.specs.Hubs.{hubs}
+use Rattle.model.specs.Tables.{AreBuilt, AreBuiltWith}
+use Rattle.model.specs.Reading.{named, AfterReading, reading}
+use Rattle.model.specs.Writing.{AfterWriting}
+use Rattle.model.specs.Building.{AfterBuilding}
+use Rattle.model.specs.Asking.{asking}
+use Rattle.model.specs.Walking.{AfterWalking, walking}
 
 -- "after a reading these are exactly the pairs that the text's link lines name"; "one read from a text always is" accepted
 pub record IsRead (text : List ℕ) (x : Size) (starts neighbours : List ℕ) : Type 0 where
@@ -30,17 +35,45 @@ pub record IsRead (text : List ℕ) (x : Size) (starts neighbours : List ℕ) : 
 abbrev pub ReadRight : List ℕ → AfterReading → Type 0
 ReadRight text r = (x : Size) → r .answer ≡ answered x → IsRead text x (r .starts) (r .neighbours)
 
+-- a survey as reading leaves it in lists of p and q entries: n and m, the entries used, and zero past them
+unfoldable pub asRead : (n : ℕ) (starts neighbours : List ℕ) (p q : ℕ) → AfterReading
+asRead n starts neighbours p q = record {
+  answer = answered (record { nodes = n; links = getD starts n 0 / 2 });
+  starts = over (take (n + 1) starts) (replicate p 0);
+  neighbours = over (take (getD starts n 0) neighbours) (replicate q 0);
+}
+
+-- a survey written and read again is the same survey: the text that was written, k bytes, is read so into all lists that are long enough
+abbrev pub WriteRight : (n : ℕ) (starts neighbours : List ℕ) → AfterWriting → Type 0
+WriteRight n starts neighbours r =
+    (k : ℕ) → r .answer ≡ answered k → (p q : ℕ) → n + 1 ≤ p → getD starts n 0 ≤ q
+    → reading (take k (r .buffer)) p q ≡ asRead n starts neighbours p q
+
+-- building that is not refused: the survey is accepted, and the tables and the hub list are the ones built from it, with k hubs
+pub record IsBuilt (n s : ℕ) (starts neighbours full low report list : List ℕ) (k : ℕ) : Type 0 where
+  pub survey : Accepted n starts neighbours
+  pub tables : AreBuiltWith n s (neighboursOf starts neighbours) full low report list
+  pub count : k ≡ length (hubs n s (neighboursOf starts neighbours))
+
+abbrev pub BuildRight : (n s : ℕ) (starts neighbours : List ℕ) → AfterBuilding → Type 0
+BuildRight n s starts neighbours r = (k : ℕ) → r .answer ≡ answered k → IsBuilt n s starts neighbours (r .full) (r .low) (r .report) (r .hubs) k
+
 -- a report: none exactly where no chain joins the pair; else at least the fewest links, and at most two more
 pub record Allowed (E : Edges) (a b r : ℕ) : Type 0 where
   pub no-route : (r ≡ none) ↔ Unjoined E a b
   pub near : (d : ℕ) → Fewest E a b d → (d ≤ r) × (r ≤ d + 2)
 
--- "The report is the one that asking a pair answers .. With such tables and nodes below n [it is not] refused": an allowed report. An
--- accepted survey, tables built from it and nodes below n are asked for where this is promised: `pairs::ask`, `walks::write_walk`
+-- "The report is the one that asking a pair answers .. With such tables and nodes below n [it is not] refused": an allowed report
 pub record AllowedAnswer (E : Edges) (a b : ℕ) (o : Outcome Answer) : Type 0 where
   pub value : Answer
   pub given : o ≡ answered value
   pub allowed : Allowed E a b (value .report)
+
+-- for every accepted survey, tables built from it with any threshold s, and nodes below n
+abbrev pub AskRight : (n : ℕ) (full low report : List ℕ) (a b : ℕ) → Outcome Answer → Type 0
+AskRight n full low report a b o =
+    (s : ℕ) (starts neighbours : List ℕ) → Accepted n starts neighbours → AreBuilt n s (neighboursOf starts neighbours) full low report
+    → a < n → b < n → AllowedAnswer (linked n (neighboursOf starts neighbours)) a b o
 
 -- "writing the walk answers the same. .. if the walk list is long enough: report + 1 entries or more, and any length where there is no
 -- route." w is its length
@@ -57,6 +90,13 @@ pub record IsWalk (E : Edges) (a b r : ℕ) (list : List ℕ) : Type 0 where
 abbrev pub WalkSound : Edges → (a b : ℕ) → AfterWalking → Type 0
 WalkSound E a b r = (x : Answer) → r .answer ≡ answered x → (x .report ≡ none → ⊥) → IsWalk E a b (x .report) (r .walk)
 
+-- both, for every accepted survey, tables built from it with the threshold s, and nodes below n; r is what writing the walk into a list
+-- of w entries leaves
+abbrev pub WalkRight : (n s : ℕ) (starts neighbours full low report : List ℕ) (a b w : ℕ) → AfterWalking → Type 0
+WalkRight n s starts neighbours full low report a b w r =
+    Accepted n starts neighbours → AreBuilt n s (neighboursOf starts neighbours) full low report → a < n → b < n
+    → AllowedAnswer (linked n (neighboursOf starts neighbours)) a b (asking n full low report a b) × WalkAnswers w (asking n full low report a b) r
+
 -- a verdict: parted exactly when some two nodes are not joined, never short where some two are four or more apart, never long
 -- where all are within two
 pub record VerdictRight (n : ℕ) (E : Edges) (v : Verdict) : Type 0 where
@@ -64,8 +104,31 @@ pub record VerdictRight (n : ℕ) (E : Edges) (v : Verdict) : Type 0 where
   pub not-short : (a b d : ℕ) → a < n → b < n → Fewest E a b d → 4 ≤ d → v ≡ Short → ⊥
   pub not-long : ((a b : ℕ) → a < n → b < n → WithinTwo E a b) → v ≡ Long → ⊥
 
--- a test that is not refused, with a right verdict; `verdict::test` promises it for an accepted survey
+-- a test that is not refused, with a right verdict
 pub record RightVerdict (n : ℕ) (E : Edges) (o : Outcome TestResult) : Type 0 where
   pub value : TestResult
   pub given : o ≡ answered value
   pub right : VerdictRight n E (value .verdict)
+
+-- for every accepted survey
+abbrev pub TestRight : (n : ℕ) (starts neighbours : List ℕ) → Outcome TestResult → Type 0
+TestRight n starts neighbours o = Accepted n starts neighbours → RightVerdict n (linked n (neighboursOf starts neighbours)) o
+
+-- ---- the whole way: a text is read into two lists, tables are built from these, two nodes are asked, and their walk is written
+
+-- x, starts and neighbours are what reading answers and leaves, t is what building leaves
+pub record WholeWay (text : List ℕ) (x : Size) (starts neighbours : List ℕ) (t : AfterBuilding) (a b : ℕ) : Type 0 where
+  -- the links that the text's lines name
+  pub links : List (ℕ × ℕ)
+  pub lines : text ≡ surveyText (x .nodes) (x .links) links
+  -- building and asking are not refused, and the report is allowed over those links
+  pub hubs : ℕ
+  pub built : t .answer ≡ answered hubs
+  pub value : Answer
+  pub asked : asking (x .nodes) (t .full) (t .low) (t .report) a b ≡ answered value
+  pub allowed : Allowed (named links) a b (value .report)
+  -- in every list that is long enough the walk is answered the same, and is a walk along those links
+  pub walked : (w : ℕ) → (value .report ≡ none) ⊎ (value .report < w)
+      → (walking (x .nodes) starts neighbours (t .full) (t .low) (t .report) a b w .answer ≡ answered value)
+      × ((value .report ≡ none → ⊥)
+      → IsWalk (named links) a b (value .report) (walking (x .nodes) starts neighbours (t .full) (t .low) (t .report) a b w .walk))
