@@ -1,6 +1,6 @@
 -- The number that C gets determines the answer: what is read back from an answer's number is the answer, for each kind of answer.
 -- Assumes nothing.
-use mathlib.Core.Path.{_≡_, refl, ap, ap₂, _∙_}
+use mathlib.Core.Path.{_≡_, refl, sym, ap, ap₂, _∙_, subst}
 use Prim.Native.Nat.{ℕ, _+_, _*_, _/_, _%_, _^_, _<_}
 use native.Mathlib.Omega.{arith}
 use borrow.Author.Tests.{eq-eqb, ne-eqb}
@@ -101,3 +101,14 @@ test-back x h =
       verdict = (ap verdictIn (masked 16 n (verdictNumber (x .verdict)) (omega arith)) ∙ verdict-back (x .verdict)) i;
       searches = masked 32 n (x .searches) (omega arith) i;
     }
+
+-- ---- a call for C passes on what the call below it promises
+
+-- `whole` puts an answer beside what was left in the lists; x is the call's outcome, and P what is promised of it
+pub passed-on : {A X : Type 0} (values : A → ℕ) (value : ℕ → A) (answer : X → Outcome A) (whole : Outcome A → X) (P : X → Type 0)
+    → ((o : Outcome A) → answer (whole o) ≡ o) → {o : Outcome A} {k : ℕ} {x : X} → IsCode values value o k → whole o ≡ x → P (whole o)
+    → (k ≡ code values (answer x)) × ((whole (decoded value k) ≡ x) × P (whole (decoded value k)))
+passed-on values value answer whole P beside {o} i e p = (
+  i .number ∙ ap (code values) (sym (beside o) ∙ ap answer e),
+  (ap whole (i .back) ∙ e, subst (λ (q : Outcome _). P (whole q)) (sym (i .back)) p),
+)

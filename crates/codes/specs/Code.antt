@@ -1,6 +1,7 @@
 -- Answers as one number of 64 bits, for callers in C, and how such a number is read back.
 -- Assumes nothing.
 use mathlib.Core.Path.{_≡_}
+use mathlib.Core.List.{List}
 use Prim.Native.Nat.{ℕ, _+_, _*_, _/_, _^_}
 use lib.Bits.{bitAnd}
 use lib.Dec.{eqb}
@@ -13,6 +14,10 @@ use Rattle.model.specs.declared.Verdict.the-variants.{Parted, Long, Short}
 use Rattle.model.specs.declared.TestResult.{TestResult}
 use Rattle.model.specs.Answers.{Outcome, refused, answered}
 use Rattle.model.specs.Basics.{if_then_else_}
+use Rattle.model.specs.Reading.{AfterReading}
+use Rattle.model.specs.Writing.{AfterWriting}
+use Rattle.model.specs.Building.{AfterBuilding}
+use Rattle.model.specs.Walking.{AfterWalking}
 
 -- ---- an answer's number
 
@@ -96,3 +101,17 @@ testIn x = record { verdict = verdictIn (field 16 x); searches = field 32 x }
 pub record IsCode {A : Type 0} (values : A → ℕ) (value : ℕ → A) (o : Outcome A) (x : ℕ) : Type 0 where
   pub number : x ≡ code values o
   pub back : decoded value x ≡ o
+
+-- ---- what a call for C returned, read back, and left in the lists that were lent to it
+
+abbrev pub readDecoded : ℕ → (starts neighbours : List ℕ) → AfterReading
+readDecoded x starts neighbours = record { answer = decoded sizeIn x; starts = starts; neighbours = neighbours }
+
+abbrev pub writeDecoded : ℕ → (buffer : List ℕ) → AfterWriting
+writeDecoded x buffer = record { answer = decoded countIn x; buffer = buffer }
+
+abbrev pub buildDecoded : ℕ → (full low report list : List ℕ) → AfterBuilding
+buildDecoded x full low report list = record { answer = decoded countIn x; full = full; low = low; report = report; hubs = list }
+
+abbrev pub walkDecoded : ℕ → (walk : List ℕ) → AfterWalking
+walkDecoded x walk = record { answer = decoded answerIn x; walk = walk }

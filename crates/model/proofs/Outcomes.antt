@@ -1,6 +1,6 @@
--- A refusal is no answer; the number in an outcome; and how large a refusal's number is.
+-- A refusal is no answer; promises of outcomes; the number in an outcome; and how large a refusal's number is.
 -- Assumes nothing.
-use mathlib.Core.Path.{_≡_}
+use mathlib.Core.Path.{_≡_, sym, subst}
 use Prim.Native.Nat.{ℕ, _<_}
 use native.Mathlib.Omega.{arith}
 use Rattle.model.specs.declared.Refusal.{Refusal}
@@ -9,6 +9,10 @@ use Rattle.model.specs.Answers.{Outcome, refused, answered, number}
 
 pub never : {A B : Type 0} {k : ℕ} {x : A} → refused k ≡ answered x → B
 never {k = k} {x = x} e = let z : _≡_ {A = ℕ} 0 1 = cc in absurd (omega arith)
+
+-- what is promised of an outcome is promised of what a call returned and left, if that is the outcome
+pub promised : {A : Type 0} (P : A → Type 0) {x r : A} → P x → r ≡ x → (r ≡ x) × P r
+promised P h e = (e, subst P (sym e) h)
 
 -- a refusal's number, or one that the value has
 unfoldable pub numberIn : {A : Type 0} → (A → ℕ) → Outcome A → ℕ

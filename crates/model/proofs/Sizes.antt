@@ -260,10 +260,10 @@ built-enough n starts neighbours acc full low report own a b ha hb w h =
         let v = suc (x .report) in
         let given = sym (asks n starts neighbours acc full low report hf hl hr a b ha hb) ∙ asked .given in
         never (
-          sym (ap (λ (y : AfterWalking). y .answer) (
-              walks n starts neighbours acc full low report hf hl hr a b ha hb v ∙ ap (walkOf v n s G full low a b) given ∙ ap (fit v x) f
-              ))
-          ∙ answers v (inr (omega arith))
+        sym (ap (λ (y : AfterWalking). y .answer) (
+        walks n starts neighbours acc full low report hf hl hr a b ha hb v ∙ ap (walkOf v n s G full low a b) given ∙ ap (fit v x) f
+        ))
+        ∙ answers v (inr (omega arith))
         )
     found m l (some p) f =
         false-no _ short (walking-enough n starts neighbours full low report a b w h

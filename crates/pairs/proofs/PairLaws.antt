@@ -1,21 +1,20 @@
 -- Asking a pair: the refusals in their order, and what the answer says of chains.
 -- Assumes nothing.
-use mathlib.Core.Path.{_≡_, sym, subst}
+use mathlib.Core.Path.{_≡_}
 use mathlib.Core.Bool.{Bool, true, false, _||_}
 use mathlib.Core.List.{List}
-use Prim.Native.Nat.{ℕ, _<_}
+use Prim.Native.Nat.{ℕ}
 use lib.Dec.{leb}
 use lib.ListN.{length}
 use Rattle.model.specs.declared.Answer.{Answer}
 use Rattle.model.specs.Answers.{Outcome, refused}
-use Rattle.model.specs.Survey.{neighboursOf, badSize, Accepted}
-use Rattle.model.specs.Graph.{linked}
-use Rattle.model.specs.Threshold.{threshold}
-use Rattle.model.specs.Tables.{shortTables, AreBuilt}
+use Rattle.model.specs.Survey.{badSize}
+use Rattle.model.specs.Tables.{shortTables}
 use Rattle.model.specs.Pair.{pair}
 use Rattle.model.specs.Asking.{asking}
-use Rattle.model.specs.Demand.{AllowedAnswer}
+use Rattle.model.specs.Demand.{AskRight}
 use Rattle.model.proofs.Demand.{asking-right}
+use Rattle.model.proofs.Outcomes.{promised}
 
 module _ (n : ℕ) (full low report : List ℕ) where
   abbrev short : Bool
@@ -24,16 +23,10 @@ module _ (n : ℕ) (full low report : List ℕ) where
   module _ (a b : ℕ) where
     -- what asking promises of its answer
     abbrev pub Asked : Outcome Answer → Type 0
-    Asked o = (o ≡ asking n full low report a b)
-        × ((starts neighbours : List ℕ) → Accepted n starts neighbours → AreBuilt n (threshold n) (neighboursOf starts neighbours) full low report
-        → a < n → b < n → AllowedAnswer (linked n (neighboursOf starts neighbours)) a b o)
+    Asked o = (o ≡ asking n full low report a b) × AskRight n full low report a b o
 
     asked : {o : Outcome Answer} → o ≡ asking n full low report a b → Asked o
-    asked e = (
-      e,
-      λ starts neighbours acc own ha hb.
-          subst (AllowedAnswer (linked n (neighboursOf starts neighbours)) a b) (sym e) (asking-right n starts neighbours acc full low report own a b ha hb),
-    )
+    asked e = promised (AskRight n full low report a b) (asking-right n full low report a b) e
 
     pub bad-size : badSize n ≡ true → Asked (refused 2)
     unfolding asking

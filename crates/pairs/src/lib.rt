@@ -6,18 +6,14 @@ use model::Refusal;
 use model::Route;
 ghost use mathlib.Core.Path.{_≡_};
 ghost use mathlib.Core.Bool.{_&&_};
-ghost use mathlib.Core.List.{List};
-ghost use Prim.Native.Nat.{ℕ, _*_, _≤_, _<_};
+ghost use Prim.Native.Nat.{_*_, _≤_, _<_};
 ghost use lib.Dec.{eqb};
 ghost use lib.ListN.{length};
 ghost use Rattle.model.specs.Answers.{answered, pairAnswer};
-ghost use Rattle.model.specs.Survey.{neighboursOf, Accepted};
-ghost use Rattle.model.specs.Graph.{linked};
-ghost use Rattle.model.specs.Threshold.{threshold};
-ghost use Rattle.model.specs.Tables.{entryAt, via, shortTables, AreBuilt};
+ghost use Rattle.model.specs.Tables.{entryAt, via, shortTables};
 ghost use Rattle.model.specs.Pair.{answer, taken, attaining, pair};
 ghost use Rattle.model.specs.Asking.{asking};
-ghost use Rattle.model.specs.Demand.{AllowedAnswer};
+ghost use Rattle.model.specs.Demand.{AskRight};
 
 // Entry (row, column) of a table of n nodes.
 pub fn entry_at(n: usize, table: &[u16], row: usize, column: usize) -> u16
@@ -116,9 +112,7 @@ pub fn tables_short(n: usize, full: &[u16], low: &[u16], report: &[u16]) -> bool
 // Asking a pair: the report with its route. With the tables built from a survey it is not refused, and the report is allowed.
 pub fn ask(n: usize, full: &[u16], low: &[u16], report: &[u16], a: usize, b: usize) -> Asking
     ensures { λ r. ⌜ pairAnswer r ≡ asking n (now (full .entry)) (now (low .entry)) (now (report .entry)) a b ⌝ }
-    ensures { λ r. ⌜ ((starts neighbours : List ℕ) → Accepted n starts neighbours
-        → AreBuilt n (threshold n) (neighboursOf starts neighbours) (now (full .entry)) (now (low .entry)) (now (report .entry))
-        → a < n → b < n → AllowedAnswer (linked n (neighboursOf starts neighbours)) a b (pairAnswer r)) ⌝ }
+    ensures { λ r. ⌜ AskRight n (now (full .entry)) (now (low .entry)) (now (report .entry)) a b (pairAnswer r) ⌝ }
 {
     if n < 1 {
         return Asking::Refused(Refusal::NodeCount);

@@ -2,17 +2,15 @@
 -- Assumes nothing.
 use mathlib.Core.Path.{_≡_, refl, ap, _∙_, subst}
 use mathlib.Core.Bool.{not}
-use mathlib.Core.List.{List, [], _∷_}
+use mathlib.Core.List.{List}
 use Prim.Native.Nat.{ℕ, _+_, _*_, _≤_}
 use native.Mathlib.Nat.{le-refl, le-trans, mul-le-mul}
 use native.Mathlib.Omega.{arith}
 use lib.Dec.{ltb}
-use lib.ListN.{length, getD, length-append}
+use lib.ListN.{length}
 use Rattle.model.specs.declared.Size.{Size}
 use Rattle.model.specs.declared.TestResult.{TestResult}
 use Rattle.model.specs.Answers.{Outcome, refused, answered, mapAnswer}
-use Rattle.model.specs.Basics.{gather}
-use Rattle.model.specs.SurveyText.{lineOf, linkLines, surveyText}
 use Rattle.model.specs.Survey.{Graph, neighboursOf, badSize, isSurvey, accepting, Accepted}
 use Rattle.model.specs.Threshold.{threshold, thresholdAnswer, bitLength}
 use Rattle.model.specs.Hubs.{closed, hubs}
@@ -21,12 +19,12 @@ use Rattle.model.specs.Building.{AfterBuilding, shortLists, built, building}
 use Rattle.model.specs.TwoOrFour.{sources, testResult}
 use Rattle.model.specs.Testing.{testing}
 use Rattle.model.specs.Writing.{AfterWriting, textOf, writingOf, writing}
+use Rattle.model.specs.Listing.{listing, writingListing}
 use Rattle.model.proofs.Tests.{picked}
 use Rattle.model.proofs.Outcomes.{never}
 use Rattle.model.proofs.Verdicts.{Sources, round, covers, source-cases}
-use Rattle.model.proofs.Fronts.{line-few}
-use Rattle.model.proofs.Links.{AllFresh, TextRead, parse-sound}
-use Rattle.model.proofs.ReadBack.{read-back}
+use Rattle.model.proofs.Links.{parse-sound}
+use Rattle.model.proofs.Sizes.{mostText, text-few}
 use Rattle.model.proofs.Acceptance.{size-bounds, accepting-facts, few-neighbours}
 use Rattle.model.proofs.Covering.{hubs-length}
 use Rattle.model.proofs.Threshold.{bitLength-is, threshold-is}
@@ -68,55 +66,23 @@ threshold-fits n k =
     let j : threshold n ≡ k = cc in
     omega (arith, few n (size-bounds n g .1)))
 
--- a text that is read has at most 24 bytes in each of its lines
-lines-few : (n : ℕ) → n ≤ 1024 → (ls done : List (ℕ × ℕ)) → AllFresh n done ls → length (linkLines ls) ≤ 24 * length ls
-unfolding linkLines gather
-lines-few n h [] done f = omega arith
-lines-few n h (l ∷ ls) done f =
-    omega (
-      arith,
-      length-append (lineOf 76 (l .0) (l .1)) (linkLines ls),
-      line-few 76 (l .0) (l .1) (omega (arith, f .0 .below-a)) (omega (arith, f .0 .below-b)),
-      lines-few n h ls (l ∷ done) (f .1),
-    )
-
-read-few : (p q : ℕ) (text : List ℕ) (x : Parsed) → TextRead 1024 16384 p q text x → length text ≤ 24 * 16385
-unfolding surveyText
-read-few p q text x r =
-    let n = x .nodes in
-    let m = length (x .links) in
-    omega (
-      arith,
-      ap length (r .is-text) ∙ length-append (lineOf 83 n m) (linkLines (x .links)),
-      line-few 83 n m (omega (arith, r .within .size)) (omega (arith, r .within .few)),
-      lines-few n (r .within .size) (x .links) [] (r .fresh),
-      r .within .few,
-    )
-
--- writing back: the text's length. The text can be read again
-text-few : (n : ℕ) (starts neighbours : List ℕ) → Accepted n starts neighbours → length (textOf n starts neighbours) ≤ 24 * 16385
-unfolding reading readingOf
-text-few n starts neighbours acc =
-    at (parse 1024 16384 (n + 1) (getD starts n 0) text) refl
-    (ap (λ (r : AfterReading). r .answer) (read-back n starts neighbours acc (n + 1) (getD starts n 0) (le-refl (n + 1)) (le-refl (getD starts n 0))))
-  where
-    text : List ℕ
-    text = textOf n starts neighbours
-
-    at : (o : Outcome Parsed) → parse 1024 16384 (n + 1) (getD starts n 0) text ≡ o → {x : Size} → readingOf (n + 1) (getD starts n 0) o .answer ≡ answered x → length text ≤ 24 * 16385
-    at (refused k) h e = never e
-    at (answered y) h e = read-few (n + 1) (getD starts n 0) text y (parse-sound 1024 16384 (n + 1) (getD starts n 0) text y h)
-
-pub text-fits : (n : ℕ) (starts neighbours buffer : List ℕ) (k : ℕ) → writing n starts neighbours buffer .answer ≡ answered k → k ≤ 24 * 16385
+-- writing back: the text's length
+pub text-fits : (n : ℕ) (starts neighbours buffer : List ℕ) (k : ℕ) → writing n starts neighbours buffer .answer ≡ answered k → k ≤ mostText
 unfolding writing writingOf
 text-fits n starts neighbours buffer k = at (accepting n starts neighbours) refl
   where
-    at : (o : Outcome (Unit {0})) → accepting n starts neighbours ≡ o → writingOf o (textOf n starts neighbours) buffer .answer ≡ answered k → k ≤ 24 * 16385
+    at : (o : Outcome (Unit {0})) → accepting n starts neighbours ≡ o → writingOf o (textOf n starts neighbours) buffer .answer ≡ answered k → k ≤ mostText
     at (refused r) h e = never e
     at (answered x) h e =
-        picked (λ (w : AfterWriting). w .answer ≡ answered k → k ≤ 24 * 16385) (ltb (length buffer) (length (textOf n starts neighbours))) _ _ (λ i e. never e) (λ i e.
+        picked (λ (w : AfterWriting). w .answer ≡ answered k → k ≤ mostText) (ltb (length buffer) (length (textOf n starts neighbours))) _ _ (λ i e. never e) (λ i e.
         let j : length (textOf n starts neighbours) ≡ k = cc in
         omega (arith, text-few n starts neighbours (accepting-facts n starts neighbours x h))) e
+
+-- the listing's length
+pub listing-fits : (text buffer : List ℕ) (k : ℕ) → writingListing text buffer .answer ≡ answered k → k ≡ length (listing text)
+unfolding writingOf
+listing-fits text buffer k =
+    picked (λ (w : AfterWriting). w .answer ≡ answered k → k ≡ length (listing text)) (ltb (length buffer) (length (listing text))) _ _ (λ i e. never e) (λ i e. cc)
 
 -- testing: the count of searches
 sources-few : (n : ℕ) (starts neighbours : List ℕ) (s : ℕ) → Accepted n starts neighbours → length (sources n s (neighboursOf starts neighbours)) ≤ 1024

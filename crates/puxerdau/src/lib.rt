@@ -1,21 +1,27 @@
 // The open calls for programs in C and other languages: numbers and slices go in, one number of 64 bits comes back. A slice is a
-// pointer and then a count of entries. `code` (crate `codes`) says where a refusal's number and an answer's values stand.
+// pointer and then a count of entries. Crate `codes` (specs/Code.antt) says where a refusal's number and an answer's values stand in that
+// number (`code`), and how they are read back from it (`decoded`), as include/puxerdau.h does.
 ghost use mathlib.Core.Path.{_≡_};
+ghost use Prim.Native.Nat.{_≤_};
 ghost use lib.ListN.{length};
-ghost use Rattle.model.specs.Survey.{accepting};
-ghost use Rattle.model.specs.Threshold.{thresholdAnswer};
+ghost use Rattle.model.specs.Survey.{neighboursOf, accepting};
+ghost use Rattle.model.specs.Graph.{linked};
+ghost use Rattle.model.specs.Threshold.{threshold, thresholdAnswer};
 ghost use Rattle.model.specs.Reading.{reading};
 ghost use Rattle.model.specs.Writing.{writing};
 ghost use Rattle.model.specs.Building.{building};
 ghost use Rattle.model.specs.Asking.{asking};
 ghost use Rattle.model.specs.Walking.{walking};
 ghost use Rattle.model.specs.Testing.{testing};
-ghost use Rattle.codes.specs.Code.{code, nothing, count, size, answerField, testField};
+ghost use Rattle.model.specs.Listing.{listing, writingListing};
+ghost use Rattle.model.specs.Demand.{ReadRight, WriteRight, BuildRight, AskRight, WalkSound, WalkRight, TestRight};
+ghost use Rattle.listing.specs.Length.{most};
+ghost use Rattle.codes.specs.Code.{code, noField, countField, sizeField, answerField, testField, decoded, noValue, countIn, answerIn, testIn, IsCode, readDecoded, writeDecoded, buildDecoded, walkDecoded};
 
 // The threshold of n nodes.
 #[no_mangle]
 pub extern "C" fn puxerdau_threshold(n: usize) -> u64
-    ensures { λ r. ⌜ r ≡ code count (thresholdAnswer n) ⌝ }
+    ensures { λ r. ⌜ IsCode countField countIn (thresholdAnswer n) r ⌝ }
 {
     codes::counting_code(threshold::threshold_of(n))
 }
@@ -23,9 +29,10 @@ pub extern "C" fn puxerdau_threshold(n: usize) -> u64
 // Reads a survey from its text into two lists.
 #[no_mangle]
 pub extern "C" fn puxerdau_read(text: &[u8], starts: &mut [u32], neighbours: &mut [u16]) -> u64
-    ensures { λ r. ⌜ r ≡ code size (reading (now (text .entry)) (length (now (starts .entry))) (length (now (neighbours .entry))) .answer) ⌝ }
-    ensures { λ _. ⌜ now (starts .exit) ≡ reading (now (text .entry)) (length (now (starts .entry))) (length (now (neighbours .entry))) .starts ⌝ }
-    ensures { λ _. ⌜ now (neighbours .exit) ≡ reading (now (text .entry)) (length (now (starts .entry))) (length (now (neighbours .entry))) .neighbours ⌝ }
+    ensures { λ r. ⌜ r ≡ code sizeField (reading (now (text .entry)) (length (now (starts .entry))) (length (now (neighbours .entry))) .answer) ⌝ }
+    ensures { λ r. ⌜ readDecoded r (now (starts .exit)) (now (neighbours .exit))
+        ≡ reading (now (text .entry)) (length (now (starts .entry))) (length (now (neighbours .entry))) ⌝ }
+    ensures { λ r. ⌜ ReadRight (now (text .entry)) (readDecoded r (now (starts .exit)) (now (neighbours .exit))) ⌝ }
 {
     codes::reading_code(reading::read_survey(text, starts, neighbours))
 }
@@ -38,8 +45,9 @@ pub extern "C" fn puxerdau_write(
     neighbours: &[u16],
     buffer: &mut [u8],
 ) -> u64
-    ensures { λ r. ⌜ r ≡ code count (writing n (now (starts .entry)) (now (neighbours .entry)) (now (buffer .entry)) .answer) ⌝ }
-    ensures { λ _. ⌜ now (buffer .exit) ≡ writing n (now (starts .entry)) (now (neighbours .entry)) (now (buffer .entry)) .buffer ⌝ }
+    ensures { λ r. ⌜ r ≡ code countField (writing n (now (starts .entry)) (now (neighbours .entry)) (now (buffer .entry)) .answer) ⌝ }
+    ensures { λ r. ⌜ writeDecoded r (now (buffer .exit)) ≡ writing n (now (starts .entry)) (now (neighbours .entry)) (now (buffer .entry)) ⌝ }
+    ensures { λ r. ⌜ WriteRight n (now (starts .entry)) (now (neighbours .entry)) (writeDecoded r (now (buffer .exit))) ⌝ }
 {
     codes::counting_code(writing::write_survey(n, starts, neighbours, buffer))
 }
@@ -47,7 +55,7 @@ pub extern "C" fn puxerdau_write(
 // Whether the lists are a survey's: the refusals that all calls over a survey share.
 #[no_mangle]
 pub extern "C" fn puxerdau_accept(n: usize, starts: &[u32], neighbours: &[u16]) -> u64
-    ensures { λ r. ⌜ r ≡ code nothing (accepting n (now (starts .entry)) (now (neighbours .entry))) ⌝ }
+    ensures { λ r. ⌜ IsCode noField noValue (accepting n (now (starts .entry)) (now (neighbours .entry))) r ⌝ }
 {
     codes::accepting_code(survey::accept(n, starts, neighbours))
 }
@@ -63,11 +71,11 @@ pub extern "C" fn puxerdau_build(
     report: &mut [u16],
     hubs: &mut [u16],
 ) -> u64
-    ensures { λ r. ⌜ r ≡ code count (building n (now (starts .entry)) (now (neighbours .entry)) (now (full .entry)) (now (low .entry)) (now (report .entry)) (now (hubs .entry)) .answer) ⌝ }
-    ensures { λ _. ⌜ now (full .exit) ≡ building n (now (starts .entry)) (now (neighbours .entry)) (now (full .entry)) (now (low .entry)) (now (report .entry)) (now (hubs .entry)) .full ⌝ }
-    ensures { λ _. ⌜ now (low .exit) ≡ building n (now (starts .entry)) (now (neighbours .entry)) (now (full .entry)) (now (low .entry)) (now (report .entry)) (now (hubs .entry)) .low ⌝ }
-    ensures { λ _. ⌜ now (report .exit) ≡ building n (now (starts .entry)) (now (neighbours .entry)) (now (full .entry)) (now (low .entry)) (now (report .entry)) (now (hubs .entry)) .report ⌝ }
-    ensures { λ _. ⌜ now (hubs .exit) ≡ building n (now (starts .entry)) (now (neighbours .entry)) (now (full .entry)) (now (low .entry)) (now (report .entry)) (now (hubs .entry)) .hubs ⌝ }
+    ensures { λ r. ⌜ r ≡ code countField (building n (now (starts .entry)) (now (neighbours .entry)) (now (full .entry)) (now (low .entry)) (now (report .entry)) (now (hubs .entry)) .answer) ⌝ }
+    ensures { λ r. ⌜ buildDecoded r (now (full .exit)) (now (low .exit)) (now (report .exit)) (now (hubs .exit))
+        ≡ building n (now (starts .entry)) (now (neighbours .entry)) (now (full .entry)) (now (low .entry)) (now (report .entry)) (now (hubs .entry)) ⌝ }
+    ensures { λ r. ⌜ BuildRight n (threshold n) (now (starts .entry)) (now (neighbours .entry))
+        (buildDecoded r (now (full .exit)) (now (low .exit)) (now (report .exit)) (now (hubs .exit))) ⌝ }
 {
     codes::counting_code(tables::build(n, starts, neighbours, full, low, report, hubs))
 }
@@ -82,7 +90,8 @@ pub extern "C" fn puxerdau_ask(
     a: usize,
     b: usize,
 ) -> u64
-    ensures { λ r. ⌜ r ≡ code answerField (asking n (now (full .entry)) (now (low .entry)) (now (report .entry)) a b) ⌝ }
+    ensures { λ r. ⌜ IsCode answerField answerIn (asking n (now (full .entry)) (now (low .entry)) (now (report .entry)) a b) r ⌝ }
+    ensures { λ r. ⌜ AskRight n (now (full .entry)) (now (low .entry)) (now (report .entry)) a b (decoded answerIn r) ⌝ }
 {
     codes::asking_code(pairs::ask(n, full, low, report, a, b))
 }
@@ -101,7 +110,11 @@ pub extern "C" fn puxerdau_walk(
     walk: &mut [u16],
 ) -> u64
     ensures { λ r. ⌜ r ≡ code answerField (walking n (now (starts .entry)) (now (neighbours .entry)) (now (full .entry)) (now (low .entry)) (now (report .entry)) a b (length (now (walk .entry))) .answer) ⌝ }
-    ensures { λ _. ⌜ now (walk .exit) ≡ walking n (now (starts .entry)) (now (neighbours .entry)) (now (full .entry)) (now (low .entry)) (now (report .entry)) a b (length (now (walk .entry))) .walk ⌝ }
+    ensures { λ r. ⌜ walkDecoded r (now (walk .exit))
+        ≡ walking n (now (starts .entry)) (now (neighbours .entry)) (now (full .entry)) (now (low .entry)) (now (report .entry)) a b (length (now (walk .entry))) ⌝ }
+    ensures { λ r. ⌜ WalkSound (linked n (neighboursOf (now (starts .entry)) (now (neighbours .entry)))) a b (walkDecoded r (now (walk .exit))) ⌝ }
+    ensures { λ r. ⌜ WalkRight n (threshold n) (now (starts .entry)) (now (neighbours .entry)) (now (full .entry)) (now (low .entry)) (now (report .entry)) a b
+        (length (now (walk .entry))) (walkDecoded r (now (walk .exit))) ⌝ }
 {
     codes::asking_code(walks::write_walk(n, starts, neighbours, full, low, report, a, b, walk))
 }
@@ -109,7 +122,18 @@ pub extern "C" fn puxerdau_walk(
 // The two-or-four test of a survey.
 #[no_mangle]
 pub extern "C" fn puxerdau_test(n: usize, starts: &[u32], neighbours: &[u16]) -> u64
-    ensures { λ r. ⌜ r ≡ code testField (testing n (now (starts .entry)) (now (neighbours .entry))) ⌝ }
+    ensures { λ r. ⌜ IsCode testField testIn (testing n (now (starts .entry)) (now (neighbours .entry))) r ⌝ }
+    ensures { λ r. ⌜ TestRight n (now (starts .entry)) (now (neighbours .entry)) (decoded testIn r) ⌝ }
 {
     codes::testing_code(verdict::test(n, starts, neighbours))
+}
+
+// Writes the listing of a text into a buffer.
+#[no_mangle]
+pub extern "C" fn puxerdau_list(text: &[u8], buffer: &mut [u8]) -> u64
+    ensures { λ r. ⌜ r ≡ code countField (writingListing (now (text .entry)) (now (buffer .entry)) .answer) ⌝ }
+    ensures { λ r. ⌜ writeDecoded r (now (buffer .exit)) ≡ writingListing (now (text .entry)) (now (buffer .entry)) ⌝ }
+    ensures { λ _. ⌜ length (listing (now (text .entry))) ≤ most ⌝ }
+{
+    codes::counting_code(listing::write_listing(text, buffer))
 }

@@ -16,12 +16,14 @@ use Rattle.model.specs.Survey.{Graph, neighboursOf, badSize, isSurvey, Accepted
 use Rattle.model.specs.Threshold.{threshold}
 use Rattle.model.specs.Hubs.{hubs}
 use Rattle.model.specs.Tables.{shortTables, fullOf, fullTable, lowTable, reportOf, reportTable, hubList}
-use Rattle.model.specs.Building.{shortLists, built, building, buildReturned}
+use Rattle.model.specs.Building.{AfterBuilding, shortLists, built, building, buildReturned}
+use Rattle.model.specs.Demand.{BuildRight}
 use Rattle.model.proofs.Acceptance.{good-size, survey-facts}
 use Rattle.model.proofs.Covering.{hubs-below}
-use Rattle.model.proofs.Demand.{building-answers}
+use Rattle.model.proofs.Demand.{building-answers, building-right}
 use Rattle.model.proofs.Tests.{of-or-false, true-T, not-and, not-leb, not-ltb}
 use Rattle.model.proofs.Entries.{of-long-tables}
+use Rattle.model.proofs.Outcomes.{promised}
 use Rattle.hubs.proofs.Greedy.{hubs-front}
 use Rattle.report_table.proofs.Reports.{report-same}
 
@@ -68,18 +70,25 @@ module _ (n : ℕ) (starts neighbours full low report list : List ℕ) where
   abbrev short : Bool
   short = shortLists n (length starts) (length full) (length low) (length report) (length list)
 
-  pub build-size : badSize n ≡ true → buildReturned (counting.Refused NodeCount) full low report list ≡ building n starts neighbours full low report list
+  -- what building promises
+  abbrev pub Promised : AfterBuilding → Type 0
+  Promised r = (r ≡ building n starts neighbours full low report list) × BuildRight n (threshold n) starts neighbours r
+
+  kept : {r : AfterBuilding} → r ≡ building n starts neighbours full low report list → Promised r
+  kept e = promised (BuildRight n (threshold n) starts neighbours) (building-right n starts neighbours full low report list) e
+
+  pub build-size : badSize n ≡ true → Promised (buildReturned (counting.Refused NodeCount) full low report list)
   unfolding building
-  build-size b = rw b refl
+  build-size b = kept (rw b refl)
 
   module _ (size : (1 ≤ n) × (n ≤ 1024)) where
-    pub build-short : short ≡ true → buildReturned (counting.Refused ShortList) full low report list ≡ building n starts neighbours full low report list
+    pub build-short : short ≡ true → Promised (buildReturned (counting.Refused ShortList) full low report list)
     unfolding building
-    build-short h = rw (good-size n (size .0) (size .1), h) refl
+    build-short h = kept (rw (good-size n (size .0) (size .1), h) refl)
 
-    pub build-other : short ≡ false → isSurvey n starts neighbours ≡ false → buildReturned (counting.Refused NotSurvey) full low report list ≡ building n starts neighbours full low report list
+    pub build-other : short ≡ false → isSurvey n starts neighbours ≡ false → Promised (buildReturned (counting.Refused NotSurvey) full low report list)
     unfolding building
-    build-other h i = rw (good-size n (size .0) (size .1), h, i) refl
+    build-other h i = kept (rw (good-size n (size .0) (size .1), h, i) refl)
 
     pub build-room : short ≡ false → (n + 1 ≤ length starts) × (n * n ≤ length full) × (n * n ≤ length low) × (n * n ≤ length report) × (n ≤ length list)
     build-room h =
@@ -100,8 +109,10 @@ module _ (n : ℕ) (starts neighbours full low report list : List ℕ) where
 
     pub build-done : (h : short ≡ false) (i : isSurvey n starts neighbours ≡ true) (full′ low′ report′ list′ : List ℕ) (k s : ℕ) → s ≡ threshold n
         → record { answer = answered k; full = full′; low = low′; report = report′; hubs = list′ } ≡ built n s (neighboursOf starts neighbours) full low report list
-        → buildReturned (counting.Count k) full′ low′ report′ list′ ≡ building n starts neighbours full low report list
+        → Promised (buildReturned (counting.Count k) full′ low′ report′ list′)
     build-done h i full′ low′ report′ list′ k s t e =
         let r = build-room h in
+        kept (
         e ∙ ap (λ (x : ℕ). built n x (neighboursOf starts neighbours) full low report list) t
         ∙ sym (building-answers n starts neighbours (build-accepted h i) full low report list (r .1) (r .2) (r .3) (r .4))
+        )

@@ -7,7 +7,9 @@ ghost use Prim.Native.Nat.{_*_, _≤_};
 ghost use lib.ListN.{length};
 ghost use Rattle.model.specs.Survey.{neighboursOf, Accepted};
 ghost use Rattle.model.specs.Answers.{answered};
+ghost use Rattle.model.specs.Threshold.{threshold};
 ghost use Rattle.model.specs.Building.{shortLists, built, buildReturned, building};
+ghost use Rattle.model.specs.Demand.{BuildRight};
 
 // The hub list and the three tables for threshold s; the count of hubs is returned.
 pub fn build_tables(
@@ -41,7 +43,7 @@ fn has_room(n: usize, starts: usize, full: usize, low: usize, report: usize, hub
     (n < starts) & (entries <= full) & (entries <= low) & (entries <= report) & (n <= hubs)
 }
 
-// Builds the three tables and the hub list of a survey.
+// Builds the three tables and the hub list of a survey. Not refused, they are the ones that are built from it.
 pub fn build(
     n: usize,
     starts: &[u32],
@@ -53,6 +55,8 @@ pub fn build(
 ) -> Counting
     ensures { λ r. ⌜ buildReturned r (now (full .exit)) (now (low .exit)) (now (report .exit)) (now (hubs .exit))
         ≡ building n (now (starts .entry)) (now (neighbours .entry)) (now (full .entry)) (now (low .entry)) (now (report .entry)) (now (hubs .entry)) ⌝ }
+    ensures { λ r. ⌜ BuildRight n (threshold n) (now (starts .entry)) (now (neighbours .entry))
+        (buildReturned r (now (full .exit)) (now (low .exit)) (now (report .exit)) (now (hubs .exit))) ⌝ }
 {
     if n < 1 {
         return Counting::Refused(Refusal::NodeCount);

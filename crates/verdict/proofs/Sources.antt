@@ -19,10 +19,11 @@ use Rattle.model.specs.Answers.{Outcome, refused, answered, number, mapAnswer}
 use Rattle.model.specs.Survey.{Graph, neighboursOf, accepting, Accepted}
 use Rattle.model.specs.Threshold.{threshold}
 use Rattle.model.specs.Testing.{testing}
-use Rattle.model.specs.Demand.{RightVerdict}
+use Rattle.model.specs.Demand.{TestRight}
 use Rattle.model.specs.Hubs.{isLow, closed, hubs}
 use Rattle.model.specs.TwoOrFour.{sources, verdictOf, testResult}
 use Rattle.model.proofs.Demand.{testing-right}
+use Rattle.model.proofs.Outcomes.{promised}
 use Rattle.model.proofs.Lists.{First, found, nothing, first-below, first-of, first-is}
 use Rattle.degrees.proofs.Degrees.{low-are}
 use Rattle.model.specs.Tables.{rowsOf}
@@ -87,10 +88,10 @@ module _ (n s : ℕ) (G : Graph) (list : List ℕ) (count : ℕ) (c : count ≡ 
 
 module _ (n : ℕ) (starts neighbours : List ℕ) where
   abbrev Right : Outcome TestResult → Type 0
-  Right o = (o ≡ testing n starts neighbours) × (Accepted n starts neighbours → RightVerdict n (linked n (neighboursOf starts neighbours)) o)
+  Right o = (o ≡ testing n starts neighbours) × TestRight n starts neighbours o
 
   right : (o : Outcome TestResult) → o ≡ testing n starts neighbours → Right o
-  right o e = (e, λ acc. subst (λ (x : Outcome TestResult). RightVerdict n (linked n (neighboursOf starts neighbours)) x) (sym e) (testing-right n starts neighbours acc))
+  right o e = promised (TestRight n starts neighbours) (testing-right n starts neighbours) e
 
   pub test-refused : (r : Refusal) → refused (number r) ≡ accepting n starts neighbours → Right (refused (number r))
   unfolding testing

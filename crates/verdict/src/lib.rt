@@ -6,11 +6,10 @@ ghost use mathlib.Core.Path.{_≡_};
 ghost use Prim.Native.Nat.{_≤_};
 ghost use lib.ListN.{length, take};
 ghost use Rattle.model.specs.Answers.{testAnswer};
-ghost use Rattle.model.specs.Graph.{linked};
 ghost use Rattle.model.specs.Survey.{neighboursOf, Accepted};
 ghost use Rattle.model.specs.TwoOrFour.{sources, testResult};
 ghost use Rattle.model.specs.Testing.{testing};
-ghost use Rattle.model.specs.Demand.{RightVerdict};
+ghost use Rattle.model.specs.Demand.{TestRight};
 
 // The nodes to search from, in the front of the list, and their count: the smallest low node and its neighbours, or else the hubs.
 fn find_sources(n: usize, s: usize, starts: &[u32], neighbours: &[u16], list: &mut [u16]) -> usize
@@ -47,8 +46,7 @@ fn run_test(n: usize, s: usize, starts: &[u32], neighbours: &[u16]) -> TestResul
 // The two-or-four test of a survey. For every accepted survey it is not refused, and the verdict is right.
 pub fn test(n: usize, starts: &[u32], neighbours: &[u16]) -> Testing
     ensures { λ r. ⌜ testAnswer r ≡ testing n (now (starts .entry)) (now (neighbours .entry)) ⌝ }
-    ensures { λ r. ⌜ (Accepted n (now (starts .entry)) (now (neighbours .entry))
-        → RightVerdict n (linked n (neighboursOf (now (starts .entry)) (now (neighbours .entry)))) (testAnswer r)) ⌝ }
+    ensures { λ r. ⌜ TestRight n (now (starts .entry)) (now (neighbours .entry)) (testAnswer r) ⌝ }
 {
     match survey::accept(n, starts, neighbours) {
         Accepting::Refused(r) => Testing::Refused(r),

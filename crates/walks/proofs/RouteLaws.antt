@@ -1,6 +1,6 @@
 -- The walk of each route, and what writing a walk promises.
 -- Assumes nothing.
-use mathlib.Core.Path.{_≡_, refl, sym, ap, _∙_, subst}
+use mathlib.Core.Path.{_≡_, refl, sym, ap, _∙_}
 use mathlib.Core.List.{List, [], _∷_}
 use Prim.Native.Nat.{ℕ, _≤_, _<_}
 use native.Mathlib.Omega.{arith}
@@ -11,15 +11,14 @@ use Rattle.model.specs.declared.Route.the-variants.{Itself, Low, Through, NoRou
 use Rattle.model.specs.declared.Answer.{Answer}
 use Rattle.model.specs.Answers.{Outcome, refused, answered}
 use Rattle.model.specs.Basics.{none, over}
-use Rattle.model.specs.Survey.{Graph, neighboursOf, Accepted}
+use Rattle.model.specs.Survey.{Graph, neighboursOf}
 use Rattle.model.specs.Graph.{linked}
 use Rattle.model.specs.Threshold.{threshold}
-use Rattle.model.specs.Tables.{AreBuilt}
-use Rattle.model.specs.Asking.{asking}
 use Rattle.model.specs.Walk.{byLow, toHub, join, nodes}
 use Rattle.model.specs.Walking.{AfterWalking, refuseWalk, fit, walkOf, walking}
-use Rattle.model.specs.Demand.{AllowedAnswer, WalkSound, WalkAnswers}
-use Rattle.model.proofs.Demand.{walking-sound, asking-right, walking-right}
+use Rattle.model.specs.Demand.{WalkSound, WalkRight}
+use Rattle.model.proofs.Demand.{walking-sound, walking-right}
+use Rattle.model.proofs.Outcomes.{promised}
 use Rattle.routes.proofs.FitLaws.{outcome, fit-short, fit-given}
 
 -- ---- the nodes of each route
@@ -61,20 +60,12 @@ module _ (n : ℕ) (starts neighbours full low report : List ℕ) (a b w : ℕ) 
   abbrev pub Written : AfterWalking → Type 0
   Written r = (r ≡ walking n starts neighbours full low report a b w)
       × (WalkSound (linked n (neighboursOf starts neighbours)) a b r
-      × (Accepted n starts neighbours → AreBuilt n (threshold n) (neighboursOf starts neighbours) full low report → a < n → b < n
-      → AllowedAnswer (linked n (neighboursOf starts neighbours)) a b (asking n full low report a b) × WalkAnswers w (asking n full low report a b) r))
+      × WalkRight n (threshold n) starts neighbours full low report a b w r)
 
   written : {r : AfterWalking} → r ≡ walking n starts neighbours full low report a b w → Written r
-  written e = (
-    e,
-    (
-      subst (λ (r : AfterWalking). WalkSound (linked n G) a b r) (sym e) (walking-sound n starts neighbours full low report a b w),
-      λ acc own ha hb. (
-        asking-right n starts neighbours acc full low report own a b ha hb,
-        subst (λ (r : AfterWalking). WalkAnswers w (asking n full low report a b) r) (sym e) (walking-right n starts neighbours acc full low report own a b ha hb w),
-      ),
-    ),
-  )
+  written e =
+      promised (λ (r : AfterWalking). WalkSound (linked n G) a b r × WalkRight n (threshold n) starts neighbours full low report a b w r)
+      (walking-sound n starts neighbours full low report a b w, walking-right n starts neighbours full low report a b w) e
 
   -- after the walk list became all none: refused before any step, or as the route says
   module _ {o : Outcome Answer} (judged : (w : ℕ) → walking n starts neighbours full low report a b w ≡ walkOf w n (threshold n) (neighboursOf starts neighbours) full low a b o) where

@@ -4,18 +4,16 @@ use model::Asking;
 use model::Refusal;
 use model::Route;
 ghost use mathlib.Core.Path.{_≡_};
-ghost use Prim.Native.Nat.{ℕ, _<_};
+ghost use Prim.Native.Nat.{ℕ};
 ghost use lib.ListN.{length, replicate};
 ghost use Rattle.model.specs.Basics.{none};
 ghost use Rattle.model.specs.Answers.{pairAnswer, answered};
-ghost use Rattle.model.specs.Survey.{neighboursOf, Accepted};
+ghost use Rattle.model.specs.Survey.{neighboursOf};
 ghost use Rattle.model.specs.Graph.{linked};
 ghost use Rattle.model.specs.Threshold.{threshold};
-ghost use Rattle.model.specs.Tables.{AreBuilt};
-ghost use Rattle.model.specs.Asking.{asking};
 ghost use Rattle.model.specs.Walk.{nodes};
 ghost use Rattle.model.specs.Walking.{walkReturned, fit, walkOf, walking};
-ghost use Rattle.model.specs.Demand.{AllowedAnswer, WalkSound, WalkAnswers};
+ghost use Rattle.model.specs.Demand.{WalkSound, WalkRight};
 ghost use Rattle.walks.specs.Ready.{Ready};
 
 // Writes the walk of an answer into a list that is all none.
@@ -107,11 +105,8 @@ pub fn write_walk(
     ensures { λ r. ⌜ walkReturned r (now (walk .exit))
         ≡ walking n (now (starts .entry)) (now (neighbours .entry)) (now (full .entry)) (now (low .entry)) (now (report .entry)) a b (length (now (walk .entry))) ⌝ }
     ensures { λ r. ⌜ WalkSound (linked n (neighboursOf (now (starts .entry)) (now (neighbours .entry)))) a b (walkReturned r (now (walk .exit))) ⌝ }
-    ensures { λ r. ⌜ (Accepted n (now (starts .entry)) (now (neighbours .entry))
-        → AreBuilt n (threshold n) (neighboursOf (now (starts .entry)) (now (neighbours .entry))) (now (full .entry)) (now (low .entry)) (now (report .entry))
-        → a < n → b < n
-        → AllowedAnswer (linked n (neighboursOf (now (starts .entry)) (now (neighbours .entry)))) a b (asking n (now (full .entry)) (now (low .entry)) (now (report .entry)) a b)
-        × WalkAnswers (length (now (walk .entry))) (asking n (now (full .entry)) (now (low .entry)) (now (report .entry)) a b) (walkReturned r (now (walk .exit)))) ⌝ }
+    ensures { λ r. ⌜ WalkRight n (threshold n) (now (starts .entry)) (now (neighbours .entry)) (now (full .entry)) (now (low .entry)) (now (report .entry)) a b
+        (length (now (walk .entry))) (walkReturned r (now (walk .exit))) ⌝ }
 {
     lists::fill16(walk, model::NONE);
     match judge(n, starts, neighbours, full, low, report, a, b) {

@@ -16,11 +16,13 @@ use Rattle.model.specs.Answers.{Outcome, refused, answered, number}
 use Rattle.model.specs.Basics.{from, upTo, keep, gather, over}
 use Rattle.model.specs.SurveyText.{lineOf, linkLines, surveyText, ordered}
 use Rattle.model.specs.Survey.{Graph, neighboursOf, accepting, Accepted}
-use Rattle.model.specs.Writing.{textOf, writeReturned, writingOf, writing}
+use Rattle.model.specs.Writing.{textOf, AfterWriting, writeReturned, writingOf, writing}
+use Rattle.model.specs.Demand.{WriteRight}
+use Rattle.model.proofs.Outcomes.{promised}
 use Rattle.model.proofs.Acceptance.{accepting-facts}
 use Rattle.model.proofs.Lists.{keep-append, map-append, gather-append, gather-gather}
 use Rattle.model.proofs.Loops.{drop-next, gather-next, gather-end}
-use Rattle.model.proofs.ReadBack.{writing-answers, write-short}
+use Rattle.model.proofs.ReadBack.{writing-answers, write-short, writing-right}
 use Rattle.model.proofs.SurveyLists.{start-last}
 use Rattle.survey.proofs.RowLaws.{rows-of, own-length}
 use Rattle.writing.specs.Lines.{linesOf}
@@ -177,20 +179,29 @@ module _ (n : ℕ) (starts neighbours : List ℕ) (acc : Accepted n starts neigh
 -- ---- the whole call
 
 module _ (n : ℕ) (starts neighbours buffer : List ℕ) where
-  pub writing-refused : (r : Refusal) → refused (number r) ≡ accepting n starts neighbours → writeReturned (counting.Refused r) buffer ≡ writing n starts neighbours buffer
+  -- what writing back promises
+  abbrev pub Promised : AfterWriting → Type 0
+  Promised r = (r ≡ writing n starts neighbours buffer) × WriteRight n starts neighbours r
+
+  kept : {r : AfterWriting} → r ≡ writing n starts neighbours buffer → Promised r
+  kept e = promised (WriteRight n starts neighbours) (writing-right n starts neighbours buffer) e
+
+  pub writing-refused : (r : Refusal) → refused (number r) ≡ accepting n starts neighbours → Promised (writeReturned (counting.Refused r) buffer)
   unfolding writing writingOf
-  writing-refused r e = ap (λ (o : Outcome (Unit {0})). writingOf o (textOf n starts neighbours) buffer) e
+  writing-refused r e = kept (ap (λ (o : Outcome (Unit {0})). writingOf o (textOf n starts neighbours) buffer) e)
 
   module _ (e : answered tt ≡ accepting n starts neighbours) where
-    pub writing-short : length buffer < length (textOf n starts neighbours) → writeReturned (counting.Refused ShortBuffer) buffer ≡ writing n starts neighbours buffer
+    pub writing-short : length buffer < length (textOf n starts neighbours) → Promised (writeReturned (counting.Refused ShortBuffer) buffer)
     unfolding writing
-    writing-short h =
+    writing-short h = kept (
         sym (write-short (textOf n starts neighbours) buffer h)
         ∙ ap (λ (o : Outcome (Unit {0})). writingOf o (textOf n starts neighbours) buffer) e
+        )
 
     pub writing-whole : length (textOf n starts neighbours) ≤ length buffer
         → (b : List ℕ) (k : ℕ) → b ≡ over (textOf n starts neighbours) buffer → k ≡ length (textOf n starts neighbours)
-        → writeReturned (counting.Count k) b ≡ writing n starts neighbours buffer
-    writing-whole h b k i j =
+        → Promised (writeReturned (counting.Count k) b)
+    writing-whole h b k i j = kept (
         ap₂ (λ (x : List ℕ) (y : ℕ). writeReturned (counting.Count y) x) i j
         ∙ sym (writing-answers n starts neighbours (accepting-facts n starts neighbours tt (sym e)) buffer h)
+        )

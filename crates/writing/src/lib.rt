@@ -10,6 +10,7 @@ ghost use Rattle.lists.specs.Writing.{Wrote};
 ghost use Rattle.model.specs.Basics.{over};
 ghost use Rattle.model.specs.Survey.{Accepted};
 ghost use Rattle.model.specs.Writing.{textOf, writing, writeReturned};
+ghost use Rattle.model.specs.Demand.{WriteRight};
 ghost use Rattle.writing.specs.Lines.{linesOf};
 
 // The length of the line of link a-b, which is written at its smaller node.
@@ -89,9 +90,10 @@ fn write_text(n: usize, starts: &[u32], neighbours: &[u16], buffer: &mut [u8])
     }
 }
 
-// Writes a survey's text into a buffer.
+// Writes a survey's text into a buffer. What was written is read back as the same survey.
 pub fn write_survey(n: usize, starts: &[u32], neighbours: &[u16], buffer: &mut [u8]) -> Counting
     ensures { λ r. ⌜ writeReturned r (now (buffer .exit)) ≡ writing n (now (starts .entry)) (now (neighbours .entry)) (now (buffer .entry)) ⌝ }
+    ensures { λ r. ⌜ WriteRight n (now (starts .entry)) (now (neighbours .entry)) (writeReturned r (now (buffer .exit))) ⌝ }
 {
     match survey::accept(n, starts, neighbours) {
         Accepting::Refused(r) => Counting::Refused(r),

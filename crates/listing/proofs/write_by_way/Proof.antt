@@ -43,7 +43,7 @@ returns-2 c =
     let start = c .before .before .before .before .before .before .before .before .before .before .before .before .before in
     let wrote = c .before .before .before .before .before .before .before .before .write-text in (
       listing-whole (listing (start .args .text .now)) _ (wrote .last .1 .0) (wrote .result) (wrote .ensures) (start .args .buffer .now)
-      (c .before .before .before .before .before .if1 .left) _ _ (c .before .before .copy8 .ensures),
+          (c .before .before .before .before .before .if1 .left) _ _ (c .before .before .copy8 .ensures),
       listing-fits (listing (start .args .text .now)) _ (wrote .last .1 .0) (wrote .result) (wrote .ensures) (wrote .kept .1 .0 ∙ start .pre),
     )
 

@@ -1,7 +1,8 @@
--- `puxerdau::puxerdau_accept` meets its contract: the call's outcome, in code.
+-- `puxerdau::puxerdau_accept` meets its contract: the outcome, in code.
 -- Assumes nothing.
-use mathlib.Core.Path.{ap, _∙_}
-use Rattle.codes.specs.Code.{code, nothing}
+use mathlib.Core.Path.{subst}
+use Rattle.model.specs.Answers.{Outcome}
+use Rattle.codes.specs.Code.{noField, noValue, IsCode}
 use borrow.Author.Needs.{needs}
 use Rattle.puxerdau.proofs.puxerdau_accept.Statement.{statement}
 use Rattle.puxerdau.proofs.puxerdau_accept.Tie as tie
@@ -13,7 +14,7 @@ accepting-code-requires : tie.Need-accepting-code-requires
 accepting-code-requires c κs = search needs
 
 returns : tie.Need-returns
-returns c = (c .accepting-code .ensures) ∙ ap (code nothing) (c .before .accept .ensures)
+returns c = subst (λ (o : Outcome (Unit {0})). IsCode noField noValue o (c .accepting-code .result)) (c .before .accept .ensures) (c .accepting-code .ensures)
 
 pub puxerdau-accept-spec : {M : Type 1} → statement M
 puxerdau-accept-spec = tie.close (tie.spec accept-requires accepting-code-requires returns)

@@ -1,7 +1,10 @@
--- `puxerdau::puxerdau_ask` meets its contract: the call's outcome, in code.
+-- `puxerdau::puxerdau_ask` meets its contract: the outcome, in code, and what asking promises of it.
 -- Assumes nothing.
-use mathlib.Core.Path.{ap, _∙_}
-use Rattle.codes.specs.Code.{code, answerField}
+use mathlib.Core.Path.{sym, subst}
+use Rattle.model.specs.declared.Answer.{Answer}
+use Rattle.model.specs.Answers.{Outcome}
+use Rattle.model.specs.Demand.{AskRight}
+use Rattle.codes.specs.Code.{answerField, answerIn, IsCode}
 use borrow.Author.Needs.{needs}
 use Rattle.puxerdau.proofs.puxerdau_ask.Statement.{statement}
 use Rattle.puxerdau.proofs.puxerdau_ask.Tie as tie
@@ -13,7 +16,12 @@ asking-code-requires : tie.Need-asking-code-requires
 asking-code-requires c κs = search needs
 
 returns : tie.Need-returns
-returns c = (c .asking-code .ensures) ∙ ap (code answerField) ((c .before .ask .ensures .0))
+returns c =
+    let asked = c .before .ask .ensures in
+    let coded = c .asking-code .ensures in (
+      subst (λ (o : Outcome Answer). IsCode answerField answerIn o (c .asking-code .result)) (asked .0) coded,
+      subst (AskRight _ _ _ _ _ _) (sym (coded .back)) (asked .1),
+    )
 
 pub puxerdau-ask-spec : {M : Type 1} → statement M
 puxerdau-ask-spec = tie.close (tie.spec ask-requires asking-code-requires returns)

@@ -1,10 +1,12 @@
--- `puxerdau::puxerdau_build` meets its contract: the call's outcome, in code.
+-- `puxerdau::puxerdau_build` meets its contract: the outcome, in code, and what building promises of it.
 -- Assumes nothing.
-use mathlib.Core.Path.{sym, ap, _∙_}
-use Rattle.puxerdau.proofs.Fits.{hubs-fit}
+use mathlib.Core.Path.{refl, sym, ap, _∙_}
 use native.Mathlib.Omega.{arith}
-use Rattle.codes.specs.Code.{code, count}
 use Rattle.model.specs.Building.{AfterBuilding}
+use Rattle.model.specs.Demand.{BuildRight}
+use Rattle.codes.specs.Code.{countField, countIn}
+use Rattle.codes.proofs.Decoding.{passed-on}
+use Rattle.puxerdau.proofs.Fits.{hubs-fit}
 use borrow.Author.Needs.{needs}
 use Rattle.puxerdau.proofs.puxerdau_build.Statement.{statement}
 use Rattle.puxerdau.proofs.puxerdau_build.Tie as tie
@@ -13,7 +15,14 @@ build-requires : tie.Need-build-requires
 build-requires c κs = search needs
 
 counting-code-requires : tie.Need-counting-code-requires
-counting-code-requires c κs = λ k e. omega (arith, hubs-fit (c .before .before .before .before .before .before .before .before .before .before .before .before .before .before .before .before .before .before .before .args .n) (c .before .before .before .before .before .before .before .before .before .before .before .before .before .before .before .before .before .before .before .args .starts .now) (c .before .before .before .before .before .before .before .before .before .before .before .before .before .before .before .before .before .before .before .args .neighbours .now) (c .before .before .before .before .before .before .before .before .before .before .before .before .before .before .before .before .before .before .before .args .full .now) (c .before .before .before .before .before .before .before .before .before .before .before .before .before .before .before .before .before .before .before .args .low .now) (c .before .before .before .before .before .before .before .before .before .before .before .before .before .before .before .before .before .before .before .args .report .now) (c .before .before .before .before .before .before .before .before .before .before .before .before .before .before .before .before .before .before .before .args .hubs .now) k (sym (ap (λ (x : AfterBuilding). x .answer) (c .before .before .before .before .before .before .before .before .build .ensures)) ∙ e))
+counting-code-requires c κs =
+    let start = c .before .before .before .before .before .before .before .before .before .before .before .before .before .before .before .before .before .before .before in
+    let call = c .before .before .before .before .before .before .before .before .build in
+    λ k e. omega (
+      arith,
+      hubs-fit (start .args .n) (start .args .starts .now) (start .args .neighbours .now) (start .args .full .now) (start .args .low .now)
+          (start .args .report .now) (start .args .hubs .now) k (sym (ap (λ (x : AfterBuilding). x .answer) (call .ensures .0)) ∙ e),
+    )
 
 same-length : tie.Need-same-length
 same-length c = search needs
@@ -28,7 +37,11 @@ same-length-4 : tie.Need-same-length-4
 same-length-4 c = search needs
 
 returns : tie.Need-returns
-returns c = ((c .counting-code .ensures) ∙ ap (λ (x : AfterBuilding). code count (x .answer)) (c .before .before .before .before .before .before .before .before .before .build .ensures), (ap (λ (x : AfterBuilding). x .full) (c .before .before .before .before .before .before .before .before .before .build .ensures), (ap (λ (x : AfterBuilding). x .low) (c .before .before .before .before .before .before .before .before .before .build .ensures), (ap (λ (x : AfterBuilding). x .report) (c .before .before .before .before .before .before .before .before .before .build .ensures), ap (λ (x : AfterBuilding). x .hubs) (c .before .before .before .before .before .before .before .before .before .build .ensures)))))
+returns c =
+    let call = c .before .before .before .before .before .before .before .before .before .build in
+    passed-on countField countIn (λ (x : AfterBuilding). x .answer)
+    (λ o. record { answer = o; full = call .last .1 .1 .1 .0; low = call .last .1 .1 .1 .1 .0; report = call .last .1 .1 .1 .1 .1 .0; hubs = call .last .1 .1 .1 .1 .1 .1 .0 })
+    (BuildRight _ _ _ _) (λ o. refl) (c .counting-code .ensures) (call .ensures .0) (call .ensures .1)
 
 pub puxerdau-build-spec : {M : Type 1} → statement M
 puxerdau-build-spec =

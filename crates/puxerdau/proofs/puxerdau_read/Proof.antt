@@ -1,11 +1,13 @@
--- `puxerdau::puxerdau_read` meets its contract: the call's outcome, in code.
+-- `puxerdau::puxerdau_read` meets its contract: the outcome, in code, and what reading promises of it.
 -- Assumes nothing.
-use mathlib.Core.Path.{sym, ap, _∙_}
-use Rattle.puxerdau.proofs.Fits.{read-fits}
+use mathlib.Core.Path.{refl, sym, ap, _∙_}
 use native.Mathlib.Omega.{arith}
 use lib.ListN.{length}
-use Rattle.codes.specs.Code.{code, size}
 use Rattle.model.specs.Reading.{AfterReading}
+use Rattle.model.specs.Demand.{ReadRight}
+use Rattle.codes.specs.Code.{sizeField, sizeIn}
+use Rattle.codes.proofs.Decoding.{passed-on}
+use Rattle.puxerdau.proofs.Fits.{read-fits}
 use borrow.Author.Needs.{needs}
 use Rattle.puxerdau.proofs.puxerdau_read.Statement.{statement}
 use Rattle.puxerdau.proofs.puxerdau_read.Tie as tie
@@ -14,7 +16,13 @@ read-survey-requires : tie.Need-read-survey-requires
 read-survey-requires c κs = search needs
 
 reading-code-requires : tie.Need-reading-code-requires
-reading-code-requires c κs = λ s e. let f = read-fits (c .before .before .before .before .before .before .before .before .before .before .args .text .now) (length (c .before .before .before .before .before .before .before .before .before .before .args .starts .now)) (length (c .before .before .before .before .before .before .before .before .before .before .args .neighbours .now)) s (sym (ap (λ (x : AfterReading). x .answer) ((c .before .before .before .before .read-survey .ensures .0))) ∙ e) in (omega (arith, f .0), omega (arith, f .1))
+reading-code-requires c κs =
+    let start = c .before .before .before .before .before .before .before .before .before .before in
+    let call = c .before .before .before .before .read-survey in
+    λ s e.
+    let f = read-fits (start .args .text .now) (length (start .args .starts .now)) (length (start .args .neighbours .now)) s
+    (sym (ap (λ (x : AfterReading). x .answer) (call .ensures .0)) ∙ e) in
+    (omega (arith, f .0), omega (arith, f .1))
 
 same-length : tie.Need-same-length
 same-length c = search needs
@@ -23,7 +31,11 @@ same-length-2 : tie.Need-same-length-2
 same-length-2 c = search needs
 
 returns : tie.Need-returns
-returns c = ((c .reading-code .ensures) ∙ ap (λ (x : AfterReading). code size (x .answer)) ((c .before .before .before .before .before .read-survey .ensures .0)), (ap (λ (x : AfterReading). x .starts) ((c .before .before .before .before .before .read-survey .ensures .0)), ap (λ (x : AfterReading). x .neighbours) ((c .before .before .before .before .before .read-survey .ensures .0))))
+returns c =
+    let call = c .before .before .before .before .before .read-survey in
+    passed-on sizeField sizeIn (λ (x : AfterReading). x .answer)
+    (λ o. record { answer = o; starts = call .last .1 .0; neighbours = call .last .1 .1 .0 })
+    (ReadRight _) (λ o. refl) (c .reading-code .ensures) (call .ensures .0) (call .ensures .1)
 
 pub puxerdau-read-spec : {M : Type 1} → statement M
 puxerdau-read-spec =

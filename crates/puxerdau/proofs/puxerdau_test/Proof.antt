@@ -1,9 +1,12 @@
--- `puxerdau::puxerdau_test` meets its contract: the call's outcome, in code.
+-- `puxerdau::puxerdau_test` meets its contract: the outcome, in code, and what testing promises of it.
 -- Assumes nothing.
-use mathlib.Core.Path.{sym, ap, _∙_}
-use Rattle.puxerdau.proofs.Fits.{searches-fit}
+use mathlib.Core.Path.{sym, _∙_, subst}
 use native.Mathlib.Omega.{arith}
-use Rattle.codes.specs.Code.{code, testField}
+use Rattle.model.specs.declared.TestResult.{TestResult}
+use Rattle.model.specs.Answers.{Outcome}
+use Rattle.model.specs.Demand.{TestRight}
+use Rattle.codes.specs.Code.{testField, testIn, IsCode}
+use Rattle.puxerdau.proofs.Fits.{searches-fit}
 use borrow.Author.Needs.{needs}
 use Rattle.puxerdau.proofs.puxerdau_test.Statement.{statement}
 use Rattle.puxerdau.proofs.puxerdau_test.Tie as tie
@@ -12,10 +15,15 @@ test-requires : tie.Need-test-requires
 test-requires c κs = search needs
 
 testing-code-requires : tie.Need-testing-code-requires
-testing-code-requires c κs = λ t e. omega (arith, searches-fit (c .before .before .before .args .n) (c .before .before .before .args .starts .now) (c .before .before .before .args .neighbours .now) t (sym ((c .test .ensures .0)) ∙ e))
+testing-code-requires c κs = let start = c .before .before .before in λ t e. omega (arith, searches-fit (start .args .n) (start .args .starts .now) (start .args .neighbours .now) t (sym (c .test .ensures .0) ∙ e))
 
 returns : tie.Need-returns
-returns c = (c .testing-code .ensures) ∙ ap (code testField) ((c .before .test .ensures .0))
+returns c =
+    let tested = c .before .test .ensures in
+    let coded = c .testing-code .ensures in (
+      subst (λ (o : Outcome TestResult). IsCode testField testIn o (c .testing-code .result)) (tested .0) coded,
+      subst (TestRight _ _ _) (sym (coded .back)) (tested .1),
+    )
 
 pub puxerdau-test-spec : {M : Type 1} → statement M
 puxerdau-test-spec = tie.close (tie.spec test-requires testing-code-requires returns)

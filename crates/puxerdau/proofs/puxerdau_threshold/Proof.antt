@@ -1,9 +1,11 @@
--- `puxerdau::puxerdau_threshold` meets its contract: the call's outcome, in code.
+-- `puxerdau::puxerdau_threshold` meets its contract: the outcome, in code.
 -- Assumes nothing.
-use mathlib.Core.Path.{sym, ap, _∙_}
-use Rattle.puxerdau.proofs.Fits.{threshold-fits}
+use mathlib.Core.Path.{sym, ap, _∙_, subst}
+use Prim.Native.Nat.{ℕ}
 use native.Mathlib.Omega.{arith}
-use Rattle.codes.specs.Code.{code, count}
+use Rattle.model.specs.Answers.{Outcome}
+use Rattle.codes.specs.Code.{countField, countIn, IsCode}
+use Rattle.puxerdau.proofs.Fits.{threshold-fits}
 use borrow.Author.Needs.{needs}
 use Rattle.puxerdau.proofs.puxerdau_threshold.Statement.{statement}
 use Rattle.puxerdau.proofs.puxerdau_threshold.Tie as tie
@@ -15,7 +17,7 @@ counting-code-requires : tie.Need-counting-code-requires
 counting-code-requires c κs = λ k e. omega (arith, threshold-fits (c .before .args .n) k (sym (c .threshold-of .ensures) ∙ e))
 
 returns : tie.Need-returns
-returns c = (c .counting-code .ensures) ∙ ap (code count) (c .before .threshold-of .ensures)
+returns c = subst (λ (o : Outcome ℕ). IsCode countField countIn o (c .counting-code .result)) (c .before .threshold-of .ensures) (c .counting-code .ensures)
 
 pub puxerdau-threshold-spec : {M : Type 1} → statement M
 puxerdau-threshold-spec = tie.close (tie.spec threshold-of-requires counting-code-requires returns)

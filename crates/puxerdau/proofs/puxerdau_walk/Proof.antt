@@ -1,8 +1,14 @@
--- `puxerdau::puxerdau_walk` meets its contract: the call's outcome, in code.
+-- `puxerdau::puxerdau_walk` meets its contract: the outcome, in code, and what writing a walk promises of it.
 -- Assumes nothing.
-use mathlib.Core.Path.{ap, _∙_}
-use Rattle.codes.specs.Code.{code, answerField}
+use mathlib.Core.Path.{refl}
+use lib.ListN.{length}
+use Rattle.model.specs.Survey.{neighboursOf}
+use Rattle.model.specs.Graph.{linked}
+use Rattle.model.specs.Threshold.{threshold}
 use Rattle.model.specs.Walking.{AfterWalking}
+use Rattle.model.specs.Demand.{WalkSound, WalkRight}
+use Rattle.codes.specs.Code.{answerField, answerIn}
+use Rattle.codes.proofs.Decoding.{passed-on}
 use borrow.Author.Needs.{needs}
 use Rattle.puxerdau.proofs.puxerdau_walk.Statement.{statement}
 use Rattle.puxerdau.proofs.puxerdau_walk.Tie as tie
@@ -17,7 +23,18 @@ same-length : tie.Need-same-length
 same-length c = search needs
 
 returns : tie.Need-returns
-returns c = ((c .asking-code .ensures) ∙ ap (λ (x : AfterWalking). code answerField (x .answer)) ((c .before .before .before .write-walk .ensures .0)), ap (λ (x : AfterWalking). x .walk) ((c .before .before .before .write-walk .ensures .0)))
+returns c =
+    let start = c .before .before .before .before .before .before .before .before .before .before .before in
+    let call = c .before .before .before .write-walk in
+    let n = start .args .n in
+    let starts = start .args .starts .now in
+    let neighbours = start .args .neighbours .now in
+    let a = start .args .a in
+    let b = start .args .b in
+    passed-on answerField answerIn (λ (x : AfterWalking). x .answer) (λ o. record { answer = o; walk = call .last .1 .1 .1 .1 .1 .1 .1 .1 .0 })
+    (λ x. WalkSound (linked n (neighboursOf starts neighbours)) a b x
+    × WalkRight n (threshold n) starts neighbours (start .args .full .now) (start .args .low .now) (start .args .report .now) a b (length (start .args .walk .now)) x)
+    (λ o. refl) (c .asking-code .ensures) (call .ensures .0) (call .ensures .1)
 
 pub puxerdau-walk-spec : {M : Type 1} → statement M
 puxerdau-walk-spec =

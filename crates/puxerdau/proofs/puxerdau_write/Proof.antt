@@ -1,10 +1,12 @@
--- `puxerdau::puxerdau_write` meets its contract: the call's outcome, in code.
+-- `puxerdau::puxerdau_write` meets its contract: the outcome, in code, and what writing back promises of it.
 -- Assumes nothing.
-use mathlib.Core.Path.{sym, ap, _∙_}
-use Rattle.puxerdau.proofs.Fits.{text-fits}
+use mathlib.Core.Path.{refl, sym, ap, _∙_}
 use native.Mathlib.Omega.{arith}
-use Rattle.codes.specs.Code.{code, count}
 use Rattle.model.specs.Writing.{AfterWriting}
+use Rattle.model.specs.Demand.{WriteRight}
+use Rattle.codes.specs.Code.{countField, countIn}
+use Rattle.codes.proofs.Decoding.{passed-on}
+use Rattle.puxerdau.proofs.Fits.{text-fits}
 use borrow.Author.Needs.{needs}
 use Rattle.puxerdau.proofs.puxerdau_write.Statement.{statement}
 use Rattle.puxerdau.proofs.puxerdau_write.Tie as tie
@@ -13,13 +15,23 @@ write-survey-requires : tie.Need-write-survey-requires
 write-survey-requires c κs = search needs
 
 counting-code-requires : tie.Need-counting-code-requires
-counting-code-requires c κs = λ k e. omega (arith, text-fits (c .before .before .before .before .before .before .before .args .n) (c .before .before .before .before .before .before .before .args .starts .now) (c .before .before .before .before .before .before .before .args .neighbours .now) (c .before .before .before .before .before .before .before .args .buffer .now) k (sym (ap (λ (x : AfterWriting). x .answer) (c .before .before .write-survey .ensures)) ∙ e))
+counting-code-requires c κs =
+    let start = c .before .before .before .before .before .before .before in
+    let call = c .before .before .write-survey in
+    λ k e. omega (
+      arith,
+      text-fits (start .args .n) (start .args .starts .now) (start .args .neighbours .now) (start .args .buffer .now) k
+          (sym (ap (λ (x : AfterWriting). x .answer) (call .ensures .0)) ∙ e),
+    )
 
 same-length : tie.Need-same-length
 same-length c = search needs
 
 returns : tie.Need-returns
-returns c = ((c .counting-code .ensures) ∙ ap (λ (x : AfterWriting). code count (x .answer)) (c .before .before .before .write-survey .ensures), ap (λ (x : AfterWriting). x .buffer) (c .before .before .before .write-survey .ensures))
+returns c =
+    let call = c .before .before .before .write-survey in
+    passed-on countField countIn (λ (x : AfterWriting). x .answer) (λ o. record { answer = o; buffer = call .last .1 .1 .1 .0 })
+    (WriteRight _ _ _) (λ o. refl) (c .counting-code .ensures) (call .ensures .0) (call .ensures .1)
 
 pub puxerdau-write-spec : {M : Type 1} → statement M
 puxerdau-write-spec =
