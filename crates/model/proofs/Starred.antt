@@ -1,139 +1,128 @@
--- The cases that document 01 marks with a star, as one table that antt computes. A survey is given by its text, and each case goes
--- through the definitions that the contracts cite: reading, building, asking a pair, writing a walk, testing.
+-- The starred cases, as one table that antt computes: what is asked, and what has to be said. A survey is given by its literal text, and
+-- each case goes through the definitions that the contracts cite: reading, building, asking a pair, writing a walk, testing.
 -- Assumes nothing.
-use mathlib.Core.Bool.{Bool, true, false, _&&_}
-use mathlib.Core.List.{List, [], _∷_, _++_}
-use Prim.Native.Nat.{ℕ, _+_, _-_, _*_}
-use lib.Dec.{T, eqb}
-use lib.ListN.{length, replicate}
+use mathlib.Core.Path.{_≡_, refl}
+use mathlib.Core.List.{List, [], _∷_, map}
+use Prim.Native.Nat.{ℕ, _*_}
+use Prim.Native.Char.{code}
+use Prim.Native.String.{String}
+use lib.ListN.{replicate}
+use Rattle.model.specs.declared.Size.{Size}
+use Rattle.model.specs.declared.Route.the-variants.{Itself, Through}
 use Rattle.model.specs.declared.Answer.{Answer}
 use Rattle.model.specs.declared.TestResult.{TestResult}
-use Rattle.model.specs.declared.Verdict.{Verdict}
-use Rattle.model.specs.declared.Verdict.the-variants.{Parted, Long, Short}
+use Rattle.model.specs.declared.Verdict.the-variants.{Long, Short}
 use Rattle.model.specs.Answers.{Outcome, refused, answered}
 use Rattle.model.specs.Basics.{none, from, upTo, has, any, all, keep, firstOf, gather, same, over}
-use Rattle.model.specs.Numbers.{isDigit, isNumber, valueFrom, valueOf, digitsWithin, digits}
-use Rattle.model.specs.SurveyText.{onFirst, split, onFront, cut, twoNumbers, withRest, lineIn, line, lineOf, linkLines, surveyText}
+use Rattle.model.specs.Numbers.{isDigit, isNumber, valueFrom, valueOf}
+use Rattle.model.specs.SurveyText.{onFirst, split, onFront, cut, twoNumbers, withRest, lineIn, line}
 use Rattle.model.specs.Survey.{Graph, neighboursOf, ascending, badSize, isSurvey, accepting}
 use Rattle.model.specs.Threshold.{bitLength, threshold}
 use Rattle.model.specs.Hubs.{isHigh, isLow, closed, gain, best, greedy, hubs}
 use Rattle.model.specs.Graph.{reach, fewest, linked}
 use Rattle.model.specs.Tables.{rowsOf, table, entryAt, fullTable, lowLinks, lowTable, sum, via, reportTable, hubList}
-use Rattle.model.specs.Pair.{taken, attaining, choose, pairBy, pair}
+use Rattle.model.specs.Pair.{answer, taken, attaining, choose, pairBy, pair}
 use Rattle.model.specs.Walk.{before, next, steps, byLow, toHub, join, nodes}
 use Rattle.model.specs.TwoOrFour.{sources, verdictOf, testResult}
 use Rattle.model.specs.Reading.{named, onLinks, linkOf, readOn, readLinks, parsed, countsOf, parseLinks, parse, graphOf, startsOf, neighboursFrom, AfterReading, readingOf, reading}
 use Rattle.model.specs.Building.{AfterBuilding, built, building}
 use Rattle.model.specs.Asking.{asking}
-use Rattle.model.specs.Walking.{refuseWalk, fit, walkOf, walking}
+use Rattle.model.specs.Walking.{AfterWalking, refuseWalk, fit, walkOf, walking}
 use Rattle.model.specs.Testing.{testing}
 
--- a survey of n nodes with these links, which its text names
-pub record Example : Type 0 where
-  pub n : ℕ
-  pub links : List (ℕ × ℕ)
+course : String
+course = "S,6,6\nL,0,5\nL,1,5\nL,2,5\nL,3,5\nL,4,5\nL,1,2\n"
 
-course : Example
-course = record { n = 6; links = (0, 5) ∷ (1, 5) ∷ (2, 5) ∷ (3, 5) ∷ (4, 5) ∷ (1, 2) ∷ [] }
+single : String
+single = "S,1,0\n"
 
-single : Example
-single = record { n = 1; links = [] }
+chain : String
+chain = "S,5,4\nL,0,1\nL,1,2\nL,2,3\nL,3,4\n"
 
-chain : Example
-chain = record { n = 5; links = (0, 1) ∷ (1, 2) ∷ (2, 3) ∷ (3, 4) ∷ [] }
+triangle : String
+triangle = "S,5,5\nL,0,1\nL,0,2\nL,1,2\nL,1,3\nL,2,4\n"
 
-triangle : Example
-triangle = record { n = 5; links = (0, 1) ∷ (0, 2) ∷ (1, 2) ∷ (1, 3) ∷ (2, 4) ∷ [] }
+bytes : String → List ℕ
+bytes String.[] = []
+bytes (String._∷_ c s) = code c ∷ bytes s
 
--- the lists that reading the text leaves, and the tables that building leaves in lists of none
-lists : Example → AfterReading
-lists g = reading (surveyText (g .n) (length (g .links)) (g .links)) (g .n + 1) (2 * length (g .links))
+-- what reading a text leaves, in lists of 8 and 16 entries, and what building from it leaves, in lists of none
+lists : String → AfterReading
+lists text = reading (bytes text) 8 16
 
-tables : Example → AfterBuilding
-tables g =
-    let blank = replicate (g .n * g .n) none in
-    building (g .n) (lists g .starts) (lists g .neighbours) blank blank blank (replicate (g .n) none)
+sizeIn : Outcome Size → ℕ
+sizeIn (refused k) = 0
+sizeIn (answered x) = x .nodes
 
--- what a case says
-pub data Case : Type 0 where
-  threshold-is : (n s : ℕ) → Case
-  high-and-hubs : Example → (high hubs : List ℕ) → Case
-  report-is : Example → (a b r : ℕ) → Case
-  walk-is : Example → (a b : ℕ) → List ℕ → Case
-  hub-sum-is : Example → (a b h x : ℕ) → Case
-  short-after : Example → (searches : ℕ) → Case
-  is-long : Example → Case
-  apart : Example → (a b d : ℕ) → Case
+size : String → ℕ
+size text = sizeIn (lists text .answer)
 
-reported : Outcome Answer → ℕ → Bool
-reported (refused k) r = false
-reported (answered x) r = eqb (x .report) r
+graph : String → Graph
+graph text = neighboursOf (lists text .starts) (lists text .neighbours)
 
-isShort : Verdict → Bool
-isShort Parted = false
-isShort Long = false
-isShort Short = true
+tables : String → AfterBuilding
+tables text =
+    let n = size text in
+    let blank = replicate (n * n) none in
+    building n (lists text .starts) (lists text .neighbours) blank blank blank (replicate n none)
 
-isLong : Verdict → Bool
-isLong Parted = false
-isLong Long = true
-isLong Short = false
+-- what is asked: the threshold of n nodes; a survey's high nodes, and its hub list; a pair's answer; its walk in a list of w entries; the sum
+-- of its entries of Full through h; the fewest links between two nodes; the test
+pub data Question : Type 0 where
+  threshold-of : (n : ℕ) → Question
+  high-nodes hub-list : String → Question
+  ask : String → (a b : ℕ) → Question
+  walk : String → (a b w : ℕ) → Question
+  hub-sum : String → (a b h : ℕ) → Question
+  apart : String → (a b : ℕ) → Question
+  test : String → Question
 
-shortAfter : Outcome TestResult → ℕ → Bool
-shortAfter (refused k) c = false
-shortAfter (answered x) c = isShort (x .verdict) && eqb (x .searches) c
+pub data Reply : Type 0 where
+  number : ℕ → Reply
+  list : List ℕ → Reply
+  report : Outcome Answer → Reply
+  walked : AfterWalking → Reply
+  verdict : Outcome TestResult → Reply
 
-longAtAll : Outcome TestResult → Bool
-longAtAll (refused k) = false
-longAtAll (answered x) = isLong (x .verdict)
+pub reply : Question → Reply
+reply (threshold-of n) = number (threshold n)
+reply (high-nodes text) = list (keep (isHigh (threshold (size text)) (graph text)) (upTo (size text)))
+reply (hub-list text) = list (tables text .hubs)
+reply (ask text a b) = let t = tables text in report (asking (size text) (t .full) (t .low) (t .report) a b)
+reply (walk text a b w) =
+    let t = tables text in
+    walked (walking (size text) (lists text .starts) (lists text .neighbours) (t .full) (t .low) (t .report) a b w)
+reply (hub-sum text a b h) = number (via (size text) (tables text .full) a b h)
+reply (apart text a b) = number (fewest (linked (size text) (graph text)) (size text) a b)
+reply (test text) = verdict (testing (size text) (lists text .starts) (lists text .neighbours))
 
-graph : Example → Graph
-graph g = neighboursOf (lists g .starts) (lists g .neighbours)
-
--- the case holds
-holds : Case → Bool
-holds (threshold-is n s) = eqb (threshold n) s
-holds (high-and-hubs g high hs) =
-    same (keep (isHigh (threshold (g .n)) (graph g)) (upTo (g .n))) high
-    && same (tables g .hubs) (hs ++ replicate (g .n - length hs) none)
-holds (report-is g a b r) = let t = tables g in reported (asking (g .n) (t .full) (t .low) (t .report) a b) r
-holds (walk-is g a b l) =
-    let t = tables g in
-    same (walking (g .n) (lists g .starts) (lists g .neighbours) (t .full) (t .low) (t .report) a b (length l) .walk) l
-holds (hub-sum-is g a b h x) = eqb (via (g .n) (tables g .full) a b h) x
-holds (short-after g k) = shortAfter (testing (g .n) (lists g .starts) (lists g .neighbours)) k
-holds (is-long g) = longAtAll (testing (g .n) (lists g .starts) (lists g .neighbours))
-holds (apart g a b d) = eqb (fewest (linked (g .n) (graph g)) (g .n) a b) d
-
-pub allHold : List Case → Bool
-allHold [] = true
-allHold (c ∷ cs) = holds c && allHold cs
-
--- the starred cases, in the document's order
-pub starred : List Case
+-- the cases in the rules' order. A walk's reply is its answer and the whole list at return
+pub starred : List (Question × Reply)
 starred =
-    threshold-is 1 1
-    ∷ threshold-is 6 5
-    ∷ threshold-is 100 27
-    ∷ threshold-is 1023 102
-    ∷ threshold-is 1024 107
-    ∷ high-and-hubs course (5 ∷ []) (0 ∷ [])
-    ∷ report-is course 1 3 4
-    ∷ walk-is course 1 3 (1 ∷ 5 ∷ 0 ∷ 5 ∷ 3 ∷ [])
-    ∷ report-is course 5 5 0
-    ∷ hub-sum-is course 5 5 0 2
-    ∷ short-after single 1
-    ∷ is-long chain
-    ∷ short-after triangle 3
-    ∷ apart triangle 3 4 3
+    (threshold-of 1, number 1)
+    ∷ (threshold-of 6, number 5)
+    ∷ (threshold-of 100, number 27)
+    ∷ (threshold-of 1023, number 102)
+    ∷ (threshold-of 1024, number 107)
+    ∷ (high-nodes course, list (5 ∷ []))
+    ∷ (hub-list course, list (0 ∷ none ∷ none ∷ none ∷ none ∷ none ∷ []))
+    ∷ (ask course 1 3, report (answered (answer 4 (Through 0))))
+    ∷ (walk course 1 3 5, walked (record { answer = answered (answer 4 (Through 0)); walk = 1 ∷ 5 ∷ 0 ∷ 5 ∷ 3 ∷ [] }))
+    ∷ (walk course 1 3 8, walked (record { answer = answered (answer 4 (Through 0)); walk = 1 ∷ 5 ∷ 0 ∷ 5 ∷ 3 ∷ none ∷ none ∷ none ∷ [] }))
+    ∷ (ask course 5 5, report (answered (answer 0 Itself)))
+    ∷ (hub-sum course 5 5 0, number 2)
+    ∷ (test single, verdict (answered (record { verdict = Short; searches = 1 })))
+    ∷ (test chain, verdict (answered (record { verdict = Long; searches = 2 })))
+    ∷ (test triangle, verdict (answered (record { verdict = Short; searches = 3 })))
+    ∷ (apart triangle 3 4, number 3)
     ∷ []
 
-pub starred-cases : T (allHold starred)
-unfolding starred allHold holds graph longAtAll shortAfter isLong isShort reported tables lists triangle chain single course
-    from upTo has any all keep firstOf gather same over isDigit isNumber valueFrom valueOf digitsWithin digits
-    onFirst split onFront cut twoNumbers withRest lineIn line lineOf linkLines surveyText neighboursOf linked ascending badSize isSurvey accepting
+pub starred-cases : map (λ c. reply (c .0)) starred ≡ map (λ c. c .1) starred
+unfolding starred reply tables graph size sizeIn lists bytes triangle chain single course
+    from upTo has any all keep firstOf gather same over isDigit isNumber valueFrom valueOf
+    onFirst split onFront cut twoNumbers withRest lineIn line neighboursOf linked ascending badSize isSurvey accepting
     bitLength threshold isHigh isLow closed gain best greedy hubs hubList reach fewest rowsOf table entryAt fullTable lowLinks lowTable sum via reportTable
     taken attaining choose pairBy pair before next steps byLow toHub join nodes sources verdictOf testResult
     named onLinks linkOf readOn readLinks parsed countsOf parseLinks parse graphOf startsOf neighboursFrom readingOf reading
     built building asking refuseWalk fit walkOf walking testing
-starred-cases = tt
+starred-cases = refl
