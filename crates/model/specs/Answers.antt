@@ -1,5 +1,5 @@
--- The answers of the open calls as document 01 gives them: a refusal's number, or a value.
--- An open call is a function that a user calls, without a precondition; a list that is lent to it is a slice argument.
+-- The answers of the open calls: a refusal's number, or a value. An open call is a function that a user calls, without a precondition; a
+-- list that is lent to it is a slice argument.
 -- Assumes nothing.
 use mathlib.Core.Bool.{Bool, true, false}
 use Prim.Native.Nat.{ℕ}
@@ -19,26 +19,27 @@ use Rattle.model.specs.declared.Asking.the-variants as asking
 use Rattle.model.specs.declared.Testing.{Testing}
 use Rattle.model.specs.declared.Testing.the-variants as testing
 
--- a refusal with its number (an error code), or the answer's value
+-- a refusal with its number, or the answer's value (rule 10.1)
 pub data Outcome (A : Type 0) : Type 0 where
   refused : ℕ → Outcome A
   answered : A → Outcome A
 
--- the value replaced by f of it, a refusal kept
+-- the value replaced by f of it, a refusal kept (rule 10.1)
 abbrev pub mapAnswer : {A B : Type 0} → (A → B) → Outcome A → Outcome B
 mapAnswer f (refused k) = refused k
 mapAnswer f (answered x) = answered (f x)
 
--- what follows an answer, f of its value; a refusal kept
+-- what follows an answer, f of its value; a refusal kept: the first refusal is given (rule 10.1)
 abbrev pub andThen : {A B : Type 0} → Outcome A → (A → Outcome B) → Outcome B
 andThen (refused k) f = refused k
 andThen (answered x) f = f x
 
+-- not refused (rule 10.1)
 abbrev pub isAnswered : {A : Type 0} → Outcome A → Bool
 isAnswered (refused k) = false
 isAnswered (answered x) = true
 
--- document 01's number for each refusal
+-- rule 10.1: the number of each refusal
 abbrev pub number : Refusal → ℕ
 number Form = 1
 number NodeCount = 2
@@ -53,23 +54,27 @@ number NoNode = 10
 number NotAttained = 11
 number ShortBuffer = 12
 
--- what each case of a call's answer stands for. (Acceptance is a call of its own: docs/DECISIONS.md, 16.)
+-- what each case of a call's answer stands for: acceptance, rule 10.6
 abbrev pub acceptAnswer : Accepting → Outcome (Unit {0})
 acceptAnswer (accepting.Refused r) = refused (number r)
 acceptAnswer accepting.Accepted = answered tt
 
+-- reading, rule 10.5
 abbrev pub readAnswer : Reading → Outcome Size
 readAnswer (reading.Refused r) = refused (number r)
 readAnswer (reading.Read s) = answered s
 
+-- building, writing back, the listing and the threshold: rules 10.7, 10.11, 11.4 and 10.12
 abbrev pub countAnswer : Counting → Outcome ℕ
 countAnswer (counting.Refused r) = refused (number r)
 countAnswer (counting.Count k) = answered k
 
+-- asking a pair and writing a walk: rules 10.8 and 10.9
 abbrev pub pairAnswer : Asking → Outcome Answer
 pairAnswer (asking.Refused r) = refused (number r)
 pairAnswer (asking.Answered x) = answered x
 
+-- testing, rule 10.10
 abbrev pub testAnswer : Testing → Outcome TestResult
 testAnswer (testing.Refused r) = refused (number r)
 testAnswer (testing.Answered x) = answered x

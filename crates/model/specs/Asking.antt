@@ -12,7 +12,7 @@ use Rattle.model.specs.Survey.{badSize}
 use Rattle.model.specs.Tables.{shortTables}
 use Rattle.model.specs.Pair.{pair}
 
--- "2; 8 a table shorter than n × n; 10 a node of n or more; 11 .."
+-- rule 10.8, in its order; what is left of it, the answer from the tables, is `pair`
 unfoldable pub asking : (n : ℕ) (full low report : List ℕ) (a b : ℕ) → Outcome Answer
 asking n full low report a b =
     if badSize n then refused 2

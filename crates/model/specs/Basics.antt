@@ -1,4 +1,4 @@
--- Small functions on tests and lists that the definitions are written with.
+-- Small functions on tests and lists that the definitions are written with. They state no rule, but for `none` and `over`.
 -- Assumes nothing.
 use mathlib.Core.Bool.{Bool, true, false, _&&_, _||_}
 use mathlib.Core.List.{List, [], _∷_, _++_}
@@ -6,7 +6,7 @@ use Prim.Native.Nat.{ℕ, zero, suc}
 use lib.Dec.{eqb}
 use lib.ListN.{length, drop}
 
--- 65,535 means none (an infinite distance, or no node)
+-- rule 5.1: none (an infinite distance, or no node)
 abbrev pub none : ℕ
 none = 65535
 
@@ -59,6 +59,6 @@ same [] (y ∷ ys) = false
 same (x ∷ xs) [] = false
 same (x ∷ xs) (y ∷ ys) = eqb x y && same xs ys
 
--- the front of a lent list replaced, the entries past it kept
+-- the front of a lent list replaced, the entries past it kept (rules 10.7 and 10.11)
 unfoldable pub over : List ℕ → List ℕ → List ℕ
 over new old = new ++ drop (length new) old

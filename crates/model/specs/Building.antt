@@ -13,6 +13,7 @@ use Rattle.model.specs.Threshold.{threshold}
 use Rattle.model.specs.Hubs.{hubs}
 use Rattle.model.specs.Tables.{shortTables, fullTable, lowTable, reportTable, hubList}
 
+-- the answer, and what the tables and the hub list hold at return (rule 10.7)
 pub record AfterBuilding : Type 0 where
   pub answer : Outcome ℕ
   pub full : List ℕ
@@ -20,11 +21,11 @@ pub record AfterBuilding : Type 0 where
   pub report : List ℕ
   pub hubs : List ℕ
 
--- what a call of the code returned and left in the tables and the hub list
+-- what a call of the code returned and left (rule 10.7)
 abbrev pub buildReturned : Counting → (full low report list : List ℕ) → AfterBuilding
 buildReturned r full low report list = record { answer = countAnswer r; full = full; low = low; report = report; hubs = list }
 
--- "accepted, entries past those named keep their values. The answer is the hub count."
+-- rule 10.7, not refused: the tables of rules 5.2 to 5.5 and the hub list of 4.7 in front, the entries past them kept. For any threshold s
 unfoldable pub built : (n s : ℕ) → Graph → (full low report list : List ℕ) → AfterBuilding
 built n s G full low report list = record {
   answer = answered (length (hubs n s G));
@@ -34,12 +35,11 @@ built n s G full low report list = record {
   hubs = over (hubList n s G) list;
 }
 
--- "`starts` shorter than n + 1, a table shorter than n × n, or a hub list shorter than n", by the lengths
+-- rule 10.7's 8, by the lengths
 abbrev pub shortLists : (n starts full low report list : ℕ) → Bool
 shortLists n starts full low report list = ltb starts (n + 1) || shortTables n full low report || ltb list n
 
--- "2 as above; 8 ..; 9 the lists are not a survey's as described (a neighbour list shorter than the last start included), or m, half the
--- last start, is above 16,384. Refused, nothing is altered"
+-- rule 10.7: 2, 8, 9 with nothing altered; else built with the threshold of rule 4.2
 unfoldable pub building : (n : ℕ) (starts neighbours full low report list : List ℕ) → AfterBuilding
 building n starts neighbours full low report list =
     let refuse : ℕ → AfterBuilding = λ r. record { answer = refused r; full = full; low = low; report = report; hubs = list } in

@@ -1,5 +1,4 @@
--- What reading has to say of a text, and demand 3 in terms of chains alone: what reports, walks and verdicts have to say of a graph
--- with the links E. (The bounds of `Allowed` and the three sentences of `VerdictRight` are demand 3's own words: docs/GUARANTEES.md.)
+-- What the calls' answers mean, in terms of chains alone: section 9 of the rules, for a graph with the links E.
 -- Assumes nothing.
 use mathlib.Core.Path.{_≡_}
 use mathlib.Core.Logic.{_⊎_, _↔_}
@@ -24,7 +23,7 @@ use Rattle.model.specs.Building.{AfterBuilding}
 use Rattle.model.specs.Asking.{asking}
 use Rattle.model.specs.Walking.{AfterWalking, walking}
 
--- "after a reading these are exactly the pairs that the text's link lines name"; "one read from a text always is" accepted
+-- rules 8.1 and 9.3: a text that was read gives an accepted survey, whose links are exactly those that its lines name
 pub record IsRead (text : List ℕ) (x : Size) (starts neighbours : List ℕ) : Type 0 where
   pub survey : Accepted (x .nodes) starts neighbours
   pub links : List (ℕ × ℕ)
@@ -32,10 +31,11 @@ pub record IsRead (text : List ℕ) (x : Size) (starts neighbours : List ℕ) : 
   pub lines : text ≡ surveyText (x .nodes) (x .links) links
   pub exactly : (a b : ℕ) → linked (x .nodes) (neighboursOf starts neighbours) a b ≡ named links a b
 
+-- reading that is not refused (rules 8.1 and 9.3)
 abbrev pub ReadRight : List ℕ → AfterReading → Type 0
 ReadRight text r = (x : Size) → r .answer ≡ answered x → IsRead text x (r .starts) (r .neighbours)
 
--- a survey as reading leaves it in lists of p and q entries: n and m, the entries used, and zero past them
+-- a survey as reading leaves it in lists of p and q entries (rule 10.5): n and m, the entries used, and zero past them
 unfoldable pub asRead : (n : ℕ) (starts neighbours : List ℕ) (p q : ℕ) → AfterReading
 asRead n starts neighbours p q = record {
   answer = answered (record { nodes = n; links = getD starts n 0 / 2 });
@@ -43,80 +43,80 @@ asRead n starts neighbours p q = record {
   neighbours = over (take (getD starts n 0) neighbours) (replicate q 0);
 }
 
--- a survey written and read again is the same survey: the text that was written, k bytes, is read so into all lists that are long enough
+-- rule 9.2: the text that was written, k bytes, is read back as the same survey into all lists that are long enough
 abbrev pub WriteRight : (n : ℕ) (starts neighbours : List ℕ) → AfterWriting → Type 0
 WriteRight n starts neighbours r =
     (k : ℕ) → r .answer ≡ answered k → (p q : ℕ) → n + 1 ≤ p → getD starts n 0 ≤ q
     → reading (take k (r .buffer)) p q ≡ asRead n starts neighbours p q
 
--- building that is not refused: the survey is accepted, and the tables and the hub list are the ones built from it, with k hubs
+-- building that is not refused (rule 5.6): the survey is accepted, and the tables and the hub list are the ones built from it, with k hubs
 pub record IsBuilt (n s : ℕ) (starts neighbours full low report list : List ℕ) (k : ℕ) : Type 0 where
   pub survey : Accepted n starts neighbours
   pub tables : AreBuiltWith n s (neighboursOf starts neighbours) full low report list
   pub count : k ≡ length (hubs n s (neighboursOf starts neighbours))
 
+-- the same of what building answers and leaves (rule 5.6)
 abbrev pub BuildRight : (n s : ℕ) (starts neighbours : List ℕ) → AfterBuilding → Type 0
 BuildRight n s starts neighbours r = (k : ℕ) → r .answer ≡ answered k → IsBuilt n s starts neighbours (r .full) (r .low) (r .report) (r .hubs) k
 
--- a report: none exactly where no chain joins the pair; else at least the fewest links, and at most two more
+-- rule 9.4: a report is none exactly where no chain joins the pair; else at least the fewest links, and at most two more
 pub record Allowed (E : Edges) (a b r : ℕ) : Type 0 where
   pub no-route : (r ≡ none) ↔ Unjoined E a b
   pub near : (d : ℕ) → Fewest E a b d → (d ≤ r) × (r ≤ d + 2)
 
--- "The report is the one that asking a pair answers .. With such tables and nodes below n [it is not] refused": an allowed report
+-- rule 9.4: asking is not refused, and its report is allowed
 pub record AllowedAnswer (E : Edges) (a b : ℕ) (o : Outcome Answer) : Type 0 where
   pub value : Answer
   pub given : o ≡ answered value
   pub allowed : Allowed E a b (value .report)
 
--- for every accepted survey, tables built from it with any threshold s, and nodes below n
+-- rule 9.4, for every accepted survey, tables built from it with any threshold s, and nodes below n
 abbrev pub AskRight : (n : ℕ) (full low report : List ℕ) (a b : ℕ) → Outcome Answer → Type 0
 AskRight n full low report a b o =
     (s : ℕ) (starts neighbours : List ℕ) → Accepted n starts neighbours → AreBuilt n s (neighboursOf starts neighbours) full low report
     → a < n → b < n → AllowedAnswer (linked n (neighboursOf starts neighbours)) a b o
 
--- "writing the walk answers the same. .. if the walk list is long enough: report + 1 entries or more, and any length where there is no
--- route." w is its length
+-- rule 9.5: writing the walk into a list of w entries answers as asking does, if the list is long enough
 abbrev pub WalkAnswers : ℕ → Outcome Answer → AfterWalking → Type 0
 WalkAnswers w o r = (x : Answer) → o ≡ answered x → (x .report ≡ none) ⊎ (x .report < w) → r .answer ≡ answered x
 
--- "The written walk is the first report + 1 entries: a first, b last, each linked to the next.": a chain of r links
+-- rule 9.5: the first r + 1 entries are a chain of r links, from a to b
 pub record IsWalk (E : Edges) (a b r : ℕ) (list : List ℕ) : Type 0 where
   pub links : Walked E (take (r + 1) list) a b
   pub count : length (take (r + 1) list) ≡ r + 1
   pub chain : Chain E r a b
 
--- "A walk given out is a chain of the survey's links even where the tables were altered.", of exactly the reported length
+-- rule 9.5: a walk that is given out is a walk of exactly the reported length, whatever the tables hold
 abbrev pub WalkSound : Edges → (a b : ℕ) → AfterWalking → Type 0
 WalkSound E a b r = (x : Answer) → r .answer ≡ answered x → (x .report ≡ none → ⊥) → IsWalk E a b (x .report) (r .walk)
 
--- both, for every accepted survey, tables built from it with the threshold s, and nodes below n; r is what writing the walk into a list
--- of w entries leaves
+-- rules 9.4 and 9.5, for every accepted survey, tables built from it with the threshold s, and nodes below n; r is what writing the walk
+-- into a list of w entries leaves
 abbrev pub WalkRight : (n s : ℕ) (starts neighbours full low report : List ℕ) (a b w : ℕ) → AfterWalking → Type 0
 WalkRight n s starts neighbours full low report a b w r =
     Accepted n starts neighbours → AreBuilt n s (neighboursOf starts neighbours) full low report → a < n → b < n
     → AllowedAnswer (linked n (neighboursOf starts neighbours)) a b (asking n full low report a b) × WalkAnswers w (asking n full low report a b) r
 
--- a verdict: parted exactly when some two nodes are not joined, never short where some two are four or more apart, never long
--- where all are within two
+-- rule 9.6: parted exactly when some two nodes are not joined, never short where some two are four or more apart, never long where all are
+-- within two
 pub record VerdictRight (n : ℕ) (E : Edges) (v : Verdict) : Type 0 where
   pub parted : (v ≡ Parted) ↔ ((a : ℕ) × (b : ℕ) × (a < n) × (b < n) × Unjoined E a b)
   pub not-short : (a b d : ℕ) → a < n → b < n → Fewest E a b d → 4 ≤ d → v ≡ Short → ⊥
   pub not-long : ((a b : ℕ) → a < n → b < n → WithinTwo E a b) → v ≡ Long → ⊥
 
--- a test that is not refused, with a right verdict
+-- rule 9.6: a test that is not refused, with a right verdict
 pub record RightVerdict (n : ℕ) (E : Edges) (o : Outcome TestResult) : Type 0 where
   pub value : TestResult
   pub given : o ≡ answered value
   pub right : VerdictRight n E (value .verdict)
 
--- for every accepted survey
+-- rule 9.6, for every accepted survey
 abbrev pub TestRight : (n : ℕ) (starts neighbours : List ℕ) → Outcome TestResult → Type 0
 TestRight n starts neighbours o = Accepted n starts neighbours → RightVerdict n (linked n (neighboursOf starts neighbours)) o
 
 -- ---- the whole way: a text is read into two lists, tables are built from these, two nodes are asked, and their walk is written
 
--- x, starts and neighbours are what reading answers and leaves, t is what building leaves
+-- rules 9.3 to 9.5 at once. x, starts and neighbours are what reading answers and leaves, t is what building leaves
 pub record WholeWay (text : List ℕ) (x : Size) (starts neighbours : List ℕ) (t : AfterBuilding) (a b : ℕ) : Type 0 where
   -- the links that the text's lines name
   pub links : List (ℕ × ℕ)

@@ -8,27 +8,28 @@ use lib.ListN.{length}
 use Rattle.model.specs.Basics.{none, upTo, has, all, keep, firstOf}
 use Rattle.model.specs.Survey.{Graph}
 
--- "A node is high if it has at least s(n) neighbours, else low.": its degree is at least s
+-- rule 4.4: the degree of v is at least s
 unfoldable pub isHigh : ℕ → Graph → ℕ → Bool
 isHigh s G v = leb s (length (G v))
 
+-- rule 4.4: it is less
 unfoldable pub isLow : ℕ → Graph → ℕ → Bool
 isLow s G v = not (isHigh s G v)
 
--- "closed neighbourhood (itself and its neighbours)", of which a hub covers (dominates) every node
+-- rule 4.5: the closed neighbourhood, of which a hub covers (dominates) every node
 unfoldable pub closed : Graph → ℕ → List ℕ
 closed G v = v ∷ G v
 
--- how many of the uncovered nodes U the closed neighbourhood of v holds
+-- how many of the uncovered nodes U the closed neighbourhood of v holds (rule 4.6)
 unfoldable pub gain : Graph → List ℕ → ℕ → ℕ
 gain G U v = length (keep (λ u. has u (closed G v)) U)
 
--- "the node, high or low, whose closed neighbourhood .. holds most uncovered high nodes, the smallest number on a tie"
+-- rule 4.6: the node, high or low, with most of them; the smallest number on a tie
 unfoldable pub best : ℕ → Graph → List ℕ → ℕ
 best n G U = firstOf (λ v. all (λ w. leb (gain G U w) (gain G U v)) (upTo n)) none (upTo n)
 
--- "while some high node is uncovered, .. it becomes a hub and covers them"
--- (each hub covers one or more, so `length U` turns are enough: `greedy-covers` of proofs/Covering.antt)
+-- rule 4.6: while some node of U is uncovered, the best one is taken and covers. (Each hub covers one or more, so `length U` turns are
+-- enough: `greedy-covers` of proofs/Covering.antt)
 unfoldable pub greedy : ℕ → Graph → ℕ → List ℕ → List ℕ
 greedy n G zero U = []
 greedy n G (suc turns) [] = []
@@ -36,6 +37,6 @@ greedy n G (suc turns) (u ∷ U) =
     let h = best n G (u ∷ U) in
     h ∷ greedy n G turns (keep (λ x. not (has x (closed G h))) (u ∷ U))
 
--- the hubs in the order chosen: a dominating set of the high nodes
+-- rule 4.6: the hubs in the order chosen, a dominating set of the high nodes
 unfoldable pub hubs : ℕ → ℕ → Graph → List ℕ
 hubs n s G = let U = keep (isHigh s G) (upTo n) in greedy n G (length U) U

@@ -7,29 +7,31 @@ use lib.Dec.{eqb, ltb, leb}
 use lib.ListN.{length}
 use Rattle.model.specs.Basics.{if_then_else_, all}
 
+-- a digit (rule 2.3)
 unfoldable pub isDigit : ℕ → Bool
 isDigit c = leb 48 c && leb c 57
 
--- "A number is one to ten decimal digits without a leading zero, 0 itself excepted."
+-- rule 2.3: one to ten digits, no leading zero but in 0 itself
 unfoldable pub isNumber : List ℕ → Bool
 isNumber [] = false
 isNumber (d ∷ ds) = all isDigit (d ∷ ds) && leb (length ds) 9 && (eqb (length ds) 0 || not (eqb d 48))
 
--- the value of digits that follow the value v (Horner's rule)
+-- the value of digits that follow the value v (Horner's rule; rule 2.3)
 unfoldable pub valueFrom : ℕ → List ℕ → ℕ
 valueFrom v [] = v
 valueFrom v (d ∷ ds) = valueFrom (v * 10 + (d - 48)) ds
 
+-- the value of digits (rule 2.3)
 unfoldable pub valueOf : List ℕ → ℕ
 valueOf ds = valueFrom 0 ds
 
--- the decimal text of x: below ten its one digit; otherwise the text of x / 10, then the last digit. Of at most `most` digits
+-- the decimal text of x: below ten its one digit; otherwise the text of x / 10, then the last digit (rule 2.3). Of at most `most` digits
 unfoldable pub digitsWithin : ℕ → ℕ → List ℕ
 digitsWithin zero x = []
 digitsWithin (suc most) x =
     let more = digitsWithin most (x / 10) ++ ((48 + x % 10) ∷ []) in
     if ltb x 10 then (48 + x) ∷ [] else more
 
--- (no number x has more than x + 1 digits)
+-- rule 2.3: how a number is written (no number x has more than x + 1 digits)
 unfoldable pub digits : ℕ → List ℕ
 digits x = digitsWithin (suc x) x

@@ -12,12 +12,12 @@ use Rattle.model.specs.Answers.{Outcome, refused, answered}
 use Rattle.model.specs.Basics.{none, if_then_else_, upTo, has, firstOf}
 use Rattle.model.specs.Tables.{entryAt, via}
 
+-- rule 6.1: a report with a route
 abbrev pub answer : ℕ → Route → Answer
 answer r t = record { report = r; route = t }
 
--- the route (how the estimate is attained): "the route is one of four: itself (a = b), low, through hub h, or no route. Low is preferred when it attains the report; else
--- the smallest hub that does." r is the report, l the entry of Low, h the hub; "11 the report is not none and no route attains it,
--- or a = b and it is not 0"
+-- rules 6.2 and 10.8: the route that attains the report r, where l is the entry of Low and h the hub; 11 where none does, or where a = b and
+-- r is not 0
 unfoldable pub choose : (a b r l h : ℕ) → Outcome Answer
 choose a b r l h =
     if eqb a b then (if eqb r 0 then answered (answer 0 Itself) else refused 11)
@@ -26,24 +26,24 @@ choose a b r l h =
     else if eqb h none then refused 11
     else answered (answer r (Through h))
 
--- the smallest hub that attains the report r, or none
+-- rule 6.2: the smallest hub that attains the report r, or none
 unfoldable pub attaining : (ℕ → Bool) → ℕ → List ℕ → (a b r : ℕ) → ℕ
 attaining isHub n full a b r = firstOf (λ h. isHub h && eqb (via n full a b h) r) none (upTo n)
 
--- "Where no hub list is lent, every node h whose Full entries for both a and b are not none is taken as a hub."
+-- rule 6.3: what is taken as a hub where no hub list is lent
 unfoldable pub taken : ℕ → List ℕ → (a b : ℕ) → ℕ → Bool
 taken n full a b h = not (eqb (entryAt n full h a) none) && not (eqb (entryAt n full h b) none)
 
--- the hubs of a lent hub list
+-- the hubs of a lent hub list (rule 4.7)
 unfoldable pub listed : ℕ → List ℕ → ℕ → Bool
 listed n list h = has h (take n list)
 
--- the answer that the tables give for nodes below n, with hubs as the test says
+-- rule 6.1: the answer that the tables give for nodes below n, with hubs as the test says
 unfoldable pub pairBy : (ℕ → Bool) → (n : ℕ) (full low report : List ℕ) (a b : ℕ) → Outcome Answer
 pairBy isHub n full low report a b =
     let r = entryAt n report a b in
     choose a b r (entryAt n low a b) (attaining isHub n full a b r)
 
--- with no hub list lent
+-- rule 6.3: with no hub list lent
 unfoldable pub pair : (n : ℕ) (full low report : List ℕ) (a b : ℕ) → Outcome Answer
 pair n full low report a b = pairBy (taken n full a b) n full low report a b

@@ -13,8 +13,7 @@ use Rattle.model.specs.Basics.{if_then_else_, upTo, keep, gather, over}
 use Rattle.model.specs.SurveyText.{line}
 use Rattle.model.specs.Survey.{Graph, outside}
 
--- "First line: 1 not in the stated form; 2 n outside 1 to 1,024; 3 m above 16,384; 8 `starts` shorter than n + 1 or `neighbours`
--- shorter than 2m.": n, m and the text behind the line. The limits, and the lengths p and q of the two lists, are parameters
+-- rule 10.2: n, m and the text behind the first line. The limits, and the lengths p and q of the two lists, are parameters
 unfoldable pub countsOf : (mostNodes mostLinks p q : ℕ) → Option (ℕ × ℕ × List ℕ) → Outcome (ℕ × ℕ × List ℕ)
 countsOf mostNodes mostLinks p q missing = refused 1
 countsOf mostNodes mostLinks p q (some f) =
@@ -23,17 +22,16 @@ countsOf mostNodes mostLinks p q (some f) =
     else if ltb p (f .0 + 1) || ltb q (2 * f .1) then refused 8
     else answered f
 
--- "Links may come in any order, ends either way round.": the link is one of these
+-- rule 2.5: the link is one of these, ends either way round
 unfoldable pub named : List (ℕ × ℕ) → ℕ → ℕ → Bool
 named [] a b = false
 named (l ∷ ls) a b = eqb (l .0) a && eqb (l .1) b || eqb (l .0) b && eqb (l .1) a || named ls a b
 
--- a link in front of those that the later lines name
+-- a link in front of those that the later lines name (rule 2.5)
 unfoldable pub onLinks : ℕ × ℕ → Outcome (List (ℕ × ℕ)) → Outcome (List (ℕ × ℕ))
 onLinks l o = mapAnswer (λ ls. l ∷ ls) o
 
--- "Then line by line: 1 wrong form or text ending inside a line; 4 a node of n or more; 5 both ends equal; 6 a link already given,
--- either way round.": the link that a line names after the links `given`, and the text behind the line
+-- rule 10.3: the link that a line names after the links `given`, and the text behind the line
 unfoldable pub linkOf : ℕ → (given : ℕ → ℕ → Bool) → Option (ℕ × ℕ × List ℕ) → Outcome (ℕ × ℕ × List ℕ)
 linkOf n given missing = refused 1
 linkOf n given (some l) =
@@ -42,55 +40,57 @@ linkOf n given (some l) =
     else if given (l .0) (l .1) then refused 6
     else answered l
 
--- the link that a line names, in front of those that `next` reads behind it
+-- the link that a line names, in front of those that `next` reads behind it (rule 10.3)
 unfoldable pub readOn : (next : ℕ → ℕ → List ℕ → Outcome (List (ℕ × ℕ))) → Outcome (ℕ × ℕ × List ℕ) → Outcome (List (ℕ × ℕ))
 readOn next o = andThen o (λ l. onLinks (l .0, l .1) (next (l .0) (l .1) (l .2)))
 
--- "7 the text ends at a line's end before m links, or a byte follows the m-th.": the links that m lines name after those of `done`
+-- rule 10.4: the links that m lines name after those of `done`
 unfoldable pub readLinks : ℕ → ℕ → List (ℕ × ℕ) → List ℕ → Outcome (List (ℕ × ℕ))
 readLinks n zero done [] = answered []
 readLinks n zero done (c ∷ text) = refused 7
 readLinks n (suc m) done [] = refused 7
 readLinks n (suc m) done (c ∷ text) = readOn (λ a b rest. readLinks n m ((a, b) ∷ done) rest) (linkOf n (named done) (line 76 (c ∷ text)))
 
--- what a text says: the count of nodes, and the links in the order of their lines
+-- what a text says: the count of nodes, and the links in the order of their lines (rules 2.4 and 2.5)
 pub record Parsed : Type 0 where
   pub nodes : ℕ
   pub links : List (ℕ × ℕ)
 
+-- the links with the count of nodes (rule 2.4)
 unfoldable pub parsed : ℕ → Outcome (List (ℕ × ℕ)) → Outcome Parsed
 parsed n o = mapAnswer (λ ls. record { nodes = n; links = ls }) o
 
--- the whole text: the first line, and then its links
+-- the link lines behind the first line (rule 2.5)
 unfoldable pub parseLinks : Outcome (ℕ × ℕ × List ℕ) → Outcome Parsed
 parseLinks o = andThen o (λ f. parsed (f .0) (readLinks (f .0) (f .1) [] (f .2)))
 
+-- rules 2.4 and 2.5: the whole text, within limits on its counts
 unfoldable pub parse : (mostNodes mostLinks p q : ℕ) → List ℕ → Outcome Parsed
 parse mostNodes mostLinks p q text = parseLinks (countsOf mostNodes mostLinks p q (line 83 text))
 
--- each node's neighbours by these links, ascending
+-- each node's neighbours by these links, ascending (rule 3.2)
 unfoldable pub graphOf : ℕ → List (ℕ × ℕ) → Graph
 graphOf n ls v = keep (named ls v) (upTo n)
 
--- "`starts` .. has n + 1 entries, the first 0, never falling, the last 2m": where each node's neighbours begin
+-- rule 3.1: where each node's neighbours begin
 unfoldable pub startsOf : ℕ → Graph → List ℕ
 startsOf n G = map (λ v. length (gather G (upTo v))) (upTo (n + 1))
 
--- "`neighbours` .. has 2m entries": one node's after the other
+-- rule 3.2: one node's neighbours after the other's
 unfoldable pub neighboursFrom : ℕ → Graph → List ℕ
 neighboursFrom n G = gather G (upTo n)
 
--- the answer, and the two lists at return
+-- the answer, and what the two lists hold at return (rule 10.5)
 pub record AfterReading : Type 0 where
   pub answer : Outcome Size
   pub starts : List ℕ
   pub neighbours : List ℕ
 
--- what a call of the code returned and left in the two lists
+-- what a call of the code returned and left (rule 10.5)
 abbrev pub readReturned : read.Reading → List ℕ → List ℕ → AfterReading
 readReturned r s x = record { answer = readAnswer r; starts = s; neighbours = x }
 
--- "Every refusal leaves both lists all zero; success leaves zero past the used entries, and the answer is n and m."
+-- rule 10.5: lists of p and q entries, all zero where the text is refused, else zero past the entries used
 unfoldable pub readingOf : (p q : ℕ) → Outcome Parsed → AfterReading
 readingOf p q (refused k) = record { answer = refused k; starts = replicate p 0; neighbours = replicate q 0 }
 readingOf p q (answered x) =
@@ -101,6 +101,6 @@ readingOf p q (answered x) =
       neighbours = over (neighboursFrom (x .nodes) G) (replicate q 0);
     }
 
--- reading a text into lists of p and q entries
+-- rules 10.2 to 10.5: reading a text into lists of p and q entries
 unfoldable pub reading : (text : List ℕ) (p q : ℕ) → AfterReading
 reading text p q = readingOf p q (parse 1024 16384 p q text)

@@ -1,4 +1,4 @@
--- "A read survey is two lists.": a graph's adjacency lists, end to end (compressed sparse rows).
+-- The two lists of a survey: a graph's adjacency lists, end to end (compressed sparse rows).
 -- Assumes nothing.
 use mathlib.Core.Bool.{Bool, true, not, _&&_, _||_}
 use mathlib.Core.List.{List, [], _∷_}
@@ -9,23 +9,21 @@ use lib.ListN.{length, getD, take, drop}
 use Rattle.model.specs.Answers.{Outcome, refused, answered, isAnswered}
 use Rattle.model.specs.Basics.{if_then_else_, upTo, has, all}
 
--- a graph by each node's own neighbours
+-- a graph by each node's own neighbours (rule 3.2)
 abbrev pub Graph : Type 0
 Graph = ℕ → List ℕ
 
--- "node v's own are those from starts[v] up to but excluding starts[v+1]": its adjacency list
+-- rule 3.2: a node's own neighbours, its adjacency list
 unfoldable pub neighboursOf : List ℕ → List ℕ → Graph
 neighboursOf starts neighbours v = take (getD starts (v + 1) 0 - getD starts v 0) (drop (getD starts v 0) neighbours)
 
--- "strictly ascending"
+-- strictly (rule 3.2)
 unfoldable pub ascending : List ℕ → Bool
 ascending [] = true
 ascending (x ∷ []) = true
 ascending (x ∷ y ∷ ys) = ltb x y && ascending (y ∷ ys)
 
--- "`starts` .. has n + 1 entries, the first 0, never falling, the last 2m. `neighbours` .. has 2m entries; .. strictly ascending, never
--- v, and b stands at a exactly when a stands at b.", with m at most 16,384, and with "a neighbour list
--- shorter than the last start" refused. The last start is even, since it is 2m
+-- rules 3.1 and 3.2, as a test. The last start is even, since it is 2m
 unfoldable pub isSurvey : ℕ → List ℕ → List ℕ → Bool
 isSurvey n starts neighbours =
     let G : Graph = neighboursOf starts neighbours in
@@ -38,14 +36,15 @@ isSurvey n starts neighbours =
     && all (λ v. ascending (G v)) (upTo n)
     && all (λ v. all (λ x. ltb x n && not (eqb x v) && has v (G x)) (G v)) (upTo n)
 
--- refusal 2: "n outside 1 to 1,024"; and with another limit
+-- rule 2.4's limits on n; for the listing another limit (rule 11.2)
 abbrev pub outside : (most n : ℕ) → Bool
 outside most n = ltb n 1 || ltb most n
 
+-- refusal 2 (rule 10.1)
 unfoldable pub badSize : ℕ → Bool
 badSize n = outside 1024 n
 
--- the refusals that all calls over a survey share, in their order: 2, 8 for `starts`, 9
+-- rule 10.6, in its order
 unfoldable pub accepting : ℕ → List ℕ → List ℕ → Outcome (Unit {0})
 accepting n starts neighbours =
     if badSize n then refused 2
@@ -53,17 +52,18 @@ accepting n starts neighbours =
     else if not (isSurvey n starts neighbours) then refused 9
     else answered tt
 
--- "A survey is accepted if building's 2 and 9, and its 8 for `starts`, don't apply to n and the two lists": it is valid
+-- rule 3.3, as a test
 unfoldable pub accepted : ℕ → List ℕ → List ℕ → Bool
 accepted n starts neighbours = isAnswered (accepting n starts neighbours)
 
 -- ---- the same as facts (`accepted-facts` and `facts-accepted` of proofs/Acceptance.antt)
 
--- neighbours lie below n, and b stands at a exactly when a stands at b
+-- rule 3.2: neighbours lie below n, and b stands at a exactly when a stands at b
 pub record IsGraph (n : ℕ) (G : Graph) : Type 0 where
   pub below : (v x : ℕ) → v < n → T (has x (G v)) → x < n
   pub symmetric : (v x : ℕ) → v < n → T (has x (G v)) → T (has v (G x))
 
+-- rules 3.1 and 3.2, as facts
 pub record IsSurvey (n : ℕ) (starts neighbours : List ℕ) : Type 0 where
   pub first : getD starts 0 0 ≡ 0
   pub rising : (v : ℕ) → v < n → getD starts v 0 ≤ getD starts (v + 1) 0
@@ -74,6 +74,7 @@ pub record IsSurvey (n : ℕ) (starts neighbours : List ℕ) : Type 0 where
   pub loopless : (v x : ℕ) → v < n → T (has x (neighboursOf starts neighbours v)) → (x ≡ v → ⊥)
   pub graph : IsGraph n (neighboursOf starts neighbours)
 
+-- rule 3.3, as facts
 pub record Accepted (n : ℕ) (starts neighbours : List ℕ) : Type 0 where
   pub some-node : 1 ≤ n
   pub size : n ≤ 1024

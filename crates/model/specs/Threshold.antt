@@ -6,15 +6,14 @@ use Rattle.model.specs.Answers.{Outcome, refused, answered}
 use Rattle.model.specs.Basics.{none, if_then_else_, upTo, firstOf}
 use Rattle.model.specs.Survey.{badSize}
 
--- "Let L(n) be the count of binary digits of n.": the smallest k with n below 2 ^ k
+-- rule 4.1: the smallest k with n below 2 ^ k
 unfoldable pub bitLength : ℕ → ℕ
 bitLength n = firstOf (λ k. ltb n (2 ^ k)) none (upTo (n + 1))
 
--- "The threshold s(n) is the smallest whole s with s × s at least n × L(n).": the least degree of a high node
+-- rule 4.2: the least degree of a high node
 unfoldable pub threshold : ℕ → ℕ
 threshold n = let w = n * bitLength n in firstOf (λ s. leb w (s * s)) none (upTo (w + 1))
 
--- "It is read from a stored table with one entry for each n from 1 to 1,024.": what the open call that reads it answers. Document 01 has
--- no such call (docs/DECISIONS.md, 13); another n is refused 2, as everywhere
+-- rule 10.12: the threshold as an open call (docs/DECISIONS.md, 13)
 unfoldable pub thresholdAnswer : ℕ → Outcome ℕ
 thresholdAnswer n = if badSize n then refused 2 else answered (threshold n)

@@ -12,13 +12,12 @@ use Rattle.model.specs.Graph.{fewest, linked}
 use Rattle.model.specs.Survey.{Graph}
 use Rattle.model.specs.Hubs.{isLow, closed, hubs}
 
--- "If there is a low node, take the smallest-numbered, and search the whole mesh from it and each of its neighbours. If there is
--- none, search from every hub.": the sources of the searches (breadth-first searches of the whole graph)
+-- rule 7.1: the sources of the searches (breadth-first searches of the whole graph)
 unfoldable pub sources : ℕ → ℕ → Graph → List ℕ
 sources n s G = let v = firstOf (isLow s G) none (upTo n) in if eqb v none then hubs n s G else closed G v
 
--- ""Parted" if a search misses a node, else "long" if a search goes deeper than 2, else "short"." (the graph is disconnected; of
--- diameter more than two; of diameter less than four.) A search goes as deep as the greatest distance from its source
+-- rule 7.2: the graph is disconnected; of diameter more than two; of diameter less than four. A search goes as deep as the greatest distance
+-- from its source
 unfoldable pub verdictOf : ℕ → Graph → List ℕ → Verdict
 verdictOf n G list =
     let distance : ℕ → ℕ → ℕ = fewest (linked n G) n in
@@ -26,6 +25,6 @@ verdictOf n G list =
     else if any (λ a. any (λ b. ltb 2 (distance a b)) (upTo n)) list then Long
     else Short
 
--- "The count of searches is given too: that node's neighbours plus one, or the number of hubs, as those sets have it."
+-- rules 7.2 and 7.3: the verdict, with the count of searches
 unfoldable pub testResult : ℕ → ℕ → Graph → TestResult
 testResult n s G = let list = sources n s G in record { verdict = verdictOf n G list; searches = length list }

@@ -1,5 +1,5 @@
--- "A walk lists report + 1 nodes." (`walking-sound` and `walking-short` of proofs/Demand.antt) "A walk may visit a node twice." (it is
--- no path). The nodes of a walk, by a route.
+-- The nodes of a walk, by a route. A part is a segment of the walk. (A walk lists report + 1 nodes: `walking-sound` and `walking-short` of
+-- proofs/Demand.antt.)
 -- Assumes nothing.
 use mathlib.Core.Bool.{Bool, true, _&&_}
 use mathlib.Core.List.{List, [], _∷_, _++_, reverse, tail}
@@ -13,18 +13,16 @@ use Rattle.model.specs.Survey.{Graph}
 use Rattle.model.specs.Hubs.{isLow}
 use Rattle.model.specs.Tables.{entryAt}
 
--- v, and then the rest of a walk if there is one
+-- v, and then the rest of a walk if there is one (rule 6.4)
 unfoldable pub before : ℕ → Option (List ℕ) → Option (List ℕ)
 before v o = Option·map (λ l. v ∷ l) o
 
--- the way on from v: the first neighbour (neighbours ascend, so the smallest) that may be entered and is d links from the goal;
--- none where there is no such
+-- the way on from v: the first neighbour (neighbours ascend, so the smallest) that may be entered and is d links from the goal; none where
+-- there is no such (rules 6.5 and 6.6)
 unfoldable pub next : Graph → (ℕ → Bool) → (ℕ → ℕ) → ℕ → ℕ → ℕ
 next G may left d v = firstOf (λ x. may x && eqb (left x) d) none (G v)
 
--- "Each step leaves one link fewer. A part takes exactly as many steps as its table entry says and must then stand at its goal."
--- A part is a segment of the walk: from a to b over low nodes, or from one of them to the hub. d steps from v; missing where no step leads
--- on or the steps end elsewhere
+-- rule 6.7: d steps from v; missing where no step leads on or the steps end elsewhere than at the goal
 unfoldable pub steps : Graph → (ℕ → Bool) → (ℕ → ℕ) → ℕ → ℕ → ℕ → Option (List ℕ)
 steps G may left goal zero v = if eqb v goal then some (v ∷ []) else missing
 steps G may left goal (suc d) v =
@@ -32,21 +30,21 @@ steps G may left goal (suc d) v =
     let rest = steps G may left goal d x in
     if eqb x none then missing else before v rest
 
--- "By low: from each node go to the smallest-numbered low neighbour x whose Low(x, b) is one less."
+-- rule 6.5: the walk over low nodes, by the entries of Low
 unfoldable pub byLow : ℕ → ℕ → Graph → List ℕ → (a b : ℕ) → Option (List ℕ)
 byLow n s G low a b = steps G (isLow s G) (λ x. entryAt n low x b) b (entryAt n low a b) a
 
--- "from a go by the smallest-numbered neighbour x whose Full(h, x) is one less, to h"
+-- rule 6.6: the part from a to h
 unfoldable pub toHub : ℕ → Graph → List ℕ → (h a : ℕ) → Option (List ℕ)
 toHub n G full h a = steps G (λ x. true) (λ x. entryAt n full h x) h (entryAt n full h a) a
 
--- "then the same walk from b to h, turned round"
+-- rule 6.6: the two parts, the second turned round
 unfoldable pub join : Option (List ℕ) → Option (List ℕ) → Option (List ℕ)
 join missing q = missing
 join (some p) missing = missing
 join (some p) (some q) = some (p ++ tail (reverse q))
 
--- the nodes of the walk by a route, in graph G with threshold s; there are none where there is no route, so that the list is all none
+-- rule 6.4: the nodes of the walk by a route, in graph G with threshold s; there are none where there is no route
 unfoldable pub nodes : ℕ → ℕ → Graph → List ℕ → List ℕ → (a b : ℕ) → Route → Option (List ℕ)
 nodes n s G full low a b Itself = some (a ∷ [])
 nodes n s G full low a b Low = byLow n s G low a b

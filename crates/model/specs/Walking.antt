@@ -16,33 +16,33 @@ use Rattle.model.specs.Tables.{shortTables}
 use Rattle.model.specs.Pair.{pair}
 use Rattle.model.specs.Walk.{nodes}
 
+-- the answer, and what the walk list holds at return (rule 10.9)
 pub record AfterWalking : Type 0 where
   pub answer : Outcome Answer
   pub walk : List ℕ
 
--- what a call of the code returned and left in the walk list
+-- what a call of the code returned and left (rule 10.9)
 abbrev pub walkReturned : Asking → List ℕ → AfterWalking
 walkReturned r w = record { answer = pairAnswer r; walk = w }
 
--- "Refused, or with no route, every entry of the walk list is none; otherwise the entries after the walk are none." w is the list's
--- length
+-- rule 10.9: refused, a list of w entries is all none
 unfoldable pub refuseWalk : ℕ → ℕ → AfterWalking
 refuseWalk w k = record { answer = refused k; walk = replicate w none }
 
--- "11 .. no step leads on, or the steps end at the wrong node; 8 the walk list shorter than report + 1": l has report + 1 nodes, or none
--- where there is no route (`walking-short` of proofs/Demand.antt)
+-- rule 10.9: 11 where there are no nodes, 8 where the list is shorter than them, else the nodes and none after them. l has report + 1 nodes,
+-- or none where there is no route (`walking-short` of proofs/Demand.antt)
 unfoldable pub fit : ℕ → Answer → Option (List ℕ) → AfterWalking
 fit w x missing = refuseWalk w 11
 fit w x (some l) =
     if ltb w (length l) then refuseWalk w 8
     else record { answer = answered x; walk = l ++ replicate (w - length l) none }
 
--- "The answer is the pair's."
+-- rule 10.9: the answer is the pair's
 unfoldable pub walkOf : ℕ → (n s : ℕ) → Graph → (full low : List ℕ) (a b : ℕ) → Outcome Answer → AfterWalking
 walkOf w n s G full low a b (refused k) = refuseWalk w k
 walkOf w n s G full low a b (answered x) = fit w x (nodes n s G full low a b (x .route))
 
--- "2; 8 as for building (no hub list), 9; 10; 11 as for a pair, or .."
+-- rule 10.9, in its order, with the threshold of rule 4.2
 unfoldable pub walking : (n : ℕ) (starts neighbours full low report : List ℕ) (a b w : ℕ) → AfterWalking
 walking n starts neighbours full low report a b w =
     if badSize n then refuseWalk w 2
