@@ -3,7 +3,7 @@
 // The entry that means none: an infinite distance, or no node.
 pub const NONE: u16 = 65535;
 
-// Why a call refuses. `number` of specs/Answers.antt gives each its number in document 01.
+// Why a call refuses. `number` of specs/Answers.antt gives each its number.
 pub enum Refusal {
     // The text is not in the stated form.
     Form,

@@ -1,4 +1,4 @@
--- The values of every answer are within the limits of document 01, so that each fits its field of the code.
+-- The values of every answer are within the limits of a survey, so that each fits its field of the code.
 -- Assumes nothing.
 use mathlib.Core.Path.{_≡_, refl, ap, _∙_, subst}
 use mathlib.Core.Bool.{not}

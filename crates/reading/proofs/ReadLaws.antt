@@ -146,7 +146,7 @@ module _ (N M : ℕ) (text s₀ x₀ s x : List ℕ) (hs : s ≡ replicate (leng
       lengths (λ p q. r ≡ readingOf p q (parse N M p q text))
       (h ∙ sym (ap (readingOf (length s) (length x)) (parse-counted N M (length s) (length x) text n m rest (sym e))))
 
--- within document 01's limits
+-- within the limits of a survey
 pub read-is : (text : List ℕ) (p q : ℕ) (r : AfterReading) → r ≡ readingOf p q (parse 1024 16384 p q text) → (r ≡ reading text p q) × ReadRight text r
 unfolding reading
 read-is text p q r e = (e, subst (λ (x : AfterReading). ReadRight text x) (sym e) (reading-right text p q))

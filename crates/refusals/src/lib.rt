@@ -1,4 +1,4 @@
-// The number that document 01 gives a refusal.
+// The number of a refusal.
 use model::Refusal;
 ghost use mathlib.Core.Path.{_≡_};
 ghost use Rattle.model.specs.Answers.{number};

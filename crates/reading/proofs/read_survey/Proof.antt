@@ -1,4 +1,4 @@
--- `reading::read_survey` meets its contract: it reads within document 01's limits, and what is read is right.
+-- `reading::read_survey` meets its contract: it reads within the limits of a survey, and what is read is right.
 -- Assumes nothing.
 use lib.ListN.{length}
 use Rattle.reading.proofs.ReadLaws.{read-is}
