@@ -14,7 +14,6 @@ ghost use Prim.Native.Nat.{ℕ, _<_, _^_};
 ghost use Rattle.model.specs.Answers.{answered, acceptAnswer, readAnswer, countAnswer, pairAnswer, testAnswer};
 ghost use Rattle.codes.specs.Code.{noField, countField, sizeField, routeNumber, hubNumber, answerField, verdictNumber, testField, noValue, countIn, sizeIn, answerIn, testIn, IsCode};
 
-// What acceptance answers, as one number.
 pub fn accepting_code(x: Accepting) -> u64
     ensures { λ r. ⌜ IsCode noField noValue (acceptAnswer x) r ⌝ }
 {
@@ -24,7 +23,6 @@ pub fn accepting_code(x: Accepting) -> u64
     }
 }
 
-// What a call answers whose value is a count, as one number.
 pub fn counting_code(x: Counting) -> u64
     requires { ⌜ ((k : ℕ) → countAnswer x ≡ answered k → k < 2 ^ 48) ⌝ }
     ensures { λ r. ⌜ IsCode countField countIn (countAnswer x) r ⌝ }
@@ -35,7 +33,6 @@ pub fn counting_code(x: Counting) -> u64
     }
 }
 
-// What reading answers, as one number.
 pub fn reading_code(x: Reading) -> u64
     requires { ⌜ ((s : Size) → readAnswer x ≡ answered s → (s .nodes < 65536) × (s .links < 65536)) ⌝ }
     ensures { λ r. ⌜ IsCode sizeField sizeIn (readAnswer x) r ⌝ }
@@ -46,7 +43,6 @@ pub fn reading_code(x: Reading) -> u64
     }
 }
 
-// Which of the four routes.
 pub fn route_number(x: Route) -> u64
     ensures { λ r. ⌜ r ≡ routeNumber x ⌝ }
     ensures bounded { λ r. ⌜ r < 4 ⌝ }
@@ -72,7 +68,7 @@ pub fn hub_number(x: Route) -> u64
     }
 }
 
-// What asking a pair and writing a walk answer, as one number.
+// For asking a pair and for writing a walk.
 pub fn asking_code(x: Asking) -> u64
     ensures { λ r. ⌜ IsCode answerField answerIn (pairAnswer x) r ⌝ }
 {
@@ -85,7 +81,6 @@ pub fn asking_code(x: Asking) -> u64
     }
 }
 
-// Which of the three verdicts.
 pub fn verdict_number(x: Verdict) -> u64
     ensures { λ r. ⌜ r ≡ verdictNumber x ⌝ }
     ensures bounded { λ r. ⌜ r < 3 ⌝ }
@@ -97,7 +92,6 @@ pub fn verdict_number(x: Verdict) -> u64
     }
 }
 
-// What testing answers, as one number.
 pub fn testing_code(x: Testing) -> u64
     requires { ⌜ ((t : TestResult) → testAnswer x ≡ answered t → t .searches < 65536) ⌝ }
     ensures { λ r. ⌜ IsCode testField testIn (testAnswer x) r ⌝ }

@@ -10,7 +10,6 @@ ghost use Rattle.model.specs.Survey.{neighboursOf, Accepted};
 ghost use Rattle.model.specs.Tables.{rowsOf};
 ghost use Rattle.depths.specs.Depth.{greatest, ofDepth};
 
-// The greater of two numbers.
 fn greater(a: u16, b: u16) -> u16
     ensures { λ r. ⌜ r ≡ max a b ⌝ }
 {
@@ -62,7 +61,6 @@ pub fn search_depth(n: usize, starts: &[u32], neighbours: &[u16], sources: &[u16
     most
 }
 
-// The verdict on a depth.
 pub fn verdict_on(depth: u16) -> Verdict
     ensures { λ r. ⌜ r ≡ ofDepth depth ⌝ }
 {

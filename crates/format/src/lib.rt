@@ -7,7 +7,6 @@ ghost use Rattle.model.specs.Numbers.{digits};
 ghost use Rattle.model.specs.SurveyText.{lineOf};
 ghost use Rattle.lists.specs.Writing.{Wrote};
 
-// The number of digits of a number.
 pub fn digit_count(x: u32) -> usize
     ensures { λ r. ⌜ r ≡ length (digits x) ⌝ }
 {

@@ -66,7 +66,6 @@ fn run(text: &[u8]) {
     run_calls(text, &mut starts, &mut neighbours);
 }
 
-// Reads the text and runs the calls.
 fn read_and_run(input: &mut [u8]) {
     let length = io::read_full(0, input);
     run(&input[..length]);

@@ -6,7 +6,6 @@ ghost use lib.ListN.{length, replicate};
 ghost use Rattle.model.specs.Basics.{upTo, keep, firstOf};
 ghost use Rattle.nodeset.specs.NodeSet.{member, inserted, intersection, difference};
 
-// Puts a node into the set.
 pub fn insert(words: &mut [u64], v: usize)
     requires { ⌜ v / 64 < length (now words) ⌝ }
     ensures { λ _. ⌜ member (now (words .exit)) ≡ inserted (member (now (words .entry))) v ⌝ }
@@ -16,7 +15,6 @@ pub fn insert(words: &mut [u64], v: usize)
     words[i] = words[i] | (1u64 << k);
 }
 
-// Removes a node from the set.
 pub fn remove(words: &mut [u64], v: usize)
     requires { ⌜ v / 64 < length (now words) ⌝ }
     ensures { λ _. ⌜ member (now (words .exit)) ≡ difference (member (now (words .entry))) (λ x. eqb x v) ⌝ }
@@ -26,7 +24,6 @@ pub fn remove(words: &mut [u64], v: usize)
     words[i] = words[i] & !(1u64 << k);
 }
 
-// Whether a node is in the set.
 pub fn contains(words: &[u64], v: usize) -> bool
     requires { ⌜ v / 64 < length (now words) ⌝ }
     ensures { λ r. ⌜ r ≡ member (now (words .entry)) v ⌝ }

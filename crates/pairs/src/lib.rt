@@ -55,7 +55,6 @@ fn attaining_hub(n: usize, full: &[u16], a: usize, b: usize, r: u16) -> u16
     NONE
 }
 
-// The report with its route.
 fn answer_by(report: u16, route: Route) -> Asking
     ensures { λ r. ⌜ pairAnswer r ≡ answered (answer report route) ⌝ }
 {

@@ -9,7 +9,6 @@ ghost use Rattle.model.specs.Basics.{none, upTo, has, over};
 ghost use Rattle.model.specs.Tables.{reportEntry, reportOf};
 ghost use Rattle.report_table.specs.Rows.{relaxed};
 
-// The lesser of two numbers.
 fn lesser(a: u16, b: u16) -> u16
     ensures { λ r. ⌜ r ≡ min a b ⌝ }
 {

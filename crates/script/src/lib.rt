@@ -113,7 +113,6 @@ pub fn print_entries(letter: u8, list: &[u16], k: u64) {
     io::write_all(1, b"\n");
 }
 
-// What reading answers and leaves.
 pub fn print_read(answer: Reading, starts: &[u32], neighbours: &[u16]) {
     let s = sum32(starts);
     let t = sum16(neighbours);
@@ -123,7 +122,6 @@ pub fn print_read(answer: Reading, starts: &[u32], neighbours: &[u16]) {
     }
 }
 
-// What building answers and leaves.
 pub fn print_built(answer: Counting, full: &[u16], low: &[u16], report: &[u16], hubs: &[u16]) {
     let s = sum16(full);
     let t = sum16(low);
@@ -148,7 +146,6 @@ pub fn print_answer(letter: u8, answer: Asking, sum: u64) {
     }
 }
 
-// What testing answers.
 pub fn print_tested(answer: Testing) {
     match answer {
         Testing::Refused(r) => print_line(b'T', &[refusal_number(r) as u64, 0, 0]),

@@ -1034,7 +1034,6 @@ const THRESHOLD: [u16; 1024] = [
     107,
 ];
 
-// The threshold of n nodes.
 pub fn threshold_at(n: usize) -> usize
     requires { ⌜ (1 ≤ n) × (n ≤ 1024) ⌝ }
     ensures { λ r. ⌜ r ≡ threshold n ⌝ }
