@@ -22,19 +22,24 @@ enum-known-x-2 : tie.Need-enum-known-x-2
 enum-known-x-2 c = search needs
 
 mul-result : tie.Need-mul-result
-mul-result c = let x = c .before .x2 in let few = c .before .before .before .pre (x .given .0 .0) (ap readAnswer (x .given .1)) in omega arith
+mul-result c = let x = c .before .x2 in let few = c .before .before .before .pre (x .given .0 .0) (ap readAnswer (x .given .1)) in omega
+    arith
 
 add-result : tie.Need-add-result
-add-result c = let x = c .before .x2 in let few = c .before .before .before .pre (x .given .0 .0) (ap readAnswer (x .given .1)) in omega arith
+add-result c = let x = c .before .x2 in let few = c .before .before .before .pre (x .given .0 .0) (ap readAnswer (x .given .1)) in omega
+    arith
 
 mul-result-2 : tie.Need-mul-result-2
-mul-result-2 c = let x = c .before .x2 in let few = c .before .before .before .pre (x .given .0 .0) (ap readAnswer (x .given .1)) in omega arith
+mul-result-2 c = let x = c .before .x2 in let few = c .before .before .before .pre (x .given .0 .0) (ap readAnswer (x .given .1)) in omega
+    arith
 
 returns : tie.Need-returns
-returns c = let x = c .before .before .x in refusal-code sizeField sizeIn (x .given .0 .0) (ap readAnswer (x .given .1)) (c .refusal-number .ensures)
+returns c = let x = c .before .before .x in refusal-code sizeField sizeIn (x .given .0 .0) (ap readAnswer (x .given .1))
+    (c .refusal-number .ensures)
 
 returns-2 : tie.Need-returns-2
-returns-2 c = let x = c .before .x2 in let few = c .before .before .before .pre (x .given .0 .0) (ap readAnswer (x .given .1)) in answer-code sizeField sizeIn (x .given .0 .0) (size-back (x .given .0 .0) (few .0) (few .1)) (ap readAnswer (x .given .1)) refl
+returns-2 c = let x = c .before .x2 in let few = c .before .before .before .pre (x .given .0 .0) (ap readAnswer (x .given .1))
+    in answer-code sizeField sizeIn (x .given .0 .0) (size-back (x .given .0 .0) (few .0) (few .1)) (ap readAnswer (x .given .1)) refl
 
 pub reading-code-spec : {M : Type 1} → statement M
 reading-code-spec =

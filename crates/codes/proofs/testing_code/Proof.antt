@@ -26,19 +26,25 @@ verdict-number-requires : tie.Need-verdict-number-requires
 verdict-number-requires c κs = search needs
 
 mul-result : tie.Need-mul-result
-mul-result c = let x = c .before .before .x2 in let few = c .before .before .before .before .pre (x .given .0 .0) (ap testAnswer (x .given .1)) in omega arith
+mul-result c = let x = c .before .before .x2 in let few = c .before .before .before .before .pre (x .given .0 .0)
+    (ap testAnswer (x .given .1)) in omega arith
 
 add-result : tie.Need-add-result
-add-result c = let x = c .before .before .x2 in let few = c .before .before .before .before .pre (x .given .0 .0) (ap testAnswer (x .given .1)) in omega arith
+add-result c = let x = c .before .before .x2 in let few = c .before .before .before .before .pre (x .given .0 .0)
+    (ap testAnswer (x .given .1)) in omega arith
 
 mul-result-2 : tie.Need-mul-result-2
-mul-result-2 c = let x = c .before .before .x2 in let few = c .before .before .before .before .pre (x .given .0 .0) (ap testAnswer (x .given .1)) in omega arith
+mul-result-2 c = let x = c .before .before .x2 in let few = c .before .before .before .before .pre (x .given .0 .0)
+    (ap testAnswer (x .given .1)) in omega arith
 
 returns : tie.Need-returns
-returns c = let x = c .before .before .x in refusal-code testField testIn (x .given .0 .0) (ap testAnswer (x .given .1)) (c .refusal-number .ensures)
+returns c = let x = c .before .before .x in refusal-code testField testIn (x .given .0 .0) (ap testAnswer (x .given .1))
+    (c .refusal-number .ensures)
 
 returns-2 : tie.Need-returns-2
-returns-2 c = let x = c .before .before .x2 in let few = c .before .before .before .before .pre (x .given .0 .0) (ap testAnswer (x .given .1)) in answer-code testField testIn (x .given .0 .0) (test-back (x .given .0 .0) few) (ap testAnswer (x .given .1)) (ap (λ k. 65536 * (k + 65536 * x .given .0 .0 .searches)) (c .verdict-number .ensures .0))
+returns-2 c = let x = c .before .before .x2 in let few = c .before .before .before .before .pre (x .given .0 .0)
+    (ap testAnswer (x .given .1)) in answer-code testField testIn (x .given .0 .0) (test-back (x .given .0 .0) few)
+    (ap testAnswer (x .given .1)) (ap (λ k. 65536 * (k + 65536 * x .given .0 .0 .searches)) (c .verdict-number .ensures .0))
 
 pub testing-code-spec : {M : Type 1} → statement M
 testing-code-spec =

@@ -14,7 +14,8 @@ accepting-code-requires : tie.Need-accepting-code-requires
 accepting-code-requires c κs = search needs
 
 returns : tie.Need-returns
-returns c = subst (λ (o : Outcome (Unit {0})). IsCode noField noValue o (c .accepting-code .result)) (c .before .accept .ensures) (c .accepting-code .ensures)
+returns c = subst (λ (o : Outcome (Unit {0})). IsCode noField noValue o (c .accepting-code .result)) (c .before .accept .ensures)
+    (c .accepting-code .ensures)
 
 pub puxerdau-accept-spec : {M : Type 1} → statement M
 puxerdau-accept-spec = tie.close (tie.spec accept-requires accepting-code-requires returns)

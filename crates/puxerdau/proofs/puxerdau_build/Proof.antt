@@ -16,8 +16,9 @@ build-requires c κs = search needs
 
 counting-code-requires : tie.Need-counting-code-requires
 counting-code-requires c κs =
+    let at-build = c .before .before .before .before .before .before .before .before in
     let start = c .before .before .before .before .before .before .before .before .before .before .before .before .before .before .before .before .before .before .before in
-    let call = c .before .before .before .before .before .before .before .before .build in
+    let call = at-build .build in
     λ k e. omega (
       arith,
       hubs-fit (start .args .n) (start .args .starts .now) (start .args .neighbours .now) (start .args .full .now) (start .args .low .now)
@@ -38,9 +39,16 @@ same-length-4 c = search needs
 
 returns : tie.Need-returns
 returns c =
-    let call = c .before .before .before .before .before .before .before .before .before .build in
+    let at-build = c .before .before .before .before .before .before .before .before .before in
+    let call = at-build .build in
     passed-on countField countIn (λ (x : AfterBuilding). x .answer)
-    (λ o. record { answer = o; full = call .last .1 .1 .1 .0; low = call .last .1 .1 .1 .1 .0; report = call .last .1 .1 .1 .1 .1 .0; hubs = call .last .1 .1 .1 .1 .1 .1 .0 })
+    (λ o. record {
+      answer = o;
+      full = call .last .1 .1 .1 .0;
+      low = call .last .1 .1 .1 .1 .0;
+      report = call .last .1 .1 .1 .1 .1 .0;
+      hubs = call .last .1 .1 .1 .1 .1 .1 .0;
+    })
     (BuildRight _ _ _ _) (λ o. refl) (c .counting-code .ensures) (call .ensures .0) (call .ensures .1)
 
 pub puxerdau-build-spec : {M : Type 1} → statement M

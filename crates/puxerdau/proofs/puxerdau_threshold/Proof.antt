@@ -17,7 +17,8 @@ counting-code-requires : tie.Need-counting-code-requires
 counting-code-requires c κs = λ k e. omega (arith, threshold-fits (c .before .args .n) k (sym (c .threshold-of .ensures) ∙ e))
 
 returns : tie.Need-returns
-returns c = subst (λ (o : Outcome ℕ). IsCode countField countIn o (c .counting-code .result)) (c .before .threshold-of .ensures) (c .counting-code .ensures)
+returns c = subst (λ (o : Outcome ℕ). IsCode countField countIn o (c .counting-code .result)) (c .before .threshold-of .ensures)
+    (c .counting-code .ensures)
 
 pub puxerdau-threshold-spec : {M : Type 1} → statement M
 puxerdau-threshold-spec = tie.close (tie.spec threshold-of-requires counting-code-requires returns)

@@ -31,9 +31,11 @@ returns c =
     let neighbours = start .args .neighbours .now in
     let a = start .args .a in
     let b = start .args .b in
-    passed-on answerField answerIn (λ (x : AfterWalking). x .answer) (λ o. record { answer = o; walk = call .last .1 .1 .1 .1 .1 .1 .1 .1 .0 })
+    passed-on answerField answerIn (λ (x : AfterWalking). x .answer)
+    (λ o. record { answer = o; walk = call .last .1 .1 .1 .1 .1 .1 .1 .1 .0 })
     (λ x. WalkSound (linked n (neighboursOf starts neighbours)) a b x
-    × WalkRight n (threshold n) starts neighbours (start .args .full .now) (start .args .low .now) (start .args .report .now) a b (length (start .args .walk .now)) x)
+    × WalkRight n (threshold n) starts neighbours (start .args .full .now) (start .args .low .now) (start .args .report .now) a b
+    (length (start .args .walk .now)) x)
     (λ o. refl) (c .asking-code .ensures) (call .ensures .0) (call .ensures .1)
 
 pub puxerdau-walk-spec : {M : Type 1} → statement M
