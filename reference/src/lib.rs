@@ -1,5 +1,5 @@
-//! Reference implementation of document 01, written for comparison:
-//! every rule is carried out by the most direct means.
+//! Reference implementation of the rules (docs/RULES.md), written for
+//! comparison: every rule is carried out by the most direct means.
 
 mod answers;
 mod listing;
