@@ -12,7 +12,7 @@ pub use answers::{ask, walk, Answer, Route};
 pub use listing::reports;
 pub use survey::accept;
 pub use tables::{build, threshold};
-pub use text::{read, write};
+pub use text::{put_text, read, write};
 pub use verdict::{test, Tested, Verdict};
 
 /// The table entry that means "none".
