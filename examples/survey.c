@@ -3,14 +3,20 @@
 #include "puxerdau.h"
 #include <stdio.h>
 #include <stdlib.h>
+#include <string.h>
 
-enum { NODES = 1024, LINKS = 16384, TEXT = 1 << 20 };
+enum { NODES = PUXERDAU_MAX_NODES };
 
-static uint8_t text[TEXT], again[TEXT];
-static uint32_t starts[NODES + 1];
-static uint16_t neighbours[2 * LINKS];
-static uint16_t full[NODES * NODES], low[NODES * NODES], report[NODES * NODES];
-static uint16_t hubs[NODES], walk[2 * NODES];
+static uint8_t text[PUXERDAU_FRONT_LENGTH], written[PUXERDAU_TEXT_LENGTH];
+static uint32_t starts[PUXERDAU_STARTS_LENGTH];
+static uint16_t neighbours[PUXERDAU_NEIGHBOURS_LENGTH];
+static uint16_t full[PUXERDAU_TABLE_LENGTH(NODES)], low[PUXERDAU_TABLE_LENGTH(NODES)], report[PUXERDAU_TABLE_LENGTH(NODES)];
+static uint16_t hubs[PUXERDAU_HUBS_LENGTH(NODES)], walk[PUXERDAU_WALK_LENGTH(NODES)];
+
+#define LENGTH(list) (sizeof(list) / sizeof *(list))
+
+static struct puxerdau_survey survey = {0, starts, LENGTH(starts), neighbours, LENGTH(neighbours)};
+static const struct puxerdau_tables tables = {full, LENGTH(full), low, LENGTH(low), report, LENGTH(report), hubs, LENGTH(hubs)};
 
 /* Whether a call was refused, which is printed. */
 static int refused(const char *call, uint64_t answer)
@@ -21,21 +27,22 @@ static int refused(const char *call, uint64_t answer)
     return 1;
 }
 
-static void print_walk(size_t n, size_t a, size_t b)
+static void print_count(unsigned count, const char *one, const char *more) { printf("%u %s", count, count == 1 ? one : more); }
+
+static void print_walk(size_t a, size_t b)
 {
-    uint64_t answer = puxerdau_walk(n, starts, NODES + 1, neighbours, 2 * LINKS, full, n * n, low, n * n, report, n * n, a, b, walk,
-                                    2 * NODES);
+    uint64_t answer = puxerdau_survey_walk(&survey, &tables, a, b, walk, LENGTH(walk));
     if (refused("walk", answer))
         return;
     printf("walk of %zu and %zu:", a, b);
-    for (size_t i = 0; i < 2 * NODES && walk[i] != PUXERDAU_NONE; i++)
+    for (size_t i = 0; i <= puxerdau_report(answer); i++)
         printf(" %u", walk[i]);
     printf("\n");
 }
 
-static void print_pair(size_t n, size_t a, size_t b)
+static void print_pair(size_t a, size_t b)
 {
-    uint64_t answer = puxerdau_ask(n, full, n * n, low, n * n, report, n * n, a, b);
+    uint64_t answer = puxerdau_survey_ask(&survey, &tables, a, b);
     if (refused("ask", answer))
         return;
     if (puxerdau_route(answer) == PUXERDAU_NO_ROUTE) {
@@ -47,20 +54,40 @@ static void print_pair(size_t n, size_t a, size_t b)
         printf(" through hub %u\n", puxerdau_hub(answer));
     else
         printf(puxerdau_route(answer) == PUXERDAU_LOW ? " by low nodes\n" : "\n");
-    print_walk(n, a, b);
+    print_walk(a, b);
+}
+
+/* Whether every word is a number, and there are two for each pair. */
+static int are_pairs(int count, char **words)
+{
+    for (int i = 0; i < count; i++)
+        if (*words[i] == '\0' || words[i][strspn(words[i], "0123456789")] != '\0')
+            return 0;
+    return count % 2 == 0;
 }
 
 int main(int count, char **words)
 {
     static const char *const verdicts[] = {"parted", "long", "short"};
-    size_t length = fread(text, 1, TEXT, stdin);
-    uint64_t answer = puxerdau_read(text, length, starts, NODES + 1, neighbours, 2 * LINKS);
+    if (!are_pairs(count - 1, words + 1)) {
+        fprintf(stderr, "usage: survey [NODE NODE].. < SURVEY\n");
+        return 2;
+    }
+    size_t length = fread(text, 1, sizeof text, stdin);
+    if (ferror(stdin)) {
+        perror("standard input");
+        return 1;
+    }
+
+    uint64_t answer = puxerdau_survey_read(&survey, text, length);
     if (refused("read", answer))
         return 1;
-    size_t n = puxerdau_nodes(answer);
-    printf("%zu nodes, %u links\n", n, puxerdau_links(answer));
+    print_count(puxerdau_nodes(answer), "node", "nodes");
+    printf(", ");
+    print_count(puxerdau_links(answer), "link", "links");
+    printf("\n");
 
-    answer = puxerdau_build(n, starts, NODES + 1, neighbours, 2 * LINKS, full, n * n, low, n * n, report, n * n, hubs, NODES);
+    answer = puxerdau_survey_build(&survey, &tables);
     if (refused("build", answer))
         return 1;
     printf("hubs:");
@@ -68,17 +95,20 @@ int main(int count, char **words)
         printf(" %u", hubs[i]);
     printf("\n");
 
+    /* a number that is too large for strtoul becomes the largest, which is no node either */
     for (int i = 1; i + 1 < count; i += 2)
-        print_pair(n, strtoul(words[i], NULL, 10), strtoul(words[i + 1], NULL, 10));
+        print_pair(strtoul(words[i], NULL, 10), strtoul(words[i + 1], NULL, 10));
 
-    answer = puxerdau_test(n, starts, NODES + 1, neighbours, 2 * LINKS);
+    answer = puxerdau_survey_test(&survey);
     if (refused("test", answer))
         return 1;
-    printf("%s after %u searches\n", verdicts[puxerdau_verdict(answer)], puxerdau_searches(answer));
+    printf("%s after ", verdicts[puxerdau_verdict(answer)]);
+    print_count(puxerdau_searches(answer), "search", "searches");
+    printf("\n");
 
-    answer = puxerdau_write(n, starts, NODES + 1, neighbours, 2 * LINKS, again, TEXT);
+    answer = puxerdau_survey_write(&survey, written, sizeof written);
     if (refused("write", answer))
         return 1;
-    fwrite(again, 1, puxerdau_count(answer), stdout);
+    fwrite(written, 1, puxerdau_count(answer), stdout);
     return 0;
 }

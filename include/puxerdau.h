@@ -1,11 +1,24 @@
-/* Hop reports for C: the open calls of the proved library, in target/staticlib/liblibrary.a (`rt staticlib library`).
+/* Puxerdau: hop reports of a mesh of nodes and links, for C and C++.
+ * SPDX-License-Identifier: Apache-2.0
  *
- * A list is a pointer and then its count of entries. Every count and every node number is allowed: what does not fit is refused.
- * The caller owes only that each pointer is not null and is aligned for its entries, that so many entries stand behind it, and that a
- * list which is written overlaps no other list of the call. Calls allocate nothing and keep nothing; they may run in several threads
- * on different lists. They use less than 256 kB of stack.
+ * The functions are in libpuxerdau.a, whose objects are for x86-64 with the System V ABI and for nothing else. They need memcpy and memset
+ * from elsewhere, and use SSE2 registers and the red zone, the 128 bytes below the stack pointer.
  *
- * The answer is one number of 64 bits: `code` of crates/codes/specs/Code.antt, taken apart by the functions below. */
+ * A list is a pointer and then its count of entries. Every count, node number and entry is allowed: what does not fit is refused. The
+ * caller owes only that each pointer, also of an empty list, is not null and is aligned for its entries; that so many entries stand behind
+ * it; that a list which is written overlaps no other list of the call; that no other thread writes to a list of the call, or reads one
+ * that is written, until it returns; and that PUXERDAU_STACK_BYTES of stack are free.
+ *
+ * What is known of the functions, and how:
+ *  - Proved of their source, on its language's abstract machine: what each answers and what it leaves in every list, also where it refuses;
+ *    that it stays within the lists; that it ends (the contracts of crates/puxerdau/src/lib.rt). The lengths below are proved too.
+ *  - True of the compiled functions as far as the compiler's back end is right, which is not proved: the same; and that a call allocates
+ *    nothing and keeps nothing, so that threads may call at once.
+ *  - Compared with a second implementation, on random input: what the compiled functions answer and leave (comparison/compare).
+ *  - Measured: the stack (comparison/stack).
+ * The declarations and the inline functions of this file are not proved; examples/run and comparison/stack run them.
+ *
+ * An answer is one number of 64 bits: `code` of crates/codes/specs/Code.antt, taken apart by the functions below. */
 #ifndef PUXERDAU_H
 #define PUXERDAU_H
 
@@ -15,6 +28,41 @@
 #ifdef __cplusplus
 extern "C" {
 #endif
+
+#define PUXERDAU_VERSION_MAJOR 1
+#define PUXERDAU_VERSION_MINOR 0
+#define PUXERDAU_VERSION_PATCH 0
+#define PUXERDAU_QUOTED(x) #x
+#define PUXERDAU_DOTTED(a, b, c) PUXERDAU_QUOTED(a) "." PUXERDAU_QUOTED(b) "." PUXERDAU_QUOTED(c)
+#define PUXERDAU_VERSION_STRING PUXERDAU_DOTTED(PUXERDAU_VERSION_MAJOR, PUXERDAU_VERSION_MINOR, PUXERDAU_VERSION_PATCH)
+
+/* The most nodes and links of a survey, and of a text that is listed. */
+#define PUXERDAU_MAX_NODES 1024
+#define PUXERDAU_MAX_LINKS 16384
+#define PUXERDAU_LIST_MAX_NODES 128
+#define PUXERDAU_LIST_MAX_LINKS 2048
+
+/* Lengths that are always enough, each with the place of its proof. */
+
+/* The lists of a survey: `reading-enough` of crates/model/proofs/Sizes.antt. */
+#define PUXERDAU_STARTS_LENGTH (PUXERDAU_MAX_NODES + 1)
+#define PUXERDAU_NEIGHBOURS_LENGTH (2 * PUXERDAU_MAX_LINKS)
+/* Each table of n nodes (2 MiB for 1,024) and the hub list: the contract of puxerdau_build. */
+#define PUXERDAU_TABLE_LENGTH(n) ((size_t)(n) * (size_t)(n))
+#define PUXERDAU_HUBS_LENGTH(n) ((size_t)(n))
+/* The walk list of n nodes: `walking-enough` and `built-enough` of Sizes.antt. */
+#define PUXERDAU_WALK_LENGTH(n) (2 * (size_t)(n))
+/* The buffer for a survey's text, 196,621 bytes: `text-few` of Sizes.antt. */
+#define PUXERDAU_TEXT_LENGTH (13 + 12 * PUXERDAU_MAX_LINKS)
+/* The buffer for a listing, 146,314 bytes: the contract of puxerdau_list. */
+#define PUXERDAU_LISTING_LENGTH (10 + 9 * (PUXERDAU_LIST_MAX_NODES * (PUXERDAU_LIST_MAX_NODES - 1)))
+/* The front of a text, 393,241 bytes: no later byte changes what reading answers or leaves. By `parse-front` of
+ * crates/model/proofs/Fronts.antt. */
+#define PUXERDAU_FRONT_LENGTH (24 * (PUXERDAU_MAX_LINKS + 1) + 1)
+
+/* Stack that is enough for any call, measured on the archive that the kit `rattle-kit-5b-plain` (`rt version`) makes. The most were
+ * 388,072 bytes by puxerdau_list and 168,208 by puxerdau_walk. */
+#define PUXERDAU_STACK_BYTES 524288
 
 /* A table entry, or an entry of a list of nodes, that means none. */
 #define PUXERDAU_NONE 65535u
@@ -40,7 +88,7 @@ enum puxerdau_verdict { PUXERDAU_PARTED = 0, PUXERDAU_LONG = 1, PUXERDAU_SHORT =
 
 /* The parts of an answer. Each is 0 in an answer that was refused, but for the refusal. */
 static inline unsigned puxerdau_refusal(uint64_t answer) { return (unsigned)(answer & 65535); }
-static inline uint64_t puxerdau_count(uint64_t answer) { return answer >> 16; }                    /* threshold, write, build */
+static inline uint64_t puxerdau_count(uint64_t answer) { return answer >> 16; }                    /* threshold, write, build, list */
 static inline unsigned puxerdau_nodes(uint64_t answer) { return (unsigned)(answer >> 16 & 65535); }    /* read */
 static inline unsigned puxerdau_links(uint64_t answer) { return (unsigned)(answer >> 32 & 65535); }    /* read */
 static inline unsigned puxerdau_report(uint64_t answer) { return (unsigned)(answer >> 16 & 65535); }   /* ask, walk */
@@ -52,13 +100,13 @@ static inline unsigned puxerdau_searches(uint64_t answer) { return (unsigned)(an
 /* The least degree of a high node among n nodes. Refused 2. */
 uint64_t puxerdau_threshold(size_t n);
 
-/* Reads a survey's text. `starts` wants n + 1 entries and `neighbours` 2m; 1,025 and 32,768 are always enough. Refused 1 to 8, both
- * lists are all zero; else they are zero past the used entries. Answers nodes and links. */
+/* Reads a survey's text. `starts` wants n + 1 entries and `neighbours` 2m. Refused 1 to 8, both lists are all zero; else they are zero past
+ * the used entries. Answers nodes and links. */
 uint64_t puxerdau_read(const uint8_t *text, size_t text_length, uint32_t *starts, size_t starts_length, uint16_t *neighbours,
                        size_t neighbours_length);
 
-/* Writes a survey's text; 200,000 bytes are always enough. Refused 2, 8, 9 or 12, the buffer is as it was; else it is as it was past
- * the text. Answers the text's length as its count. */
+/* Writes a survey's text. Refused 2, 8, 9 or 12, the buffer is as it was; else it is as it was past the text. Answers the text's length
+ * as its count. */
 uint64_t puxerdau_write(size_t n, const uint32_t *starts, size_t starts_length, const uint16_t *neighbours, size_t neighbours_length,
                         uint8_t *buffer, size_t buffer_length);
 
@@ -75,14 +123,89 @@ uint64_t puxerdau_build(size_t n, const uint32_t *starts, size_t starts_length, 
 uint64_t puxerdau_ask(size_t n, const uint16_t *full, size_t full_length, const uint16_t *low, size_t low_length,
                       const uint16_t *report, size_t report_length, size_t a, size_t b);
 
-/* Writes the walk of a and b: report + 1 nodes, then none; 2n entries are always enough. Refused 2, 8 to 11, or with no route, every
- * entry is none. Answers as asking does. */
+/* Writes the walk of a and b: report + 1 nodes, then none. Refused 2, 8 to 11, or with no route, every entry is none. Answers as asking
+ * does. */
 uint64_t puxerdau_walk(size_t n, const uint32_t *starts, size_t starts_length, const uint16_t *neighbours, size_t neighbours_length,
                        const uint16_t *full, size_t full_length, const uint16_t *low, size_t low_length, const uint16_t *report,
                        size_t report_length, size_t a, size_t b, uint16_t *walk, size_t walk_length);
 
 /* The two-or-four test. Refused 2, 8 or 9. Answers the verdict and the count of searches. */
 uint64_t puxerdau_test(size_t n, const uint32_t *starts, size_t starts_length, const uint16_t *neighbours, size_t neighbours_length);
+
+/* Writes the listing of a survey's text: the lines that the program `reports` prints. A text that is refused, 2 and 3 by the limits of a
+ * listing, has the listing `X,` and the refusal's number. The call itself is refused only 12, and the buffer is as it was; else it is as
+ * it was past the listing. Answers the listing's length as its count. */
+uint64_t puxerdau_list(const uint8_t *text, size_t text_length, uint8_t *buffer, size_t buffer_length);
+
+/* The functions above again, with their lists in two structs. The caller lends every list that a struct points to; for lists in read-only
+ * memory there are the functions above. */
+
+/* A survey of n nodes. */
+struct puxerdau_survey {
+    size_t n;
+    uint32_t *starts;
+    size_t starts_length;
+    uint16_t *neighbours;
+    size_t neighbours_length;
+};
+
+/* Its tables and its hub list. */
+struct puxerdau_tables {
+    uint16_t *full;
+    size_t full_length;
+    uint16_t *low;
+    size_t low_length;
+    uint16_t *report;
+    size_t report_length;
+    uint16_t *hubs;
+    size_t hubs_length;
+};
+
+/* Sets n too: to 0 where it is refused, so that later calls are refused 2. */
+static inline uint64_t puxerdau_survey_read(struct puxerdau_survey *survey, const uint8_t *text, size_t text_length)
+{
+    uint64_t answer = puxerdau_read(text, text_length, survey->starts, survey->starts_length, survey->neighbours,
+                                    survey->neighbours_length);
+    survey->n = puxerdau_nodes(answer);
+    return answer;
+}
+
+static inline uint64_t puxerdau_survey_write(const struct puxerdau_survey *survey, uint8_t *buffer, size_t buffer_length)
+{
+    return puxerdau_write(survey->n, survey->starts, survey->starts_length, survey->neighbours, survey->neighbours_length, buffer,
+                          buffer_length);
+}
+
+static inline uint64_t puxerdau_survey_accept(const struct puxerdau_survey *survey)
+{
+    return puxerdau_accept(survey->n, survey->starts, survey->starts_length, survey->neighbours, survey->neighbours_length);
+}
+
+static inline uint64_t puxerdau_survey_build(const struct puxerdau_survey *survey, const struct puxerdau_tables *tables)
+{
+    return puxerdau_build(survey->n, survey->starts, survey->starts_length, survey->neighbours, survey->neighbours_length, tables->full,
+                          tables->full_length, tables->low, tables->low_length, tables->report, tables->report_length, tables->hubs,
+                          tables->hubs_length);
+}
+
+static inline uint64_t puxerdau_survey_ask(const struct puxerdau_survey *survey, const struct puxerdau_tables *tables, size_t a, size_t b)
+{
+    return puxerdau_ask(survey->n, tables->full, tables->full_length, tables->low, tables->low_length, tables->report,
+                        tables->report_length, a, b);
+}
+
+static inline uint64_t puxerdau_survey_walk(const struct puxerdau_survey *survey, const struct puxerdau_tables *tables, size_t a, size_t b,
+                                            uint16_t *walk, size_t walk_length)
+{
+    return puxerdau_walk(survey->n, survey->starts, survey->starts_length, survey->neighbours, survey->neighbours_length, tables->full,
+                         tables->full_length, tables->low, tables->low_length, tables->report, tables->report_length, a, b, walk,
+                         walk_length);
+}
+
+static inline uint64_t puxerdau_survey_test(const struct puxerdau_survey *survey)
+{
+    return puxerdau_test(survey->n, survey->starts, survey->starts_length, survey->neighbours, survey->neighbours_length);
+}
 
 #ifdef __cplusplus
 }

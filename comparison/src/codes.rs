@@ -1,6 +1,6 @@
 //! Answers as one number: the refusal's number in the low 16 bits, or 0 there and the values above.
 
-use reference::{Answer, Route, Tested, Verdict};
+use reference::{Answer, Tested};
 
 fn code<T>(outcome: Result<T, u8>, values: impl Fn(T) -> u64) -> u64 {
     match outcome {
@@ -25,24 +25,16 @@ pub fn size(outcome: Result<(usize, usize), u8>) -> u64 {
 
 pub fn answer(outcome: Result<Answer, u8>) -> u64 {
     code(outcome, |answer| {
-        let (kind, hub) = match answer.route {
-            Route::Itself => (0, 0),
-            Route::Low => (1, 0),
-            Route::Through(h) => (2, h),
-            Route::NoRoute => (3, 0),
-        };
-        u64::from(answer.report) | kind << 16 | u64::from(hub) << 32
+        let route = answer.route;
+        u64::from(answer.report)
+            | u64::from(route.number()) << 16
+            | u64::from(route.hub_number()) << 32
     })
 }
 
 pub fn tested(outcome: Result<Tested, u8>) -> u64 {
     code(outcome, |tested| {
-        let verdict = match tested.verdict {
-            Verdict::Parted => 0,
-            Verdict::Long => 1,
-            Verdict::Short => 2,
-        };
-        verdict | (tested.searches as u64) << 16
+        u64::from(tested.verdict.number()) | (tested.searches as u64) << 16
     })
 }
 

@@ -77,6 +77,12 @@ mod raw {
             neighbours: *const u16,
             neighbours_length: usize,
         ) -> u64;
+        pub fn puxerdau_list(
+            text: *const u8,
+            text_length: usize,
+            buffer: *mut u8,
+            buffer_length: usize,
+        ) -> u64;
     }
 }
 
@@ -213,4 +219,8 @@ pub fn test(n: usize, starts: &[u32], neighbours: &[u16]) -> u64 {
             neighbours.len(),
         )
     }
+}
+
+pub fn list(text: &[u8], buffer: &mut [u8]) -> u64 {
+    unsafe { raw::puxerdau_list(text.as_ptr(), text.len(), buffer.as_mut_ptr(), buffer.len()) }
 }

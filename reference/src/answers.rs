@@ -12,6 +12,26 @@ pub enum Route {
     NoRoute,
 }
 
+impl Route {
+    /// Which of the four routes.
+    pub fn number(self) -> u16 {
+        match self {
+            Route::Itself => 0,
+            Route::Low => 1,
+            Route::Through(_) => 2,
+            Route::NoRoute => 3,
+        }
+    }
+
+    /// The hub that the route goes through, or 0.
+    pub fn hub_number(self) -> u16 {
+        match self {
+            Route::Through(h) => h,
+            Route::Itself | Route::Low | Route::NoRoute => 0,
+        }
+    }
+}
+
 #[derive(Debug, Clone, Copy, PartialEq, Eq)]
 pub struct Answer {
     pub report: u16,

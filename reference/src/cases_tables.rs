@@ -2,8 +2,8 @@
 //! program `cases_tables` runs the same scripts; its source describes their
 //! lines.
 
-use crate::commands::{self, outcome, run_read, sum, Command, Script};
-use reference::{ask, build, test, walk, Answer, Route, Verdict};
+use crate::commands::{self, outcome, run_read, sum, test_numbers, Command, Script};
+use reference::{ask, build, test, walk, Answer};
 
 /// The lengths of the lists.
 pub const LENGTHS: Numbers = [0, 1100, 33000, 22600, 22600, 22600, 160, 320];
@@ -109,7 +109,7 @@ impl Lists {
             b,
         );
         // Asking writes to no list: its sum is 0.
-        outcome(answer.map(answer_numbers), 2, &[0])
+        outcome(answer.map(answer_numbers), 3, &[0])
     }
 
     fn walk(&mut self, a: usize, b: usize) -> Vec<u64> {
@@ -125,7 +125,7 @@ impl Lists {
             b,
             &mut self.walk[..lent[WALK]],
         );
-        outcome(answer.map(answer_numbers), 2, &[sum(&self.walk)])
+        outcome(answer.map(answer_numbers), 3, &[sum(&self.walk)])
     }
 
     fn test(&self) -> Vec<u64> {
@@ -135,27 +135,14 @@ impl Lists {
             &self.starts[..lent[STARTS]],
             &self.neighbours[..lent[NEIGHBOURS]],
         );
-        let numbers =
-            answer.map(|tested| vec![verdict_number(tested.verdict), tested.searches as u64]);
-        outcome(numbers, 2, &[])
+        outcome(answer.map(test_numbers), 2, &[])
     }
 }
 
-/// The report, and the route as a number.
+/// The report, the route and its hub.
 fn answer_numbers(answer: Answer) -> Vec<u64> {
-    let route = match answer.route {
-        Route::Itself => 0,
-        Route::Low => 1,
-        Route::NoRoute => 2,
-        Route::Through(h) => 3 + u64::from(h),
-    };
-    vec![u64::from(answer.report), route]
-}
-
-pub fn verdict_number(verdict: Verdict) -> u64 {
-    match verdict {
-        Verdict::Parted => 0,
-        Verdict::Long => 1,
-        Verdict::Short => 2,
-    }
+    let route = answer.route;
+    [answer.report, route.number(), route.hub_number()]
+        .map(u64::from)
+        .to_vec()
 }

@@ -1,7 +1,7 @@
 //! Scripts of calls: what running them has in common. The Rattle crate
 //! `script` does the same for the programs `cases` and `cases_tables`.
 
-use reference::read;
+use reference::{read, Tested};
 
 /// A line of a script: its letter and its two numbers.
 pub struct Command {
@@ -80,6 +80,11 @@ pub fn outcome(answer: Result<Vec<u64>, u8>, size: usize, sums: &[u64]) -> Vec<u
     };
     numbers.extend(sums);
     numbers
+}
+
+/// The verdict and the count of searches.
+pub fn test_numbers(tested: Tested) -> Vec<u64> {
+    vec![u64::from(tested.verdict.number()), tested.searches as u64]
 }
 
 /// A sum that tells where in the list an entry stands.

@@ -1,5 +1,5 @@
-//! The outcomes of document 01's examples that are not starred, one fact
-//! per line. NOTES.md describes the line format.
+//! The outcomes of the rules' examples that are not starred, one fact per
+//! line. NOTES.md describes the line format.
 
 use reference::{ask, build, read, reports, walk, write, Answer, Route, NONE};
 

@@ -1,7 +1,6 @@
 //! The largest survey, and what the Rattle program `large` prints for it.
 
-use crate::cases_tables::verdict_number;
-use crate::commands::{line, outcome, sum};
+use crate::commands::{line, outcome, sum, test_numbers};
 use crate::common::{Random, Sample};
 use reference::{build, read, test};
 
@@ -72,6 +71,5 @@ pub fn run(text: &[u8]) -> String {
     );
 
     let answer = test(n, &starts, &neighbours);
-    let numbers = answer.map(|tested| vec![verdict_number(tested.verdict), tested.searches as u64]);
-    lines + &line('T', &outcome(numbers, 2, &[]))
+    lines + &line('T', &outcome(answer.map(test_numbers), 2, &[]))
 }

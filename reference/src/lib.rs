@@ -1,5 +1,5 @@
-//! Reference implementation of document 01, written for comparison:
-//! every rule is carried out by the most direct means.
+//! Reference implementation of the rules (docs/RULES.md), written for
+//! comparison: every rule is carried out by the most direct means.
 
 mod answers;
 mod listing;
@@ -12,7 +12,7 @@ pub use answers::{ask, walk, Answer, Route};
 pub use listing::reports;
 pub use survey::accept;
 pub use tables::{build, threshold};
-pub use text::{read, write};
+pub use text::{put_text, read, write};
 pub use verdict::{test, Tested, Verdict};
 
 /// The table entry that means "none".

@@ -1,5 +1,5 @@
 //! Makes the script that the Rattle program `cases_tables` is run on:
-//! document 01's examples, surveys of many shapes, wrong lengths and
+//! the rules' examples, surveys of many shapes, wrong lengths and
 //! numbers, lists that are no survey's, and altered tables.
 
 use crate::cases_tables::{
@@ -109,7 +109,7 @@ fn exact(n: usize, m: usize) -> Numbers {
     [n, n + 1, 2 * m, n * n, n * n, n * n, n, 2 * n]
 }
 
-/// Document 01's examples. Those that are not starred, by their place:
+/// The rules' examples. Those that are not starred, by their place:
 ///
 /// - "Course survey and other examples": the listing of the course survey,
 ///   which is its hub count and the answers of all pairs; `S,1025,0`;
@@ -117,7 +117,7 @@ fn exact(n: usize, m: usize) -> Numbers {
 /// - "Errors the course shows": the walks (0, 3) and (5, 3) of the course
 ///   survey, along which 0 and 5 would send each other back; its table Low,
 ///   where both ends of a link are low; its hub list; and a sum with a none
-///   in it, which document 01 names no survey for: `SEPARATE_NODE` has
+///   in it, which the rules name no survey for: `SEPARATE_NODE` has
 ///   Full(0, 6) none, and a sum that wraps would report 0 for (5, 6).
 ///
 /// The starred ones are run too: the course survey's hub, its report and

@@ -48,10 +48,16 @@ pub fn write(n: usize, starts: &[u32], neighbours: &[u16], buffer: &mut [u8]) ->
             }
         }
     }
+    put_text(text.as_bytes(), buffer)
+}
+
+/// Puts a text into a buffer, which stays as it is where it is too short.
+/// The answer is the text's length.
+pub fn put_text(text: &[u8], buffer: &mut [u8]) -> Result<usize, u8> {
     if buffer.len() < text.len() {
         return Err(12);
     }
-    buffer[..text.len()].copy_from_slice(text.as_bytes());
+    buffer[..text.len()].copy_from_slice(text);
     Ok(text.len())
 }
 

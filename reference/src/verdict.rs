@@ -11,6 +11,17 @@ pub enum Verdict {
     Short,
 }
 
+impl Verdict {
+    /// Which of the three verdicts.
+    pub fn number(self) -> u16 {
+        match self {
+            Verdict::Parted => 0,
+            Verdict::Long => 1,
+            Verdict::Short => 2,
+        }
+    }
+}
+
 #[derive(Debug, Clone, Copy, PartialEq, Eq)]
 pub struct Tested {
     pub verdict: Verdict,

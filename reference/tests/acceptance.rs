@@ -7,7 +7,7 @@ use reference::{ask, build, test, walk, write, Route, NONE};
 
 /// The refusals of build, walk, test and write for these lists, with
 /// everything else long enough. 0 stands for success. Checks that refused
-/// operations leave their lists as document 01 says.
+/// operations leave their lists as the rules say.
 fn refusals(n: usize, starts: &[u32], neighbours: &[u16]) -> [u8; 4] {
     let mut tables = vec![vec![5u16; 2000]; 3];
     let mut hubs = vec![5u16; 40];

@@ -1,4 +1,4 @@
-//! Every example of document 01, and the stored output.
+//! Every example of the rules, and the stored output.
 
 mod common;
 

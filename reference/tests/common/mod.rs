@@ -362,7 +362,7 @@ pub fn distances(sample: &Sample, allowed: &[bool]) -> Vec<Vec<usize>> {
     least
 }
 
-/// The rules of document 01 worked out from the matrix.
+/// The rules worked out from the matrix.
 pub struct Expected {
     pub distances: Vec<Vec<usize>>,
     pub low_nodes: Vec<bool>,

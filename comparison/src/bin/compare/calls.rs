@@ -7,7 +7,7 @@ use crate::{texts, Counts};
 use comparison::common::{Random, Sample};
 use comparison::{codes, proved};
 
-pub const CALLS: [&str; 8] = [
+pub const CALLS: [&str; 9] = [
     "threshold",
     "read",
     "write",
@@ -16,10 +16,11 @@ pub const CALLS: [&str; 8] = [
     "ask",
     "walk",
     "test",
+    "list",
 ];
 
 /// How many calls of each kind a round makes, in the order of `CALLS`.
-const TURNS: [usize; 8] = [1, 10, 6, 6, 4, 10, 10, 4];
+const TURNS: [usize; 9] = [1, 10, 6, 6, 4, 10, 10, 4, 4];
 
 const JUNK_LONG: usize = 1 << 20;
 
@@ -74,19 +75,19 @@ impl<'a> Round<'a> {
     pub fn run(&mut self, counts: &mut Counts, cases: u64) -> Result<(), String> {
         for call in 0..CALLS.len() {
             for _ in 0..TURNS[call] {
-                if counts.iter().flatten().sum::<u64>() >= cases {
+                if counts.total() >= cases {
                     return Ok(());
                 }
-                let code = self.call(call).map_err(|fault| {
+                let code = self.call(call, counts).map_err(|fault| {
                     format!("{} on graph {}: {fault}", CALLS[call], self.sample.name)
                 })?;
-                counts[call][codes::refusal(code)] += 1;
+                counts.calls[call][codes::refusal(code)] += 1;
             }
         }
         Ok(())
     }
 
-    fn call(&mut self, call: usize) -> Outcome {
+    fn call(&mut self, call: usize, counts: &mut Counts) -> Outcome {
         match call {
             0 => self.threshold(),
             1 => self.read(),
@@ -95,7 +96,8 @@ impl<'a> Round<'a> {
             4 => self.build(),
             5 => self.ask(),
             6 => self.walk(),
-            _ => self.test(),
+            7 => self.test(),
+            _ => self.list(counts),
         }
     }
 
@@ -178,7 +180,7 @@ impl<'a> Round<'a> {
         let lists = self.lists();
         let needed = self.sample.text().len();
         let length = lists::length(self.random, needed);
-        let mut buffer: Vec<u8> = (0..length).map(|_| self.random.next() as u8).collect();
+        let mut buffer = lists::garbage8(self.random, length);
         let starts = Lent::new(self.random, &lists.starts);
         let neighbours = Lent::new(self.random, &lists.neighbours);
         let mut lent = Lent::new(self.random, &buffer);
@@ -354,4 +356,29 @@ impl<'a> Round<'a> {
         neighbours.check("neighbours", &lists.neighbours)?;
         Ok(code)
     }
+
+    fn list(&mut self, counts: &mut Counts) -> Outcome {
+        let text = self.text();
+        let listing = reference::reports(&text);
+        let length = lists::length(self.random, listing.len());
+        let mut buffer = lists::garbage8(self.random, length);
+        let lent_text = Lent::new(self.random, &text);
+        let mut lent = Lent::new(self.random, &buffer);
+        let code = proved::list(lent_text.list(), lent.list_mut());
+        same(
+            code,
+            codes::count(reference::put_text(&listing, &mut buffer)),
+        )?;
+        lent_text.check("text", &text)?;
+        lent.check("buffer", &buffer)?;
+        counts.listings[refusal_in(&listing)] += 1;
+        Ok(code)
+    }
+}
+
+/// The refusal that a listing's only line names, or 0.
+fn refusal_in(listing: &[u8]) -> usize {
+    let line = String::from_utf8_lossy(listing);
+    line.strip_prefix("X,")
+        .map_or(0, |digits| digits.trim_end().parse().expect("a number"))
 }

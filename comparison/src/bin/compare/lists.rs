@@ -9,17 +9,22 @@ pub struct Lists {
 
 /// A length at, below or above the one that is wanted.
 pub fn length(random: &mut Random, wanted: usize) -> usize {
-    match random.below(12) {
+    match random.below(13) {
         0 => wanted.saturating_sub(1),
         1 => random.below(wanted + 1),
         2 => 0,
         3 | 4 => wanted + 1,
         5 | 6 => wanted + random.below(40),
+        7 => 2 * wanted + random.below(5000),
         _ => wanted,
     }
 }
 
 /// A list of the given length that holds anything.
+pub fn garbage8(random: &mut Random, length: usize) -> Vec<u8> {
+    (0..length).map(|_| random.next() as u8).collect()
+}
+
 pub fn garbage16(random: &mut Random, length: usize) -> Vec<u16> {
     (0..length).map(|_| random.next() as u16).collect()
 }

@@ -14,8 +14,21 @@ use comparison::graphs;
 use std::process::ExitCode;
 use std::time::{Duration, Instant};
 
-/// How often each call was answered (place 0) or refused with a number.
-pub type Counts = [[u64; 13]; CALLS.len()];
+/// How often there was an answer (place 0) or a refusal with a number.
+type Row = [u64; 13];
+
+#[derive(Default)]
+pub struct Counts {
+    pub calls: [Row; CALLS.len()],
+    /// What the listings say, also those that the buffer was too short for.
+    pub listings: Row,
+}
+
+impl Counts {
+    pub fn total(&self) -> u64 {
+        self.calls.iter().flatten().sum()
+    }
+}
 
 fn main() -> ExitCode {
     let arguments: Vec<u64> = std::env::args()
@@ -45,7 +58,7 @@ fn run(cases: u64, seed: u64, counts: &mut Counts) -> Result<(), String> {
     let begun = Instant::now();
     let mut shown = begun;
     let mut round = 0;
-    while total(counts) < cases {
+    while counts.total() < cases {
         let mut random = Random::new(seed.wrapping_mul(1_000_003).wrapping_add(round));
         let sample = choose_graph(&mut random);
         Round::new(&mut random, sample)
@@ -56,7 +69,7 @@ fn run(cases: u64, seed: u64, counts: &mut Counts) -> Result<(), String> {
             shown = Instant::now();
             eprintln!(
                 "{} of {cases} cases, {} s",
-                total(counts),
+                counts.total(),
                 begun.elapsed().as_secs()
             );
         }
@@ -64,14 +77,15 @@ fn run(cases: u64, seed: u64, counts: &mut Counts) -> Result<(), String> {
     Ok(())
 }
 
-fn total(counts: &Counts) -> u64 {
-    counts.iter().flatten().sum()
-}
-
-/// Mostly small graphs, now and then one with as many nodes or links as a survey may have.
+/// Mostly small graphs, now and then one with as many nodes or links as a listing or a survey may have.
 fn choose_graph(random: &mut Random) -> Sample {
     let n = match random.below(1000) {
-        0..=499 => 1 + random.below(12),
+        0..=19 => {
+            let (n, links) = (127 + random.below(3), 2047 + random.below(3));
+            let high = n / 4 + random.below(n / 2);
+            return graphs::with_high(random, n, links, high);
+        }
+        20..=499 => 1 + random.below(12),
         500..=899 => 1 + random.below(40),
         900..=989 => 1 + random.below(130),
         990..=996 => 1 + random.below(400),
@@ -111,13 +125,17 @@ fn print_counts(counts: &Counts) {
     print!("{:10}{:>9}", "call", "answered");
     (1..13).for_each(|number| print!("{number:>8}"));
     println!();
-    for (name, row) in CALLS.iter().zip(counts) {
-        print!("{name:10}{:>9}", row[0]);
-        row[1..].iter().for_each(|count| print!("{count:>8}"));
-        println!();
+    for (name, row) in CALLS.iter().zip(&counts.calls) {
+        print_row(name, row);
     }
-    let sums = |number: usize| counts.iter().map(|row| row[number]).sum::<u64>();
-    print!("{:10}{:>9}", "all", sums(0));
-    (1..13).for_each(|number| print!("{:>8}", sums(number)));
+    let sums = std::array::from_fn(|number| counts.calls.iter().map(|row| row[number]).sum());
+    print_row("all", &sums);
+    println!("the listings by what they say, a survey's pairs or a refusal's number:");
+    print_row("listing", &counts.listings);
+}
+
+fn print_row(name: &str, row: &Row) {
+    print!("{name:10}{:>9}", row[0]);
+    row[1..].iter().for_each(|count| print!("{count:>8}"));
     println!();
 }

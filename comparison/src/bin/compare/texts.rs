@@ -3,16 +3,20 @@
 use comparison::common::{Random, Sample};
 
 /// Numbers that a reader may take wrongly.
-const NUMBERS: [&str; 20] = [
+const NUMBERS: [&str; 24] = [
     "",
     "0",
     "00",
     "01",
     "1",
     "2",
+    "128",
+    "129",
     "1023",
     "1024",
     "1025",
+    "2048",
+    "2049",
     "16384",
     "16385",
     "65535",
