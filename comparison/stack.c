@@ -1,6 +1,6 @@
 /* Measures the stack that each call of the library uses, on inputs that need most. A call runs on a stack of its own that was filled with
  * one byte; it used what lies between its caller's frame and the lowest byte that changed. Prints the most that each call used, and fails
- * if one used as much as PUXERDAU_STACK_BYTES. */
+ * if one used as much as the header says is enough. */
 #define _DEFAULT_SOURCE /* for MAP_ANONYMOUS */
 #include "puxerdau.h"
 #include <stdio.h>
@@ -169,8 +169,9 @@ static void measure_listed(void)
 
 static int print(const struct measured *measured)
 {
-    printf("%-20s%8zu bytes\n", measured->name, measured->most);
-    return measured->most < PUXERDAU_STACK_BYTES;
+    size_t enough = measured->call == call_list ? PUXERDAU_LIST_STACK_BYTES : PUXERDAU_STACK_BYTES;
+    printf("%-20s%8zu bytes of %zu\n", measured->name, measured->most, enough);
+    return measured->most < enough;
 }
 
 int main(void)
@@ -185,6 +186,6 @@ int main(void)
         below &= print(&calls[i]);
     below &= print(&low_walk);
     below &= print(&hub_walk);
-    printf("%s than %d bytes\n", below ? "each call used less" : "not each call used less", PUXERDAU_STACK_BYTES);
+    printf("%s\n", below ? "each call used less" : "not each call used less");
     return below ? EXIT_SUCCESS : EXIT_FAILURE;
 }

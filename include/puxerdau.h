@@ -7,7 +7,7 @@
  * A list is a pointer and then its count of entries. Every count, node number and entry is allowed: what does not fit is refused. The
  * caller owes only that each pointer, also of an empty list, is not null and is aligned for its entries; that so many entries stand behind
  * it; that a list which is written overlaps no other list of the call; that no other thread writes to a list of the call, or reads one
- * that is written, until it returns; and that PUXERDAU_STACK_BYTES of stack are free.
+ * that is written, until it returns; and that PUXERDAU_STACK_BYTES of stack are free (PUXERDAU_LIST_STACK_BYTES for puxerdau_list).
  *
  * What is known of the functions, and how:
  *  - Proved of their source, on its language's abstract machine: what each answers and what it leaves in every list, also where it refuses;
@@ -56,13 +56,14 @@ extern "C" {
 #define PUXERDAU_TEXT_LENGTH (13 + 12 * PUXERDAU_MAX_LINKS)
 /* The buffer for a listing, 146,314 bytes: the contract of puxerdau_list. */
 #define PUXERDAU_LISTING_LENGTH (10 + 9 * (PUXERDAU_LIST_MAX_NODES * (PUXERDAU_LIST_MAX_NODES - 1)))
-/* The front of a text, 393,241 bytes: no later byte changes what reading answers or leaves. By `parse-front` of
+/* The front of a text, 393,241 bytes: no later byte changes what reading answers or leaves. `reading-front` of
  * crates/model/proofs/Fronts.antt. */
 #define PUXERDAU_FRONT_LENGTH (24 * (PUXERDAU_MAX_LINKS + 1) + 1)
 
-/* Stack that is enough for any call, measured on the archive that the kit `rattle-kit-5b-plain` (`rt version`) makes. The most were
- * 388,072 bytes by puxerdau_list and 168,208 by puxerdau_walk. */
-#define PUXERDAU_STACK_BYTES 524288
+/* Stack that is enough for any call but puxerdau_list, and for that: measured on the archive that the kit `rattle-kit-5b-plain` (`rt
+ * version`) makes. The most were 168,208 bytes, by puxerdau_walk, and 388,072. */
+#define PUXERDAU_STACK_BYTES 262144
+#define PUXERDAU_LIST_STACK_BYTES 524288
 
 /* A table entry, or an entry of a list of nodes, that means none. */
 #define PUXERDAU_NONE 65535u

@@ -15,7 +15,7 @@ use Rattle.model.specs.Answers.{Outcome, refused, answered}
 use Rattle.model.specs.Basics.{if_then_else_}
 use Rattle.model.specs.SurveyText.{line, lineOf}
 use Rattle.model.specs.Survey.{outside}
-use Rattle.model.specs.Reading.{named, onLinks, linkOf, readOn, readLinks, parsed, countsOf, parseLinks, parse}
+use Rattle.model.specs.Reading.{named, onLinks, linkOf, readOn, readLinks, parsed, countsOf, parseLinks, parse, readingOf, reading}
 use Rattle.model.specs.Listing.{listingText, listing}
 use Rattle.model.proofs.Numbers.{length-le}
 use Rattle.model.proofs.Lines.{length-line, line-complete, line-sound}
@@ -114,7 +114,12 @@ parse-front N M p q text k h = at (line-front 83 (omega arith) text k (omega ari
         ∙ counts-same N M p q x y (take j rest) rest (λ m. links-front x y [] rest j (omega arith))
         ∙ sym (ap (λ (o : Option (ℕ × ℕ × List ℕ)). parseLinks (countsOf N M p q o)) e)
 
--- the listing of a text is that of its first 49,177 bytes
+-- a text is read as its first 393,241 bytes are
+pub reading-front : (text : List ℕ) (p q k : ℕ) → 24 * (16384 + 1) < k → reading (take k text) p q ≡ reading text p q
+unfolding reading
+reading-front text p q k h = ap (readingOf p q) (parse-front 1024 16384 p q text k h)
+
+-- and its listing is that of its first 49,177
 pub listing-front : (text : List ℕ) (k : ℕ) → 24 * (2048 + 1) < k → listing (take k text) ≡ listing text
 unfolding listing
 listing-front text k h = ap listingText (parse-front 128 2048 (128 + 1) (2 * 2048) text k h)
