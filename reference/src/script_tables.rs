@@ -109,12 +109,12 @@ fn exact(n: usize, m: usize) -> Numbers {
     [n, n + 1, 2 * m, n * n, n * n, n * n, n, 2 * n]
 }
 
-/// The rules' examples. Those that are not starred, by their place:
+/// The rules' examples. Those that are not starred:
 ///
-/// - "Course survey and other examples": the listing of the course survey,
+/// - rule 12.2, and the course survey: the listing of the course survey,
 ///   which is its hub count and the answers of all pairs; `S,1025,0`;
 ///   `S,2,16385`; `S,2,0`.
-/// - "Errors the course shows": the walks (0, 3) and (5, 3) of the course
+/// - rule 12.3: the walks (0, 3) and (5, 3) of the course
 ///   survey, along which 0 and 5 would send each other back; its table Low,
 ///   where both ends of a link are low; its hub list; and a sum with a none
 ///   in it, which the rules name no survey for: `SEPARATE_NODE` has
