@@ -14,8 +14,8 @@ use Rattle.model.specs.declared.Verdict.{Verdict}
 use Rattle.model.specs.declared.Verdict.the-variants.{Parted, Long, Short}
 use Rattle.model.specs.declared.TestResult.{TestResult}
 use Rattle.model.specs.Answers.{Outcome, refused, answered, number}
-use Rattle.model.proofs.Outcomes.{number-bounds}
-use Rattle.codes.specs.Code.{code, noField, countField, sizeField, routeNumber, hubNumber, answerField, verdictNumber, testField, field, decoded, noValue, countIn, sizeIn, routeIn, answerIn, verdictIn, testIn, IsCode}
+use Rattle.model.proofs.Outcomes.{never, number-bounds}
+use Rattle.codes.specs.Code.{noField, countField, sizeField, routeNumber, hubNumber, answerField, verdictNumber, testField, field, decoded, noValue, countIn, sizeIn, routeIn, answerIn, verdictIn, testIn, IsCode}
 
 -- a mask is a remainder
 masked : (k x y : ℕ) → x / 2 ^ k % 65536 ≡ y → field k x ≡ y
@@ -25,19 +25,19 @@ masked k x y e = and-mask (x / 2 ^ k) 16 ∙ e
 -- ---- a refusal, or a value
 
 pub refusal-code : {A : Type 0} (values : A → ℕ) (value : ℕ → A) (r : Refusal) {o : Outcome A} {k : ℕ} → o ≡ refused (number r) → k ≡ number r → IsCode values value o k
-unfolding decoded
+unfolding decoded countIn
 refusal-code values value r e i =
     let b = number-bounds r in
     let f : field 0 (number r) ≡ number r = masked 0 (number r) (number r) (omega arith) in
     let ne : number r ≡ 0 → ⊥ = λ z. omega arith in
-    rw (e, i) (record { number = refl; back = rw (f, ne-eqb (number r) 0 ne) refl })
+    rw (e, i) (record { coded = refl; back = rw (f, ne-eqb (number r) 0 ne) refl; alone = λ _ _. omega arith })
 
 pub answer-code : {A : Type 0} (values : A → ℕ) (value : ℕ → A) (x : A) → value (65536 * values x) ≡ x
     → {o : Outcome A} {k : ℕ} → o ≡ answered x → k ≡ 65536 * values x → IsCode values value o k
 unfolding decoded
 answer-code values value x back e i =
     let f : field 0 (65536 * values x) ≡ 0 = masked 0 (65536 * values x) 0 (omega arith) in
-    rw (e, i) (record { number = refl; back = rw (f, back) refl })
+    rw (e, i) (record { coded = refl; back = rw (f, back) refl; alone = λ _ z. never (sym z) })
 
 -- ---- each kind of value
 
@@ -107,8 +107,8 @@ test-back x h =
 -- `whole` puts an answer beside what was left in the lists; x is the call's outcome, and P what is promised of it
 pub passed-on : {A X : Type 0} (values : A → ℕ) (value : ℕ → A) (answer : X → Outcome A) (whole : Outcome A → X) (P : X → Type 0)
     → ((o : Outcome A) → answer (whole o) ≡ o) → {o : Outcome A} {k : ℕ} {x : X} → IsCode values value o k → whole o ≡ x → P (whole o)
-    → (k ≡ code values (answer x)) × ((whole (decoded value k) ≡ x) × P (whole (decoded value k)))
-passed-on values value answer whole P beside {o} i e p = (
-  i .number ∙ ap (code values) (sym (beside o) ∙ ap answer e),
+    → IsCode values value (answer x) k × ((whole (decoded value k) ≡ x) × P (whole (decoded value k)))
+passed-on values value answer whole P beside {o} {k} i e p = (
+  subst (λ (q : Outcome _). IsCode values value q k) (sym (beside o) ∙ ap answer e) i,
   (ap whole (i .back) ∙ e, subst (λ (q : Outcome _). P (whole q)) (sym (i .back)) p),
 )

@@ -97,10 +97,11 @@ verdictIn k = if eqb k 0 then Parted else if eqb k 1 then Long else Short
 unfoldable pub testIn : ℕ → TestResult
 testIn x = record { verdict = verdictIn (field 16 x); searches = field 32 x }
 
--- x is the number of the outcome o, and o is what is read back from x
+-- x is the number of the outcome o; o is what is read back from x; and all fields above a refusal's number are 0
 pub record IsCode {A : Type 0} (values : A → ℕ) (value : ℕ → A) (o : Outcome A) (x : ℕ) : Type 0 where
-  pub number : x ≡ code values o
+  pub coded : x ≡ code values o
   pub back : decoded value x ≡ o
+  pub alone : (k : ℕ) → o ≡ refused k → countIn x ≡ 0
 
 -- ---- what a call for C returned, read back, and left in the lists that were lent to it
 

@@ -1,4 +1,4 @@
--- No listing is longer than `most`.
+-- No listing is longer than `mostListing`.
 -- Assumes nothing.
 use mathlib.Core.Path.{_≡_, refl, ap}
 use mathlib.Core.Logic.{_⊎_, inl, inr, ⊎-elim}
@@ -23,7 +23,7 @@ use Rattle.model.specs.Graph.{linked}
 use Rattle.model.specs.Threshold.{threshold}
 use Rattle.model.specs.Hubs.{hubs}
 use Rattle.model.specs.Tables.{entryAt, fullTable, lowTable, reportTable}
-use Rattle.model.specs.Pair.{answer, attaining, choose, pairBy, pair}
+use Rattle.model.specs.Pair.{withRoute, attaining, choose, pairBy, pair}
 use Rattle.model.specs.Listing.{reportText, routeText, pairLine, pairLines, listingOf, listingText}
 use Rattle.model.proofs.Acceptance.{linked-ends}
 use Rattle.model.proofs.Allowance.{allowed}
@@ -37,7 +37,7 @@ use Rattle.model.proofs.Numbers.{length-le}
 use Rattle.model.proofs.Outcomes.{number-bounds}
 use Rattle.model.proofs.Tests.{picked, eq-or}
 use Rattle.pair_lines.specs.Rows.{answerText}
-use Rattle.listing.specs.Length.{most}
+use Rattle.listing.specs.Length.{mostListing}
 use Rattle.pair_lines.proofs.Texts.{report-none, report-some}
 
 -- ---- one line
@@ -49,7 +49,7 @@ report-few r h = ⊎-elim
     (eq-or r none)
 
 module _ (a b : ℕ) (ha : a < 1000) (hb : b < 1000) where
-  line-few : (r : ℕ) (t : Route) → (r < 1000) ⊎ (r ≡ none) → length (routeText t) ≤ 3 → length (pairLine (a, b) (answered (answer r t))) ≤ 18
+  line-few : (r : ℕ) (t : Route) → (r < 1000) ⊎ (r ≡ none) → length (routeText t) ≤ 3 → length (pairLine (a, b) (answered (withRoute r t))) ≤ 18
   unfolding pairLine
   line-few r t hr ht =
       let e5 = length-append (routeText t) (10 ∷ []) in
@@ -122,7 +122,7 @@ report-most n s G g size a b ha hb =
     (λ c. inr (r .no-route .1 (c .1)))
     (fewest-cases (linked n G) n a (linked-ends n G) ha b)
 
-pub listing-few : (n : ℕ) (G : Graph) → IsGraph n G → n ≤ 128 → length (listingOf n (threshold n) G) ≤ most
+pub listing-few : (n : ℕ) (G : Graph) → IsGraph n G → n ≤ 128 → length (listingOf n (threshold n) G) ≤ mostListing
 unfolding listingOf pairLines upTo
 listing-few n G g size =
     let s = threshold n in
@@ -155,7 +155,7 @@ listing-few n G g size =
 
 -- ---- a refusal's line
 
-pub refusal-room : (r : Refusal) (k : ℕ) → k ≡ number r → (buf : List ℕ) → most ≤ length buf → 0 + length (listingText (refused k)) ≤ length buf
+pub refusal-room : (r : Refusal) (k : ℕ) → k ≡ number r → (buf : List ℕ) → mostListing ≤ length buf → 0 + length (listingText (refused k)) ≤ length buf
 unfolding listingText
 refusal-room r k e buf h =
     omega (arith, length-append (digits k) (10 ∷ []), length-le 1 k (omega (arith, number-bounds r .1, e)))

@@ -11,7 +11,7 @@ ghost use Rattle.model.specs.Survey.{neighboursOf, Accepted};
 ghost use Rattle.model.specs.Threshold.{threshold};
 ghost use Rattle.model.specs.Listing.{listingOf, listingText, listing, writingListing};
 ghost use Rattle.model.specs.Writing.{writeReturned};
-ghost use Rattle.listing.specs.Length.{most};
+ghost use Rattle.listing.specs.Length.{mostListing};
 
 // Writes the listing of a survey from the first byte on, by way of the three tables, and returns its length.
 fn write_tables(
@@ -36,7 +36,7 @@ fn write_tables(
 
 // Writes the listing of a survey of at most 128 nodes from the first byte on, and returns its length.
 fn write_survey(n: usize, starts: &[u32], neighbours: &[u16], buffer: &mut [u8]) -> usize
-    requires { ⌜ Accepted n (now starts) (now neighbours) × (n ≤ 128) × (most ≤ length (now buffer)) ⌝ }
+    requires { ⌜ Accepted n (now starts) (now neighbours) × (n ≤ 128) × (mostListing ≤ length (now buffer)) ⌝ }
     ensures { λ r. ⌜ Wrote (now (buffer .entry)) (now (buffer .exit)) 0 r (listingOf n (threshold n) (neighboursOf (now (starts .entry)) (now (neighbours .entry)))) ⌝ }
 {
     let size = n * n;
@@ -56,7 +56,7 @@ fn write_survey(n: usize, starts: &[u32], neighbours: &[u16], buffer: &mut [u8])
 
 // Writes a refusal's line from the first byte on, and returns its length.
 fn write_refusal(refusal: Refusal, buffer: &mut [u8]) -> usize
-    requires { ⌜ most ≤ length (now buffer) ⌝ }
+    requires { ⌜ mostListing ≤ length (now buffer) ⌝ }
     ensures { λ r. ⌜ Wrote (now (buffer .entry)) (now (buffer .exit)) 0 r (listingText (refused (number refusal))) ⌝ }
 {
     let i = format::write_byte(buffer, 0, 88);
@@ -66,7 +66,7 @@ fn write_refusal(refusal: Refusal, buffer: &mut [u8]) -> usize
 
 // Writes the listing of a text from the first byte on, and returns its length.
 fn write_text(text: &[u8], buffer: &mut [u8]) -> usize
-    requires { ⌜ most ≤ length (now buffer) ⌝ }
+    requires { ⌜ mostListing ≤ length (now buffer) ⌝ }
     ensures { λ r. ⌜ Wrote (now (buffer .entry)) (now (buffer .exit)) 0 r (listing (now (text .entry))) ⌝ }
 {
     let mut starts = [0u32; 129];
@@ -79,9 +79,9 @@ fn write_text(text: &[u8], buffer: &mut [u8]) -> usize
 
 // Writes the listing of a text into a buffer, by way of a list of the greatest length.
 fn write_by_way(text: &[u8], lines: &mut [u8], buffer: &mut [u8]) -> Counting
-    requires { ⌜ length (now lines) ≡ most ⌝ }
+    requires { ⌜ length (now lines) ≡ mostListing ⌝ }
     ensures { λ r. ⌜ writeReturned r (now (buffer .exit)) ≡ writingListing (now (text .entry)) (now (buffer .entry)) ⌝ }
-    ensures { λ _. ⌜ length (listing (now (text .entry))) ≤ most ⌝ }
+    ensures { λ _. ⌜ length (listing (now (text .entry))) ≤ mostListing ⌝ }
 {
     let length = write_text(text, lines);
     if buffer.len() < length {
@@ -94,7 +94,7 @@ fn write_by_way(text: &[u8], lines: &mut [u8], buffer: &mut [u8]) -> Counting
 // The same by way of an array, which is lent without a look at its entries: that keeps the check short.
 fn write_by_array(text: &[u8], lines: &mut [u8; 146314], buffer: &mut [u8]) -> Counting
     ensures { λ r. ⌜ writeReturned r (now (buffer .exit)) ≡ writingListing (now (text .entry)) (now (buffer .entry)) ⌝ }
-    ensures { λ _. ⌜ length (listing (now (text .entry))) ≤ most ⌝ }
+    ensures { λ _. ⌜ length (listing (now (text .entry))) ≤ mostListing ⌝ }
 {
     write_by_way(text, lines, buffer)
 }
@@ -103,7 +103,7 @@ fn write_by_array(text: &[u8], lines: &mut [u8; 146314], buffer: &mut [u8]) -> C
 // always enough.
 pub fn write_listing(text: &[u8], buffer: &mut [u8]) -> Counting
     ensures { λ r. ⌜ writeReturned r (now (buffer .exit)) ≡ writingListing (now (text .entry)) (now (buffer .entry)) ⌝ }
-    ensures { λ _. ⌜ length (listing (now (text .entry))) ≤ most ⌝ }
+    ensures { λ _. ⌜ length (listing (now (text .entry))) ≤ mostListing ⌝ }
 {
     let mut lines = [0u8; 146314];
     write_by_array(text, &mut lines, buffer)

@@ -46,7 +46,7 @@ module _ (n : ℕ) (starts neighbours : List ℕ) where
         rising = λ v h. leb→le (getD starts v 0) (getD starts (v + 1) 0)
             (of-all (λ v. leb (getD starts v 0) (getD starts (v + 1) 0)) (upTo n) (and-r A B t2) v (has-upTo n v h));
         even = eqb→eq (last % 2) 0 (and-r (A && B) C t3);
-        links = leb→le (last / 2) 16384 (and-r (A && B && C) D t4);
+        few-links = leb→le (last / 2) 16384 (and-r (A && B && C) D t4);
         within = leb→le last (length neighbours) (and-r (A && B && C && D) E t5);
         sorted = λ v h. of-all (λ v. ascending (G v)) (upTo n) (and-r (A && B && C && D && E) F t6) v (has-upTo n v h);
         loopless = λ v x h m e. T-not (eqb x v) (and-r (ltb x n) (not (eqb x v)) (and-l (ltb x n && not (eqb x v)) (has v (G x)) (own-facts v x h m))) (eq-T x v e);
@@ -77,7 +77,7 @@ module _ (n : ℕ) (starts neighbours : List ℕ) where
       (all-of (λ v. leb (getD starts v 0) (getD starts (v + 1) 0)) (upTo n)
       (λ v h. le→leb (getD starts v 0) (getD starts (v + 1) 0) (s .rising v (of-upTo n v h)))))
       (eq-T (last % 2) 0 (s .even)))
-      (le→leb (last / 2) 16384 (s .links)))
+      (le→leb (last / 2) 16384 (s .few-links)))
       (le→leb last (length neighbours) (s .within)))
       (all-of (λ v. ascending (G v)) (upTo n) (λ v h. s .sorted v (of-upTo n v h))))
       (all-of (λ v. all (λ x. own v x) (G v)) (upTo n) (λ v h.

@@ -20,8 +20,8 @@ use Rattle.model.specs.Graph.{Edges, Chain, link, Fewest, linked}
 use Rattle.model.specs.Survey.{Graph, IsGraph}
 use Rattle.model.specs.Hubs.{isLow, hubs}
 use Rattle.model.specs.Tables.{entryAt, sum, via, fullTable, lowTable, lowLinks, reportTable, AreBuilt, hubList}
-use Rattle.model.specs.Pair.{answer, taken, listed, attaining, choose, pairBy, pair}
-use Rattle.model.specs.Walk.{byLow, toHub, join, nodes}
+use Rattle.model.specs.Pair.{withRoute, taken, listed, attaining, choose, pairBy, pair}
+use Rattle.model.specs.Walk.{byLow, toHub, join, walkNodes}
 use Rattle.model.specs.Walking.{AfterWalking, refuseWalk, fit, walkOf}
 use Rattle.model.proofs.Tests.{and-r, and-i, eq-T, T-true, same-test, eq-or}
 use Rattle.model.proofs.Lists.{has-append, of-upTo, first-below, First, found, nothing, first-same}
@@ -192,13 +192,13 @@ module _ (n s : ℕ) (G : Graph) (g : IsGraph n G) (size : n ≤ 1024) (full low
         at false q e = some-hub e
 
     -- asking: the report, with some route
-    pub pair-built : (t : Route) × (pairBy isHub n full low report a b ≡ answered (answer r t))
+    pub pair-built : (t : Route) × (pairBy isHub n full low report a b ≡ answered (withRoute r t))
     unfolding pairBy
     pair-built = at (chosen a b r (entryAt n low a b) hub)
       where
-        at : {q : Outcome Answer} → Chosen a b r (entryAt n low a b) hub q → (t : Route) × (q ≡ answered (answer r t))
-        at (to-itself e z) = (Itself, ap (λ (k : ℕ). answered (answer k Itself)) (sym z))
-        at (to-none x e) = (NoRoute, ap (λ (k : ℕ). answered (answer k NoRoute)) (sym e))
+        at : {q : Outcome Answer} → Chosen a b r (entryAt n low a b) hub q → (t : Route) × (q ≡ answered (withRoute r t))
+        at (to-itself e z) = (Itself, ap (λ (k : ℕ). answered (withRoute k Itself)) (sym z))
+        at (to-none x e) = (NoRoute, ap (λ (k : ℕ). answered (withRoute k NoRoute)) (sym e))
         at (to-low x f e) = (Low, refl)
         at (to-hub x f y z) = (Through hub, refl)
         at (bad-itself e f) = absurd (f (zero-report a b ha hb e))
@@ -207,7 +207,7 @@ module _ (n s : ℕ) (G : Graph) (g : IsGraph n G) (size : n ≤ 1024) (full low
     -- walking: the same answer, if the walk list has report + 1 entries, or there is no route
     pub walk-built : (w : ℕ) → (r ≡ none) ⊎ (r < w)
         → walkOf w n s G full low a b (pairBy isHub n full low report a b) .answer ≡ pairBy isHub n full low report a b
-    unfolding pairBy walkOf nodes byLow toHub refuseWalk
+    unfolding pairBy walkOf walkNodes byLow toHub refuseWalk
     walk-built w room = at (chosen a b r (entryAt n low a b) hub)
       where
         roomy : (r ≡ none → ⊥) → r < w
@@ -232,19 +232,19 @@ module _ (n s : ℕ) (G : Graph) (g : IsGraph n G) (size : n ≤ 1024) (full low
             (λ v d. full-next h v d hh) (λ v. full-end h v hh) (entryAt n full h v) v hv (omega arith) refl
 
         at : {q : Outcome Answer} → Chosen a b r (entryAt n low a b) hub q → walkOf w n s G full low a b q .answer ≡ q
-        at (to-itself e z) = fits w (answer 0 Itself) (a ∷ []) (subst (λ (k : ℕ). suc k ≤ w) z (roomy (λ q. clash (sym z ∙ q))))
+        at (to-itself e z) = fits w (withRoute 0 Itself) (a ∷ []) (subst (λ (k : ℕ). suc k ≤ w) z (roomy (λ q. clash (sym z ∙ q))))
           where
             clash : 0 ≡ none → ⊥
             clash q = omega arith
-        at (to-none x e) = fits w (answer none NoRoute) [] zero-le
+        at (to-none x e) = fits w (withRoute none NoRoute) [] zero-le
         at (to-low x f e) =
-            fits-sound (linked n G) a b w (answer r Low) (byLow n s G low a b) (route-sound n s G g full low a b ha hb isHub report (answer r Low) (to-low x f e) f)
+            fits-sound (linked n G) a b w (withRoute r Low) (byLow n s G low a b) (route-sound n s G g full low a b ha hb isHub report (withRoute r Low) (to-low x f e) f)
             (low-given (λ q. f (sym e ∙ q))) (roomy f)
         at (to-hub x f y z) =
             let i = attains isHub n full a b r z in
             let v = via-sum isHub n full a b hub r (i .2) f in
-            fits-sound (linked n G) a b w (answer r (Through hub)) (join (toHub n G full hub a) (toHub n G full hub b))
-            (route-sound n s G g full low a b ha hb isHub report (answer r (Through hub)) (to-hub x f y z) f)
+            fits-sound (linked n G) a b w (withRoute r (Through hub)) (join (toHub n G full hub a) (toHub n G full hub b))
+            (route-sound n s G g full low a b ha hb isHub report (withRoute r (Through hub)) (to-hub x f y z) f)
             (join-given (toHub n G full hub a) (toHub n G full hub b) (hub-given hub a (i .0) ha (v .0)) (hub-given hub b (i .0) hb (v .1)))
             (roomy f)
         at (bad-itself e f) = absurd (f (zero-report a b ha hb e))

@@ -21,8 +21,8 @@ use Rattle.model.specs.Survey.{Graph, neighboursOf, badSize, isSurvey, A
 use Rattle.model.specs.Threshold.{threshold}
 use Rattle.model.specs.Hubs.{hubs}
 use Rattle.model.specs.Tables.{entryAt, fullTable, lowTable, reportTable, AreBuilt, AreBuiltWith, shortTables, hubList}
-use Rattle.model.specs.Pair.{answer, taken, attaining, pairBy, pair}
-use Rattle.model.specs.Walk.{nodes}
+use Rattle.model.specs.Pair.{withRoute, taken, attaining, pairBy, pair}
+use Rattle.model.specs.Walk.{walkNodes}
 use Rattle.model.specs.TwoOrFour.{testResult}
 use Rattle.model.specs.Building.{AfterBuilding, shortLists, built, building}
 use Rattle.model.specs.Asking.{asking}
@@ -84,14 +84,14 @@ built-right n s G full low report list = record {
 
 given-out-sound : (E : Edges) (a b w : ℕ) {r : AfterWalking} → Given-out E a b w r → WalkSound E a b r
 given-out-sound E a b w (refusal k) x e f = never e
-given-out-sound E a b w no-way x e f = let q : answer none NoRoute ≡ x = cc in absurd (f (sym (ap (λ (y : Answer). y .report) q)))
+given-out-sound E a b w no-way x e f = let q : withRoute none NoRoute ≡ x = cc in absurd (f (sym (ap (λ (y : Answer). y .report) q)))
 given-out-sound E a b w (walked y l g m room) x e f =
     let q : y ≡ x = cc in
     let c : length l ≡ x .report + 1 = m ∙ ap (λ (z : Answer). suc (z .report)) q ∙ sym (add-one (x .report)) in
     let t : take (x .report + 1) (l ++ replicate (w - length l) none) ≡ l = take-at l (replicate (w - length l) none) (x .report + 1) c in
     let i = walked-chain g in
     record {
-      links = subst (λ (k : List ℕ). Walked E k a b) (sym t) g;
+      walked = subst (λ (k : List ℕ). Walked E k a b) (sym t) g;
       count = ap length t ∙ c;
       chain = subst (λ (k : ℕ). Chain E k a b) (omega (arith, i .1, c)) (i .2);
     }
@@ -196,7 +196,7 @@ module _ (n : ℕ) (starts neighbours : List ℕ) (acc : Accepted n starts neigh
   -- for any tables: where asking answers x and the walk's nodes are found, the walk is refused 8 exactly where there is a route and
   -- the walk list has fewer than report + 1 entries
   pub walking-short : (full low report : List ℕ) (a b : ℕ) (x : Answer) → asking n full low report a b ≡ answered x
-      → (l : List ℕ) → nodes n (threshold n) G full low a b (x .route) ≡ some l
+      → (l : List ℕ) → walkNodes n (threshold n) G full low a b (x .route) ≡ some l
       → (w : ℕ) → (walking n starts neighbours full low report a b w .answer ≡ refused 8) ↔ ((x .report ≡ none → ⊥) × (w < x .report + 1))
   unfolding pair pairBy walkOf
   walking-short full low report a b x e l f w =
@@ -229,7 +229,7 @@ module _ (n : ℕ) (starts neighbours : List ℕ) (acc : Accepted n starts neigh
     asking-answers =
         let g = acc .lists .graph in
         let i = pair-built n s G g (acc .size) full low report own a b ha hb (taken n full a b) (taken-right n s G g (acc .size) full low report own a b ha hb) in
-        (answer (entryAt n report a b) (i .0), asks full low report hf hl hr a b ha hb ∙ i .1, report-at n s G g (acc .size) full low report own a b ha hb)
+        (withRoute (entryAt n report a b) (i .0), asks full low report hf hl hr a b ha hb ∙ i .1, report-at n s G g (acc .size) full low report own a b ha hb)
 
     -- the report is none exactly where no chain joins the pair, else from the fewest links to two more
     pub asking-allowed : AllowedAnswer (linked n G) a b (asking n full low report a b)
@@ -251,7 +251,7 @@ module _ (n : ℕ) (starts neighbours : List ℕ) (acc : Accepted n starts neigh
       let r = report-room n s G full low report own in
       let p = taken-right n s G g (acc .size) full low report own a b ha hb in
       let i = pair-built n s G g (acc .size) full low report own a b ha hb (taken n full a b) p in
-      let q : answer (entryAt n report a b) (i .0) ≡ x = cc (asks full low report f l r a b ha hb, i .1) in
+      let q : withRoute (entryAt n report a b) (i .0) ≡ x = cc (asks full low report f l r a b ha hb, i .1) in
       ap (λ (y : AfterWalking). y .answer) (walks full low report f l r a b ha hb w)
       ∙ walk-built n s G g (acc .size) full low report own a b ha hb (taken n full a b) p w
       (subst (λ (y : Answer). (y .report ≡ none) ⊎ (y .report < w)) (sym q) room)

@@ -16,7 +16,7 @@ use Rattle.model.specs.Graph.{linked}
 use Rattle.model.specs.Threshold.{threshold}
 use Rattle.model.specs.Hubs.{hubs}
 use Rattle.model.specs.Tables.{entryAt, fullTable, lowTable, reportTable, AreBuilt}
-use Rattle.model.specs.Pair.{answer, taken, pair}
+use Rattle.model.specs.Pair.{withRoute, taken, pair}
 use Rattle.model.specs.Reading.{named, Parsed, parse, graphOf}
 use Rattle.model.specs.Listing.{pairLine, pairsBelow, pairLines, listingOf, listingText, listing}
 use Rattle.model.specs.Demand.{Allowed}
@@ -49,7 +49,7 @@ by-pairs f n =
 
 -- the value of an answer
 unfoldable pub valueIn : Outcome Answer → Answer
-valueIn (refused k) = answer none NoRoute
+valueIn (refused k) = withRoute none NoRoute
 valueIn (answered x) = x
 
 module _ (text : List ℕ) (x : Parsed) (e : parse 128 2048 (128 + 1) (2 * 2048) text ≡ answered x) where

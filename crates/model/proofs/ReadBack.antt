@@ -99,7 +99,7 @@ module _ (n : ℕ) (ls : List (ℕ × ℕ)) (some-node : 1 ≤ n) (size : n ≤ 
       first = start 0 zero-le ∙ total-zero (graphOf n ls);
       rising = λ v h. let a = start v (omega arith) in let b = start (v + 1) (omega arith) ∙ ap (total (graphOf n ls)) (add-one v) ∙ total-suc (graphOf n ls) v in omega arith;
       even = omega (arith, last);
-      links = omega (arith, last);
+      few-links = omega (arith, last);
       within = omega (arith, start n (omega arith), neighbours-length n (graphOf n ls), length-append (neighboursFrom n (graphOf n ls)) others);
       sorted = λ v h. subst (λ (l : List ℕ). T (ascending l)) (sym (own v h)) (keep-ascending (named ls v) n);
       loopless = λ v x h m e. named-below n ls [] f v x (own-named v x h m) .2 (sym e);
@@ -395,7 +395,7 @@ module _ (n : ℕ) (starts′ neighbours′ : List ℕ) (acc : Accepted n starts
         within = record {
           some-node = acc .some-node;
           size = acc .size;
-          few = omega (arith, half-count, acc .lists .links);
+          few = omega (arith, half-count, acc .lists .few-links);
           room = hp;
           list-room = omega (arith, ordered-count);
         };

@@ -21,7 +21,7 @@ use Rattle.model.specs.Graph.{linked}
 use Rattle.model.specs.Hubs.{isLow}
 use Rattle.model.specs.Tables.{entryAt, shortTables, AreBuilt}
 use Rattle.model.specs.Pair.{taken, attaining, pairBy, pair}
-use Rattle.model.specs.Walk.{steps, byLow, toHub, join, nodes}
+use Rattle.model.specs.Walk.{steps, byLow, toHub, join, walkNodes}
 use Rattle.model.specs.Threshold.{threshold}
 use Rattle.model.specs.Reading.{named, linkOf, readOn, onLinks, readLinks, countsOf, parsed, parseLinks, Parsed, parse, readingOf, reading}
 use Rattle.model.specs.Writing.{textOf, AfterWriting, writing}
@@ -78,9 +78,9 @@ module _ (n : ℕ) (starts neighbours : List ℕ) (acc : Accepted n starts neigh
         e,
         length-line 83 n m,
         length-le 3 n (omega (arith, acc .size)),
-        length-le 4 m (omega (arith, h, acc .lists .links)),
+        length-le 4 m (omega (arith, h, acc .lists .few-links)),
         lines-few n (acc .size) (ordered n G) [] (all-fresh n starts neighbours acc),
-        acc .lists .links,
+        acc .lists .few-links,
       )
 
   -- a buffer of so many bytes is never refused 12
@@ -165,8 +165,8 @@ module _ (n s : ℕ) (G : Graph) (g : IsGraph n G) where
       omega (arith, sym (ap length k) ∙ length-append p (tail (reverse q)), tail-few (reverse q), length-reverse q, f p refl, h q refl)
 
   -- the nodes of a walk are at most 2 n
-  nodes-few : (full low : List ℕ) (a b : ℕ) → a < n → b < n → (t : Route) (l : List ℕ) → nodes n s G full low a b t ≡ some l → length l ≤ 2 * n
-  unfolding nodes byLow toHub
+  nodes-few : (full low : List ℕ) (a b : ℕ) → a < n → b < n → (t : Route) (l : List ℕ) → walkNodes n s G full low a b t ≡ some l → length l ≤ 2 * n
+  unfolding walkNodes byLow toHub
   nodes-few full low a b ha hb Itself l e = let k : a ∷ [] ≡ l = cc in omega (arith, ap length k)
   nodes-few full low a b ha hb Low l e = omega (arith, part-few (isLow s G) (λ x. entryAt n low x b) b a ha l e)
   nodes-few full low a b ha hb (Through h) l e =
@@ -204,8 +204,8 @@ walking-enough n starts neighbours full low report a b w h =
     fitted x missing f e = absurd (omega (arith, same-number 11 8 e))
     fitted x (some l) f e = never (sym e ∙ ap (λ (y : AfterWalking). y .answer) (fit-long w x l (omega (arith, f l refl))))
 
-    walk : IsGraph n G → a < n → b < n → (x : Answer) → P (fit w x (nodes n (threshold n) G full low a b (x .route)))
-    walk g ha hb x = fitted x (nodes n (threshold n) G full low a b (x .route)) (nodes-few n (threshold n) G g full low a b ha hb (x .route))
+    walk : IsGraph n G → a < n → b < n → (x : Answer) → P (fit w x (walkNodes n (threshold n) G full low a b (x .route)))
+    walk g ha hb x = fitted x (walkNodes n (threshold n) G full low a b (x .route)) (nodes-few n (threshold n) G g full low a b ha hb (x .route))
 
     answers : IsGraph n G → a < n → b < n → {l k : ℕ} {q : Outcome Answer} → Chosen a b r l k q → P (walkOf w n (threshold n) G full low a b q)
     answers g ha hb (to-itself e z) = walk g ha hb _
@@ -223,7 +223,7 @@ unfolding walkOf fit refuseWalk
 built-enough n starts neighbours acc full low report own a b ha hb w h =
     ⊎-elim
     (λ z. answers w (inl z) ∙ sym (asked .given))
-    (λ m. ⊎-elim (λ l. answers w (inr l) ∙ sym (asked .given)) (λ l. absurd (found m l (nodes n s G full low a b (x .route)) refl)) (lt-or (x .report) w))
+    (λ m. ⊎-elim (λ l. answers w (inr l) ∙ sym (asked .given)) (λ l. absurd (found m l (walkNodes n s G full low a b (x .route)) refl)) (lt-or (x .report) w))
     (eq-or (x .report) none)
   where
     s : ℕ
@@ -255,7 +255,7 @@ built-enough n starts neighbours acc full low report own a b ha hb w h =
         (le-ltb (length starts) (n + 1) (acc .room)) (long-tables n (length full) (length low) (length report) hf hl hr)
 
     -- a report of w or more would be that of a walk of more than 2 n nodes
-    found : (x .report ≡ none → ⊥) → w ≤ x .report → (o : Option (List ℕ)) → nodes n s G full low a b (x .route) ≡ o → ⊥
+    found : (x .report ≡ none → ⊥) → w ≤ x .report → (o : Option (List ℕ)) → walkNodes n s G full low a b (x .route) ≡ o → ⊥
     found m l missing f =
         let v = suc (x .report) in
         let given = sym (asks n starts neighbours acc full low report hf hl hr a b ha hb) ∙ asked .given in

@@ -21,8 +21,8 @@ use Rattle.model.specs.Threshold.{bitLength, threshold}
 use Rattle.model.specs.Hubs.{isHigh, isLow, closed, gain, best, greedy, hubs}
 use Rattle.model.specs.Graph.{reach, fewest, linked}
 use Rattle.model.specs.Tables.{rowsOf, table, entryAt, fullTable, lowLinks, lowTable, sum, via, reportTable, hubList}
-use Rattle.model.specs.Pair.{answer, taken, attaining, choose, pairBy, pair}
-use Rattle.model.specs.Walk.{before, next, steps, byLow, toHub, join, nodes}
+use Rattle.model.specs.Pair.{withRoute, taken, attaining, choose, pairBy, pair}
+use Rattle.model.specs.Walk.{before, next, steps, byLow, toHub, join, walkNodes}
 use Rattle.model.specs.TwoOrFour.{sources, verdictOf, testResult}
 use Rattle.model.specs.Reading.{named, onLinks, linkOf, readOn, readLinks, parsed, countsOf, parseLinks, parse, graphOf, startsOf, neighboursFrom, AfterReading, readingOf, reading}
 use Rattle.model.specs.Building.{AfterBuilding, built, building}
@@ -50,12 +50,12 @@ bytes (String._∷_ c s) = code c ∷ bytes s
 lists : String → AfterReading
 lists text = reading (bytes text) 8 16
 
-sizeIn : Outcome Size → ℕ
-sizeIn (refused k) = 0
-sizeIn (answered x) = x .nodes
+nodesIn : Outcome Size → ℕ
+nodesIn (refused k) = 0
+nodesIn (answered x) = x .nodes
 
 size : String → ℕ
-size text = sizeIn (lists text .answer)
+size text = nodesIn (lists text .answer)
 
 graph : String → Graph
 graph text = neighboursOf (lists text .starts) (lists text .neighbours)
@@ -106,10 +106,10 @@ starred =
     ∷ (threshold-of 1024, number 107)
     ∷ (high-nodes course, list (5 ∷ []))
     ∷ (hub-list course, list (0 ∷ none ∷ none ∷ none ∷ none ∷ none ∷ []))
-    ∷ (ask course 1 3, report (answered (answer 4 (Through 0))))
-    ∷ (walk course 1 3 5, walked (record { answer = answered (answer 4 (Through 0)); walk = 1 ∷ 5 ∷ 0 ∷ 5 ∷ 3 ∷ [] }))
-    ∷ (walk course 1 3 8, walked (record { answer = answered (answer 4 (Through 0)); walk = 1 ∷ 5 ∷ 0 ∷ 5 ∷ 3 ∷ none ∷ none ∷ none ∷ [] }))
-    ∷ (ask course 5 5, report (answered (answer 0 Itself)))
+    ∷ (ask course 1 3, report (answered (withRoute 4 (Through 0))))
+    ∷ (walk course 1 3 5, walked (record { answer = answered (withRoute 4 (Through 0)); walk = 1 ∷ 5 ∷ 0 ∷ 5 ∷ 3 ∷ [] }))
+    ∷ (walk course 1 3 8, walked (record { answer = answered (withRoute 4 (Through 0)); walk = 1 ∷ 5 ∷ 0 ∷ 5 ∷ 3 ∷ none ∷ none ∷ none ∷ [] }))
+    ∷ (ask course 5 5, report (answered (withRoute 0 Itself)))
     ∷ (hub-sum course 5 5 0, number 2)
     ∷ (test single, verdict (answered (record { verdict = Short; searches = 1 })))
     ∷ (test chain, verdict (answered (record { verdict = Long; searches = 2 })))
@@ -118,11 +118,11 @@ starred =
     ∷ []
 
 pub starred-cases : map (λ c. reply (c .0)) starred ≡ map (λ c. c .1) starred
-unfolding starred reply tables graph size sizeIn lists bytes triangle chain single course
+unfolding starred reply tables graph size nodesIn lists bytes triangle chain single course
     from upTo has any all keep firstOf gather same over isDigit isNumber valueFrom valueOf
     onFirst split onFront cut twoNumbers withRest lineIn line neighboursOf linked ascending badSize isSurvey accepting
     bitLength threshold isHigh isLow closed gain best greedy hubs hubList reach fewest rowsOf table entryAt fullTable lowLinks lowTable sum via reportTable
-    taken attaining choose pairBy pair before next steps byLow toHub join nodes sources verdictOf testResult
+    taken attaining choose pairBy pair before next steps byLow toHub join walkNodes sources verdictOf testResult
     named onLinks linkOf readOn readLinks parsed countsOf parseLinks parse graphOf startsOf neighboursFrom readingOf reading
     built building asking refuseWalk fit walkOf walking testing
 starred-cases = refl

@@ -182,7 +182,7 @@ module _ (n : ℕ) (starts neighbours starts′ neighbours′ : List ℕ) (e : A
         first = sym (same-start 0 (omega arith)) ∙ s .first;
         rising = λ v h. let u = s .rising v h in omega (arith, same-start v (omega arith), same-start (v + 1) (omega arith));
         even = subst (λ (k : ℕ). k % 2 ≡ 0) last (s .even);
-        links = subst (λ (k : ℕ). k / 2 ≤ 16384) last (s .links);
+        few-links = subst (λ (k : ℕ). k / 2 ≤ 16384) last (s .few-links);
         within = omega (arith, last, s .within, length-take (getD starts n 0) neighbours, length-take (getD starts n 0) neighbours′, ap length (e .neighbours-used));
         sorted = λ v h. subst (λ (l : List ℕ). T (ascending l)) (past-own′ s v h) (s .sorted v h);
         loopless = λ v x h m. s .loopless v x h (there v x h m);

@@ -20,8 +20,8 @@ use Rattle.model.specs.Graph.{Edges, Walked, stop, go, linked}
 use Rattle.model.specs.Survey.{Graph, IsGraph}
 use Rattle.model.specs.Hubs.{isLow}
 use Rattle.model.specs.Tables.{entryAt, via}
-use Rattle.model.specs.Pair.{answer, attaining, choose, pairBy}
-use Rattle.model.specs.Walk.{before, next, steps, byLow, toHub, join, nodes}
+use Rattle.model.specs.Pair.{withRoute, attaining, choose, pairBy}
+use Rattle.model.specs.Walk.{before, next, steps, byLow, toHub, join, walkNodes}
 use Rattle.model.specs.Walking.{AfterWalking, refuseWalk, fit, walkOf}
 use Rattle.model.proofs.Tests.{and-l, and-r, and-i, eq-T, eq-or, lt-or}
 use Rattle.model.proofs.Lists.{has-upTo, first-in, first-below, first-same, First, found, nothing, keep-grows, keep-length, length-upTo}
@@ -31,10 +31,10 @@ use Rattle.model.proofs.Allowance.{Sum, whole, part, sum-is}
 -- ---- the cases of an answer
 
 pub data Chosen (a b r l h : ℕ) : Outcome Answer → Type 0 where
-  to-itself : a ≡ b → r ≡ 0 → Chosen a b r l h (answered (answer 0 Itself))
-  to-none : (a ≡ b → ⊥) → r ≡ none → Chosen a b r l h (answered (answer none NoRoute))
-  to-low : (a ≡ b → ⊥) → (r ≡ none → ⊥) → l ≡ r → Chosen a b r l h (answered (answer r Low))
-  to-hub : (a ≡ b → ⊥) → (r ≡ none → ⊥) → (l ≡ r → ⊥) → (h ≡ none → ⊥) → Chosen a b r l h (answered (answer r (Through h)))
+  to-itself : a ≡ b → r ≡ 0 → Chosen a b r l h (answered (withRoute 0 Itself))
+  to-none : (a ≡ b → ⊥) → r ≡ none → Chosen a b r l h (answered (withRoute none NoRoute))
+  to-low : (a ≡ b → ⊥) → (r ≡ none → ⊥) → l ≡ r → Chosen a b r l h (answered (withRoute r Low))
+  to-hub : (a ≡ b → ⊥) → (r ≡ none → ⊥) → (l ≡ r → ⊥) → (h ≡ none → ⊥) → Chosen a b r l h (answered (withRoute r (Through h)))
   bad-itself : a ≡ b → (r ≡ 0 → ⊥) → Chosen a b r l h (refused 11)
   bad-hub : (a ≡ b → ⊥) → (r ≡ none → ⊥) → (l ≡ r → ⊥) → h ≡ none → Chosen a b r l h (refused 11)
 
@@ -42,26 +42,26 @@ pub chosen : (a b r l h : ℕ) → Chosen a b r l h (choose a b r l h)
 unfolding choose
 chosen a b r l h = one (eqb a b) refl
   where
-    four : (a ≡ b → ⊥) → (r ≡ none → ⊥) → (l ≡ r → ⊥) → (t : Bool) → eqb h none ≡ t → Chosen a b r l h (if t then refused 11 else answered (answer r (Through h)))
+    four : (a ≡ b → ⊥) → (r ≡ none → ⊥) → (l ≡ r → ⊥) → (t : Bool) → eqb h none ≡ t → Chosen a b r l h (if t then refused 11 else answered (withRoute r (Through h)))
     four x y z true e = bad-hub x y z (eqb-true h none e)
     four x y z false e = to-hub x y z (eqb-false h none e)
 
-    three : (a ≡ b → ⊥) → (r ≡ none → ⊥) → (t : Bool) → eqb l r ≡ t → Chosen a b r l h (if t then answered (answer r Low) else if eqb h none then refused 11 else answered (answer r (Through h)))
+    three : (a ≡ b → ⊥) → (r ≡ none → ⊥) → (t : Bool) → eqb l r ≡ t → Chosen a b r l h (if t then answered (withRoute r Low) else if eqb h none then refused 11 else answered (withRoute r (Through h)))
     three x y true e = to-low x y (eqb-true l r e)
     three x y false e = four x y (eqb-false l r e) (eqb h none) refl
 
     two : (a ≡ b → ⊥) → (t : Bool) → eqb r none ≡ t
-        → Chosen a b r l h (if t then answered (answer none NoRoute) else if eqb l r then answered (answer r Low) else if eqb h none then refused 11 else answered (answer r (Through h)))
+        → Chosen a b r l h (if t then answered (withRoute none NoRoute) else if eqb l r then answered (withRoute r Low) else if eqb h none then refused 11 else answered (withRoute r (Through h)))
     two x true e = to-none x (eqb-true r none e)
     two x false e = three x (eqb-false r none e) (eqb l r) refl
 
-    zeroed : a ≡ b → (t : Bool) → eqb r 0 ≡ t → Chosen a b r l h (if t then answered (answer 0 Itself) else refused 11)
+    zeroed : a ≡ b → (t : Bool) → eqb r 0 ≡ t → Chosen a b r l h (if t then answered (withRoute 0 Itself) else refused 11)
     zeroed x true e = to-itself x (eqb-true r 0 e)
     zeroed x false e = bad-itself x (eqb-false r 0 e)
 
     one : (t : Bool) → eqb a b ≡ t
-        → Chosen a b r l h (if t then (if eqb r 0 then answered (answer 0 Itself) else refused 11)
-        else if eqb r none then answered (answer none NoRoute) else if eqb l r then answered (answer r Low) else if eqb h none then refused 11 else answered (answer r (Through h)))
+        → Chosen a b r l h (if t then (if eqb r 0 then answered (withRoute 0 Itself) else refused 11)
+        else if eqb r none then answered (withRoute none NoRoute) else if eqb l r then answered (withRoute r Low) else if eqb h none then refused 11 else answered (withRoute r (Through h)))
     one true e = zeroed (eqb-true a b e) (eqb r 0) refl
     one false e = two (eqb-false a b e) (eqb r none) refl
 
@@ -296,7 +296,7 @@ module _ (n : ℕ) (G : Graph) (g : IsGraph n G) (may : ℕ → Bool) (left : �
 -- what a walk list of w entries holds at return, with the answer: refused, no route, or a chain of as many links as the report
 pub data Given-out (E : Edges) (a b w : ℕ) : AfterWalking → Type 0 where
   refusal : (k : ℕ) → Given-out E a b w (record { answer = refused k; walk = replicate w none })
-  no-way : Given-out E a b w (record { answer = answered (answer none NoRoute); walk = replicate w none })
+  no-way : Given-out E a b w (record { answer = answered (withRoute none NoRoute); walk = replicate w none })
   walked : (x : Answer) (l : List ℕ) → Walked E l a b → length l ≡ suc (x .report) → length l ≤ w
       → Given-out E a b w (record { answer = answered x; walk = l ++ replicate (w - length l) none })
 
@@ -317,10 +317,10 @@ fit-outcome E a b w x (some l) s = ⊎-elim
     (λ h. subst (λ (r : AfterWalking). Given-out E a b w r) (sym (fit-long w x l h)) (walked x l (s .0) (s .1) h))
     (lt-or w (length l))
 
-fit-none : (E : Edges) (a b w : ℕ) → Given-out E a b w (fit w (answer none NoRoute) (some []))
+fit-none : (E : Edges) (a b w : ℕ) → Given-out E a b w (fit w (withRoute none NoRoute) (some []))
 fit-none E a b w =
     subst (λ (r : AfterWalking). Given-out E a b w r)
-    (sym (fit-long w (answer none NoRoute) [] (omega arith) ∙ ap (λ (k : ℕ). record { answer = answered (answer none NoRoute); walk = replicate k none }) (sub-zero w)))
+    (sym (fit-long w (withRoute none NoRoute) [] (omega arith) ∙ ap (λ (k : ℕ). record { answer = answered (withRoute none NoRoute); walk = replicate k none }) (sub-zero w)))
     no-way
 
 module _ (isHub : ℕ → Bool) (n : ℕ) (full : List ℕ) (a b : ℕ) where
@@ -370,8 +370,8 @@ module _ (n s : ℕ) (G : Graph) (g : IsGraph n G) (full low : List ℕ) (a b : 
     Chosen-here q = Chosen a b (entryAt n report a b) (entryAt n low a b) (attaining isHub n full a b (entryAt n report a b)) q
 
     -- where the nodes of the route are found, they are a chain of as many links as the report
-    pub route-sound : (x : Answer) → Chosen-here (answered x) → (x .report ≡ none → ⊥) → Sound (linked n G) (x .report) a b (nodes n s G full low a b (x .route))
-    unfolding nodes
+    pub route-sound : (x : Answer) → Chosen-here (answered x) → (x .report ≡ none → ⊥) → Sound (linked n G) (x .report) a b (walkNodes n s G full low a b (x .route))
+    unfolding walkNodes
     route-sound x (to-itself e z) m = (subst (λ (y : ℕ). Walked (linked n G) (a ∷ []) a y) e stop, refl)
     route-sound x (to-none f e) m = absurd (m refl)
     route-sound x (to-low f g e) m = subst (λ (d : ℕ). Sound (linked n G) d a b (byLow n s G low a b)) e low-sound
@@ -382,15 +382,15 @@ module _ (n s : ℕ) (G : Graph) (g : IsGraph n G) (full low : List ℕ) (a b : 
         subst (λ (d : ℕ). Sound (linked n G) d a b (join (toHub n G full hub a) (toHub n G full hub b))) (e .2) (hub-sound hub)
 
     -- with no route there are no nodes
-    none-found : (x : Answer) → Chosen-here (answered x) → (l : List ℕ) → nodes n s G full low a b (x .route) ≡ some l → x .report ≡ none → length l ≡ 0
-    unfolding nodes
+    none-found : (x : Answer) → Chosen-here (answered x) → (l : List ℕ) → walkNodes n s G full low a b (x .route) ≡ some l → x .report ≡ none → length l ≡ 0
+    unfolding walkNodes
     none-found x (to-itself p q) l e z = absurd (omega arith)
     none-found x (to-none p q) l e z = let k : [] ≡ l = cc in ap length (sym k)
     none-found x (to-low p f q) l e z = absurd (f z)
     none-found x (to-hub p f q t) l e z = absurd (f z)
 
     -- a list of w entries is too short for the nodes found exactly where there is a route and w is less than report + 1
-    pub found-longer : (x : Answer) → Chosen-here (answered x) → (l : List ℕ) → nodes n s G full low a b (x .route) ≡ some l
+    pub found-longer : (x : Answer) → Chosen-here (answered x) → (l : List ℕ) → walkNodes n s G full low a b (x .route) ≡ some l
         → (w : ℕ) → (w < length l) ↔ ((x .report ≡ none → ⊥) × (w < x .report + 1))
     found-longer x c l e w = at (eq-or (x .report) none)
       where
@@ -402,11 +402,11 @@ module _ (n s : ℕ) (G : Graph) (g : IsGraph n G) (full low : List ℕ) (a b : 
 
     -- whatever hubs are taken and whatever the tables hold, a walk given out is a chain of as many links as reported
     pub walk-given-out : (w : ℕ) → Given-out (linked n G) a b w (walkOf w n s G full low a b (pairBy isHub n full low report a b))
-    unfolding pairBy walkOf nodes refuseWalk
+    unfolding pairBy walkOf walkNodes refuseWalk
     walk-given-out w = at (chosen a b (entryAt n report a b) (entryAt n low a b) (attaining isHub n full a b (entryAt n report a b)))
       where
-        fitted : (x : Answer) → Chosen-here (answered x) → (x .report ≡ none → ⊥) → Given-out (linked n G) a b w (fit w x (nodes n s G full low a b (x .route)))
-        fitted x c m = fit-outcome (linked n G) a b w x (nodes n s G full low a b (x .route)) (route-sound x c m)
+        fitted : (x : Answer) → Chosen-here (answered x) → (x .report ≡ none → ⊥) → Given-out (linked n G) a b w (fit w x (walkNodes n s G full low a b (x .route)))
+        fitted x c m = fit-outcome (linked n G) a b w x (walkNodes n s G full low a b (x .route)) (route-sound x c m)
 
         some-zero : 0 ≡ none → ⊥
         some-zero e = omega arith

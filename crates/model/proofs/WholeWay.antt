@@ -39,9 +39,10 @@ whole-way text p q x e full low report list hf hl hr hh a b ha hb =
     let asked = right 0 .0 in
     record {
       links = f .links;
+      as-many = f .count;
       lines = f .lines;
-      hubs = length (hubs n (threshold n) G);
-      built = done;
+      count = length (hubs n (threshold n) G);
+      builds = done;
       value = asked .value;
       asked = asked .given;
       allowed = subst (λ (E : Edges). Allowed E a b (asked .value .report)) same (asked .allowed);

@@ -82,7 +82,7 @@ WalkAnswers w o r = (x : Answer) → o ≡ answered x → (x .report ≡ none) �
 
 -- rule 9.5: the first r + 1 entries are a chain of r links, from a to b
 pub record IsWalk (E : Edges) (a b r : ℕ) (list : List ℕ) : Type 0 where
-  pub links : Walked E (take (r + 1) list) a b
+  pub walked : Walked E (take (r + 1) list) a b
   pub count : length (take (r + 1) list) ≡ r + 1
   pub chain : Chain E r a b
 
@@ -120,10 +120,11 @@ TestRight n starts neighbours o = Accepted n starts neighbours → RightVerdict 
 pub record WholeWay (text : List ℕ) (x : Size) (starts neighbours : List ℕ) (t : AfterBuilding) (a b : ℕ) : Type 0 where
   -- the links that the text's lines name
   pub links : List (ℕ × ℕ)
+  pub as-many : length links ≡ x .links
   pub lines : text ≡ surveyText (x .nodes) (x .links) links
   -- building and asking are not refused, and the report is allowed over those links
-  pub hubs : ℕ
-  pub built : t .answer ≡ answered hubs
+  pub count : ℕ
+  pub builds : t .answer ≡ answered count
   pub value : Answer
   pub asked : asking (x .nodes) (t .full) (t .low) (t .report) a b ≡ answered value
   pub allowed : Allowed (named links) a b (value .report)

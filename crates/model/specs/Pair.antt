@@ -13,18 +13,18 @@ use Rattle.model.specs.Basics.{none, if_then_else_, upTo, has, firstOf}
 use Rattle.model.specs.Tables.{entryAt, via}
 
 -- rule 6.1: a report with a route
-abbrev pub answer : ℕ → Route → Answer
-answer r t = record { report = r; route = t }
+abbrev pub withRoute : ℕ → Route → Answer
+withRoute r t = record { report = r; route = t }
 
 -- rules 6.2 and 10.8: the route that attains the report r, where l is the entry of Low and h the hub; 11 where none does, or where a = b and
 -- r is not 0
 unfoldable pub choose : (a b r l h : ℕ) → Outcome Answer
 choose a b r l h =
-    if eqb a b then (if eqb r 0 then answered (answer 0 Itself) else refused 11)
-    else if eqb r none then answered (answer none NoRoute)
-    else if eqb l r then answered (answer r Low)
+    if eqb a b then (if eqb r 0 then answered (withRoute 0 Itself) else refused 11)
+    else if eqb r none then answered (withRoute none NoRoute)
+    else if eqb l r then answered (withRoute r Low)
     else if eqb h none then refused 11
-    else answered (answer r (Through h))
+    else answered (withRoute r (Through h))
 
 -- rule 6.2: the smallest hub that attains the report r, or none
 unfoldable pub attaining : (ℕ → Bool) → ℕ → List ℕ → (a b r : ℕ) → ℕ

@@ -68,7 +68,7 @@ pub record IsSurvey (n : ℕ) (starts neighbours : List ℕ) : Type 0 where
   pub first : getD starts 0 0 ≡ 0
   pub rising : (v : ℕ) → v < n → getD starts v 0 ≤ getD starts (v + 1) 0
   pub even : getD starts n 0 % 2 ≡ 0
-  pub links : getD starts n 0 / 2 ≤ 16384
+  pub few-links : getD starts n 0 / 2 ≤ 16384
   pub within : getD starts n 0 ≤ length neighbours
   pub sorted : (v : ℕ) → v < n → T (ascending (neighboursOf starts neighbours v))
   pub loopless : (v x : ℕ) → v < n → T (has x (neighboursOf starts neighbours v)) → (x ≡ v → ⊥)

@@ -45,8 +45,8 @@ join (some p) missing = missing
 join (some p) (some q) = some (p ++ tail (reverse q))
 
 -- rule 6.4: the nodes of the walk by a route, in graph G with threshold s; there are none where there is no route
-unfoldable pub nodes : ℕ → ℕ → Graph → List ℕ → List ℕ → (a b : ℕ) → Route → Option (List ℕ)
-nodes n s G full low a b Itself = some (a ∷ [])
-nodes n s G full low a b Low = byLow n s G low a b
-nodes n s G full low a b (Through h) = join (toHub n G full h a) (toHub n G full h b)
-nodes n s G full low a b NoRoute = some []
+unfoldable pub walkNodes : ℕ → ℕ → Graph → List ℕ → List ℕ → (a b : ℕ) → Route → Option (List ℕ)
+walkNodes n s G full low a b Itself = some (a ∷ [])
+walkNodes n s G full low a b Low = byLow n s G low a b
+walkNodes n s G full low a b (Through h) = join (toHub n G full h a) (toHub n G full h b)
+walkNodes n s G full low a b NoRoute = some []

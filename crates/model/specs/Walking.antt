@@ -14,7 +14,7 @@ use Rattle.model.specs.Survey.{Graph, neighboursOf, badSize, isSurvey}
 use Rattle.model.specs.Threshold.{threshold}
 use Rattle.model.specs.Tables.{shortTables}
 use Rattle.model.specs.Pair.{pair}
-use Rattle.model.specs.Walk.{nodes}
+use Rattle.model.specs.Walk.{walkNodes}
 
 -- the answer, and what the walk list holds at return (rule 10.9)
 pub record AfterWalking : Type 0 where
@@ -40,7 +40,7 @@ fit w x (some l) =
 -- rule 10.9: the answer is the pair's
 unfoldable pub walkOf : ℕ → (n s : ℕ) → Graph → (full low : List ℕ) (a b : ℕ) → Outcome Answer → AfterWalking
 walkOf w n s G full low a b (refused k) = refuseWalk w k
-walkOf w n s G full low a b (answered x) = fit w x (nodes n s G full low a b (x .route))
+walkOf w n s G full low a b (answered x) = fit w x (walkNodes n s G full low a b (x .route))
 
 -- rule 10.9, in its order, with the threshold of rule 4.2
 unfoldable pub walking : (n : ℕ) (starts neighbours full low report : List ℕ) (a b w : ℕ) → AfterWalking

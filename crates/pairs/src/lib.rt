@@ -11,7 +11,7 @@ ghost use lib.Dec.{eqb};
 ghost use lib.ListN.{length};
 ghost use Rattle.model.specs.Answers.{answered, pairAnswer};
 ghost use Rattle.model.specs.Tables.{entryAt, via, shortTables};
-ghost use Rattle.model.specs.Pair.{answer, taken, attaining, pair};
+ghost use Rattle.model.specs.Pair.{withRoute, taken, attaining, pair};
 ghost use Rattle.model.specs.Asking.{asking};
 ghost use Rattle.model.specs.Demand.{AskRight};
 
@@ -56,7 +56,7 @@ fn attaining_hub(n: usize, full: &[u16], a: usize, b: usize, r: u16) -> u16
 }
 
 fn answer_by(report: u16, route: Route) -> Asking
-    ensures { λ r. ⌜ pairAnswer r ≡ answered (answer report route) ⌝ }
+    ensures { λ r. ⌜ pairAnswer r ≡ answered (withRoute report route) ⌝ }
 {
     Asking::Answered(Answer { report, route })
 }

@@ -20,7 +20,7 @@ use Rattle.model.specs.Walk.{steps, byLow, toHub}
 use Rattle.model.proofs.Acceptance.{few-neighbours}
 use Rattle.model.proofs.Entries.{place-inside}
 use Rattle.model.proofs.Walks.{Sound, steps-sound, steps-same, too-long}
-use Rattle.parts.specs.Parts.{leftIn, Inside, stepsIn, given, Leaves, countOf, PartIs}
+use Rattle.parts.specs.Parts.{leftIn, Inside, stepsIn, isFound, Leaves, countOf, PartIs}
 
 -- ---- how many nodes a part has
 
@@ -32,11 +32,11 @@ no-part n e old new = record {
   left = subst (λ (o : Option (List ℕ)). Leaves o old new) (sym e) tt;
 }
 
-not-given : (o : Option (List ℕ)) → false ≡ given o → o ≡ missing
+not-given : (o : Option (List ℕ)) → false ≡ isFound o → o ≡ missing
 not-given missing e = refl
 not-given (some l) e = let z : _≡_ {A = ℕ} 0 1 = cc in absurd (omega arith)
 
-all-given : (n d : ℕ) (o : Option (List ℕ)) (E : Edges) (v goal : ℕ) → Sound E d v goal o → d < n → (old new : List ℕ) → true ≡ given o → Leaves o old new → PartIs n o (d + 1) old new
+all-given : (n d : ℕ) (o : Option (List ℕ)) (E : Edges) (v goal : ℕ) → Sound E d v goal o → d < n → (old new : List ℕ) → true ≡ isFound o → Leaves o old new → PartIs n o (d + 1) old new
 all-given n d missing E v goal s h old new e w = let z : _≡_ {A = ℕ} 0 1 = cc in absurd (omega arith)
 all-given n d (some l) E v goal s h old new e w = record {
   counted = add-one d ∙ sym (s .1);
@@ -55,10 +55,10 @@ module _ (n : ℕ) (starts neighbours : List ℕ) (acc : Accepted n starts neigh
   pub part-long : n ≤ leftIn table stride v → (nodes : List ℕ) → PartIs n o 0 nodes nodes
   part-long l nodes = no-part n (too-long n G (acc .lists .graph) (isLow limit G) (leftIn table stride) goal (leftIn table stride v) v h (omega arith) l) nodes nodes
 
-  pub part-missed : (old new : List ℕ) → false ≡ given o → PartIs n o 0 old new
+  pub part-missed : (old new : List ℕ) → false ≡ isFound o → PartIs n o 0 old new
   part-missed old new e = no-part n (not-given o e) old new
 
-  pub part-given : leftIn table stride v < n → (old new : List ℕ) → true ≡ given o → Leaves o old new → PartIs n o (leftIn table stride v + 1) old new
+  pub part-given : leftIn table stride v < n → (old new : List ℕ) → true ≡ isFound o → Leaves o old new → PartIs n o (leftIn table stride v + 1) old new
   part-given l old new e w =
       all-given n (leftIn table stride v) o (linked n G) v goal (steps-sound n G (acc .lists .graph) (isLow limit G) (leftIn table stride) goal (leftIn table stride v) v h) l old new e w
 

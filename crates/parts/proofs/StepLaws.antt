@@ -18,7 +18,7 @@ use Rattle.model.specs.Hubs.{isHigh, isLow}
 use Rattle.model.specs.Walk.{before, next, steps}
 use Rattle.model.proofs.Tests.{not-leb}
 use Rattle.model.proofs.Walks.{Sound, steps-sound, next-below}
-use Rattle.parts.specs.Parts.{leftIn, leadsOn, stepsIn, given, Leaves}
+use Rattle.parts.specs.Parts.{leftIn, leadsOn, stepsIn, isFound, Leaves}
 
 -- where a node's entry stands
 pub place-small : (n x stride : ℕ) → n ≤ 1024 → x < n → stride ≤ 1024 → x * stride ≤ 1048576
@@ -61,8 +61,8 @@ module _ (G : Graph) (may : ℕ → Bool) (left : ℕ → ℕ) (goal : ℕ) wher
 -- ---- what steps leave
 
 -- nothing is asked where there is no part
-none-left : {o : Option (List ℕ)} (old new : List ℕ) → o ≡ missing → (false ≡ given o) × Leaves o old new
-none-left old new e = subst (λ (o : Option (List ℕ)). (false ≡ given o) × Leaves o old new) (sym e) (refl, tt)
+none-left : {o : Option (List ℕ)} (old new : List ℕ) → o ≡ missing → (false ≡ isFound o) × Leaves o old new
+none-left old new e = subst (λ (o : Option (List ℕ)). (false ≡ isFound o) × Leaves o old new) (sym e) (refl, tt)
 
 -- a node written behind a part's nodes: the part with that node in front of it
 over-more : (l nodes : List ℕ) (d v : ℕ) → length l ≡ d → d < length nodes → over (reverse l) (set nodes d v) ≡ over (reverse (v ∷ l)) nodes
@@ -77,7 +77,7 @@ over-more l nodes d v e h =
 
 -- the same for the part that there may be, of k links
 before-done : (o : Option (List ℕ)) (d v : ℕ) (nodes new : List ℕ) (r : Bool) → d < length nodes → (E : Edges) (k x goal : ℕ) → suc k ≡ d → Sound E k x goal o
-    → (r ≡ given o) × Leaves o (set nodes d v) new → (r ≡ given (before v o)) × Leaves (before v o) nodes new
+    → (r ≡ isFound o) × Leaves o (set nodes d v) new → (r ≡ isFound (before v o)) × Leaves (before v o) nodes new
 unfolding before
 before-done missing d v nodes new r h E k x goal e s w = (w .0, tt)
 before-done (some l) d v nodes new r h E k x goal e s w = (w .0, w .1 ∙ over-more l nodes d v (s .1 ∙ e) h)
@@ -88,7 +88,7 @@ module _ (n : ℕ) (starts neighbours : List ℕ) (acc : Accepted n starts neigh
 
   -- what the code answers and leaves
   abbrev pub Done : (d v : ℕ) → Bool → (old new : List ℕ) → Type 0
-  Done d v r old new = (r ≡ given (stepsIn starts neighbours limit table stride goal d v)) × Leaves (stepsIn starts neighbours limit table stride goal d v) old new
+  Done d v r old new = (r ≡ isFound (stepsIn starts neighbours limit table stride goal d v)) × Leaves (stepsIn starts neighbours limit table stride goal d v) old new
 
   -- no step is left
   pub last-step : (d v : ℕ) (nodes : List ℕ) → d ≡ 0 → d < length nodes → Done d v (eqb v goal) nodes (set nodes d v)
@@ -98,7 +98,7 @@ module _ (n : ℕ) (starts neighbours : List ℕ) (acc : Accepted n starts neigh
       front : set nodes 0 v ≡ over (reverse (v ∷ [])) nodes
       front = over-more [] nodes 0 v refl (omega arith)
 
-      at : (t : Bool) → (t ≡ given (if t then some (v ∷ []) else missing)) × Leaves (if t then some (v ∷ []) else missing) nodes (set nodes 0 v)
+      at : (t : Bool) → (t ≡ isFound (if t then some (v ∷ []) else missing)) × Leaves (if t then some (v ∷ []) else missing) nodes (set nodes 0 v)
       at true = (refl, front)
       at false = (refl, tt)
 
@@ -120,6 +120,6 @@ module _ (n : ℕ) (starts neighbours : List ℕ) (acc : Accepted n starts neigh
     pub step-on : v < n → (x ≡ none → ⊥) → (nodes new : List ℕ) → d < length nodes → (r : Bool)
         → Done (d - 1) x r (set nodes d v) new → Done d v r nodes new
     step-on h f nodes new room r w =
-        subst (λ (o : Option (List ℕ)). (r ≡ given o) × Leaves o nodes new) (sym (steps-on G (isLow limit G) (leftIn table stride) goal d v x some-left on f))
+        subst (λ (o : Option (List ℕ)). (r ≡ isFound o) × Leaves o nodes new) (sym (steps-on G (isLow limit G) (leftIn table stride) goal d v x some-left on f))
         (before-done (stepsIn starts neighbours limit table stride goal (d - 1) x) d v nodes new r room (linked n G) (d - 1) x goal (omega arith)
         (steps-sound n G (acc .lists .graph) (isLow limit G) (leftIn table stride) goal (d - 1) x (step-below h f)) w)

@@ -31,9 +31,9 @@ stepsIn starts neighbours limit table stride goal d v =
     steps (neighboursOf starts neighbours) (isLow limit (neighboursOf starts neighbours)) (leftIn table stride) goal d v
 
 -- whether there is a part
-abbrev pub given : Option (List ℕ) → Bool
-given missing = false
-given (some l) = true
+abbrev pub isFound : Option (List ℕ) → Bool
+isFound missing = false
+isFound (some l) = true
 
 -- a part leaves its nodes turned round, each at the place that is the number of links left from it
 abbrev pub Leaves : Option (List ℕ) → (old new : List ℕ) → Type 0

@@ -8,7 +8,7 @@ ghost use Rattle.model.specs.Basics.{none, has, firstOf};
 ghost use Rattle.model.specs.Survey.{neighboursOf, Accepted};
 ghost use Rattle.model.specs.Threshold.{threshold};
 ghost use Rattle.model.specs.Walk.{byLow, toHub};
-ghost use Rattle.parts.specs.Parts.{leftIn, leadsOn, stepsIn, Inside, given, Leaves, PartIs};
+ghost use Rattle.parts.specs.Parts.{leftIn, leadsOn, stepsIn, Inside, isFound, Leaves, PartIs};
 
 // Whether a walk may go on to x: it is d links from the goal and has fewer than `limit` neighbours.
 fn leads_on(
@@ -72,7 +72,7 @@ fn take_steps(
     nodes: &mut [u16],
 ) -> bool
     requires { ⌜ Accepted n (now starts) (now neighbours) × Inside n (now table) stride × (v < n) × (d < length (now nodes)) ⌝ }
-    ensures { λ r. ⌜ r ≡ given (stepsIn (now (starts .entry)) (now (neighbours .entry)) limit (now (table .entry)) stride goal d v) ⌝ }
+    ensures { λ r. ⌜ r ≡ isFound (stepsIn (now (starts .entry)) (now (neighbours .entry)) limit (now (table .entry)) stride goal d v) ⌝ }
     ensures { λ _. ⌜ Leaves (stepsIn (now (starts .entry)) (now (neighbours .entry)) limit (now (table .entry)) stride goal d v) (now (nodes .entry)) (now (nodes .exit)) ⌝ }
 {
     nodes[d] = v as u16;

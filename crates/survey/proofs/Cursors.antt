@@ -448,7 +448,7 @@ module _ (n : ℕ) (starts neighbours : List ℕ) (ok : Rows n starts neighbours
     first = ok .first;
     rising = ok .rising;
     even = even;
-    links = few;
+    few-links = few;
     within = ok .within;
     sorted = u .sorted;
     loopless = λ v x h m. u .below v x h m .1;

@@ -37,7 +37,7 @@ module _ (n : ℕ) (starts neighbours : List ℕ) where
   not-even = fails (λ s. s .even)
 
   pub not-few : 16384 < getD starts n 0 / 2 → isSurvey n starts neighbours ≡ false
-  not-few h = fails (λ s. s .links) (λ l. omega arith)
+  not-few h = fails (λ s. s .few-links) (λ l. omega arith)
 
   pub not-within : length neighbours < getD starts n 0 → isSurvey n starts neighbours ≡ false
   not-within h = fails (λ s. s .within) (λ l. omega arith)

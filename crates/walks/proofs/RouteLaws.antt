@@ -14,7 +14,7 @@ use Rattle.model.specs.Basics.{none, over}
 use Rattle.model.specs.Survey.{Graph, neighboursOf}
 use Rattle.model.specs.Graph.{linked}
 use Rattle.model.specs.Threshold.{threshold}
-use Rattle.model.specs.Walk.{byLow, toHub, join, nodes}
+use Rattle.model.specs.Walk.{byLow, toHub, join, walkNodes}
 use Rattle.model.specs.Walking.{AfterWalking, refuseWalk, fit, walkOf, walking}
 use Rattle.model.specs.Demand.{WalkSound, WalkRight}
 use Rattle.model.proofs.Demand.{walking-sound, walking-right}
@@ -25,30 +25,30 @@ use Rattle.routes.proofs.FitLaws.{outcome, fit-short, fit-given}
 
 module _ (n s : ℕ) (G : Graph) (full low : List ℕ) (a b : ℕ) (x : Answer) (W : List ℕ) where
   abbrev pub Given : AfterWalking → Type 0
-  Given r = r ≡ fit (length W) x (nodes n s G full low a b (x .route))
+  Given r = r ≡ fit (length W) x (walkNodes n s G full low a b (x .route))
 
-  by-route : (t : Route) → x .route ≡ t → {r : AfterWalking} → r ≡ fit (length W) x (nodes n s G full low a b t) → Given r
-  by-route t e p = p ∙ ap (λ (u : Route). fit (length W) x (nodes n s G full low a b u)) (sym e)
+  by-route : (t : Route) → x .route ≡ t → {r : AfterWalking} → r ≡ fit (length W) x (walkNodes n s G full low a b t) → Given r
+  by-route t e p = p ∙ ap (λ (u : Route). fit (length W) x (walkNodes n s G full low a b u)) (sym e)
 
   module _ (blank : W ≡ replicate (length W) none) where
     pub itself-short : x .route ≡ Itself → length W < 1 → Given (outcome (refused 8) W)
-    unfolding nodes
+    unfolding walkNodes
     itself-short e h = by-route Itself e (fit-short x W blank (a ∷ []) h)
 
     pub itself-fits : x .route ≡ Itself → 1 ≤ length W → Given (outcome (answered x) (set W 0 a))
-    unfolding nodes over
+    unfolding walkNodes over
     itself-fits e h = by-route Itself e (fit-given x W blank (a ∷ []) h (set-split W 0 a h))
 
     pub none-given : x .route ≡ NoRoute → Given (outcome (answered x) W)
-    unfolding nodes over
+    unfolding walkNodes over
     none-given e = by-route NoRoute e (fit-given x W blank [] (omega arith) refl)
 
   pub low-given : x .route ≡ Low → {r : AfterWalking} → r ≡ fit (length W) x (byLow n s G low a b) → Given r
-  unfolding nodes
+  unfolding walkNodes
   low-given e p = by-route Low e p
 
   pub through-given : (h : ℕ) → x .route ≡ Through h → {r : AfterWalking} → r ≡ fit (length W) x (join (toHub n G full h a) (toHub n G full h b)) → Given r
-  unfolding nodes
+  unfolding walkNodes
   through-given h e p = by-route (Through h) e p
 
 -- ---- what writing a walk promises
@@ -74,6 +74,6 @@ module _ (n : ℕ) (starts neighbours full low report : List ℕ) (a b w : ℕ) 
     refused-written {k} e f = written (ap (outcome (refused k)) f ∙ sym (judged w ∙ rw e))
 
     pub route-written : (x : Answer) → o ≡ answered x → {W : List ℕ} → W ≡ replicate w none
-        → {r : AfterWalking} → r ≡ fit (length W) x (nodes n (threshold n) (neighboursOf starts neighbours) full low a b (x .route)) → Written r
+        → {r : AfterWalking} → r ≡ fit (length W) x (walkNodes n (threshold n) (neighboursOf starts neighbours) full low a b (x .route)) → Written r
     unfolding walkOf
-    route-written x e f g = written (g ∙ ap (λ (k : ℕ). fit k x (nodes n (threshold n) G full low a b (x .route))) (ap length f ∙ length-replicate w none) ∙ sym (judged w ∙ rw e))
+    route-written x e f g = written (g ∙ ap (λ (k : ℕ). fit k x (walkNodes n (threshold n) G full low a b (x .route))) (ap length f ∙ length-replicate w none) ∙ sym (judged w ∙ rw e))

@@ -11,7 +11,7 @@ ghost use Rattle.model.specs.Answers.{pairAnswer, answered};
 ghost use Rattle.model.specs.Survey.{neighboursOf};
 ghost use Rattle.model.specs.Graph.{linked};
 ghost use Rattle.model.specs.Threshold.{threshold};
-ghost use Rattle.model.specs.Walk.{nodes};
+ghost use Rattle.model.specs.Walk.{walkNodes};
 ghost use Rattle.model.specs.Walking.{walkReturned, fit, walkOf, walking};
 ghost use Rattle.model.specs.Demand.{WalkSound, WalkRight};
 ghost use Rattle.walks.specs.Ready.{Ready};
@@ -31,7 +31,7 @@ fn write_route(
     requires { ⌜ Ready n (now starts) (now neighbours) (now full) (now low) a b answer ⌝ }
     requires { ⌜ now walk ≡ replicate (length (now walk)) none ⌝ }
     ensures { λ r. ⌜ walkReturned r (now (walk .exit)) ≡ fit (length (now (walk .entry))) answer
-        (nodes n (threshold n) (neighboursOf (now (starts .entry)) (now (neighbours .entry))) (now (full .entry)) (now (low .entry)) a b (answer .route)) ⌝ }
+        (walkNodes n (threshold n) (neighboursOf (now (starts .entry)) (now (neighbours .entry))) (now (full .entry)) (now (low .entry)) a b (answer .route)) ⌝ }
 {
     let route = answer.route;
     match route {

@@ -116,7 +116,7 @@ module _ (n : ℕ) (starts neighbours : List ℕ) (acc : Accepted n starts neigh
   own-end v h = omega (arith, own-length n starts neighbours (rows-of acc) v h, acc .lists .rising v h)
 
   pub own-few : (v : ℕ) → v ≤ n → getD starts v 0 ≤ 32768
-  own-few v h = omega (arith, start-last n starts (acc .lists .rising) v h, acc .lists .links, acc .lists .even)
+  own-few v h = omega (arith, start-last n starts (acc .lists .rising) v h, acc .lists .few-links, acc .lists .even)
 
   module _ (total v : ℕ) where
     pub text-none : (letter-line : total ≡ length (lineOf 83 n (getD starts n 0 / 2))) → total ≤ 24 → Counted total (1 + getD starts 0 0) text (rowsFrom n G 0)
