@@ -20,7 +20,7 @@ abbrev pub between : (ℕ → Bool) → Edges → Edges
 between p E a b = p a && p b && E a b
 
 -- rule 8.2: a chain, which is a walk in the graph. Chain E k a b is one of k links that joins a and b. (The nodes of a link are below n; a
--- chain of no links is of any number, and every promise asks that a is a node.)
+-- chain of no links is of any number, and every promise of section 9 is of nodes below n.)
 pub data Chain (E : Edges) : ℕ → ℕ → ℕ → Type 0 where
   here : {a : ℕ} → Chain E 0 a a
   link : {k a b c : ℕ} → T (E a b) → Chain E k b c → Chain E (suc k) a c

@@ -12,7 +12,7 @@ use Rattle.model.specs.Survey.{Graph}
 unfoldable pub isHigh : ℕ → Graph → ℕ → Bool
 isHigh s G v = leb s (length (G v))
 
--- rule 4.4: it is less
+-- rule 4.4: the degree of v is less than s
 unfoldable pub isLow : ℕ → Graph → ℕ → Bool
 isLow s G v = not (isHigh s G v)
 

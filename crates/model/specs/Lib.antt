@@ -1,5 +1,5 @@
 -- What a reader has to believe: the rules of docs/RULES.md, one by one; each definition names the rule that it states. A rule that has no
--- definition here says there where it shows. The order is that of the rules, but that chains (Graph) stand before the tables that count
+-- definition here says there where it shows. The order is that of the rules, except that chains (Graph) stand before the tables that count
 -- their links, and Demand, which says what the calls' answers mean, after the calls.
 
 -- small functions on tests and lists; what an answer is

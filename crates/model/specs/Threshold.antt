@@ -10,7 +10,7 @@ use Rattle.model.specs.Survey.{badSize}
 unfoldable pub bitLength : ℕ → ℕ
 bitLength n = firstOf (λ k. ltb n (2 ^ k)) none (upTo (n + 1))
 
--- rule 4.2: the least degree of a high node
+-- rule 4.2: the smallest s with s × s at least n × L(n)
 unfoldable pub threshold : ℕ → ℕ
 threshold n = let w = n * bitLength n in firstOf (λ s. leb w (s * s)) none (upTo (w + 1))
 

@@ -16,8 +16,8 @@ use Rattle.model.specs.Hubs.{isLow, closed, hubs}
 unfoldable pub sources : ℕ → ℕ → Graph → List ℕ
 sources n s G = let v = firstOf (isLow s G) none (upTo n) in if eqb v none then hubs n s G else closed G v
 
--- rule 7.2: the graph is disconnected; of diameter more than two; of diameter less than four. A search goes as deep as the greatest distance
--- from its source
+-- rule 7.2: parted if a search misses a node, else long if one goes deeper than 2, else short. A search goes as deep as the greatest
+-- distance from its source
 unfoldable pub verdictOf : ℕ → Graph → List ℕ → Verdict
 verdictOf n G list =
     let distance : ℕ → ℕ → ℕ = fewest (linked n G) n in

@@ -139,7 +139,7 @@ pub fn next_line<'a>(r: LineReader<'a>, letter: u8) -> Line
     scan_line(r.text, r.at, letter)
 }
 
-// The line at a place, through the reader: plain parameters, so that a caller needs no walk.
+// The line at a place, through the reader: plain parameters, so that a caller's proof is covered.
 pub fn line_at(text: &[u8], at: usize, letter: u8) -> Line
     ensures { λ r. ⌜ found (now (text .entry)) r ≡ lineBy letter (drop at (now (text .entry))) ⌝ }
 {
