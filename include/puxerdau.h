@@ -16,7 +16,8 @@
  *    nothing and keeps nothing, so that threads may call at once.
  *  - Compared with a second implementation, on random input: what the compiled functions answer and leave (comparison/compare).
  *  - Measured: the stack (comparison/stack).
- * The declarations and the inline functions of this file are not proved; examples/run and comparison/stack run them.
+ * The declarations, the constants and the inline functions of this file are not proved. examples/run and comparison/stack use them;
+ * comparison/compare holds the constants to their numbers and takes every answer apart by the functions below.
  *
  * An answer is one number of 64 bits: `code` of crates/codes/specs/Code.antt, taken apart by the functions below. */
 #ifndef PUXERDAU_H

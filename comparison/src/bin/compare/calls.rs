@@ -5,7 +5,7 @@ use crate::lists::{self, Lists};
 use crate::tables::Tables;
 use crate::{texts, Counts};
 use comparison::common::{Random, Sample};
-use comparison::{codes, proved};
+use comparison::{codes, header, proved};
 
 pub const CALLS: [&str; 9] = [
     "threshold",
@@ -34,17 +34,6 @@ pub struct Round<'a> {
 }
 
 type Outcome = Result<u64, String>;
-
-/// Whether the two answers are one.
-fn same(proved: u64, reference: u64) -> Result<(), String> {
-    if proved == reference {
-        Ok(())
-    } else {
-        Err(format!(
-            "answer {proved:#x} where the second implementation has {reference:#x}"
-        ))
-    }
-}
 
 impl<'a> Round<'a> {
     pub fn new(random: &'a mut Random, sample: Sample) -> Self {
@@ -81,7 +70,7 @@ impl<'a> Round<'a> {
                 let code = self.call(call, counts).map_err(|fault| {
                     format!("{} on graph {}: {fault}", CALLS[call], self.sample.name)
                 })?;
-                counts.calls[call][codes::refusal(code)] += 1;
+                counts.calls[call][header::REFUSAL.of(code) as usize] += 1;
             }
         }
         Ok(())
@@ -125,7 +114,7 @@ impl<'a> Round<'a> {
             _ => self.random.below(1030),
         };
         let code = proved::threshold(n);
-        same(code, codes::count(reference::threshold(n)))?;
+        codes::count(reference::threshold(n)).check(code)?;
         Ok(code)
     }
 
@@ -168,7 +157,7 @@ impl<'a> Round<'a> {
             lent_neighbours.list_mut(),
         );
         let answer = reference::read(&text, &mut starts, &mut neighbours);
-        same(code, codes::size(answer))?;
+        codes::size(answer).check(code)?;
         lent.check("text", &text)?;
         lent_starts.check("starts", &starts)?;
         lent_neighbours.check("neighbours", &neighbours)?;
@@ -186,7 +175,7 @@ impl<'a> Round<'a> {
         let mut lent = Lent::new(self.random, &buffer);
         let code = proved::write(n, starts.list(), neighbours.list(), lent.list_mut());
         let answer = reference::write(n, &lists.starts, &lists.neighbours, &mut buffer);
-        same(code, codes::count(answer))?;
+        codes::count(answer).check(code)?;
         starts.check("starts", &lists.starts)?;
         neighbours.check("neighbours", &lists.neighbours)?;
         lent.check("buffer", &buffer)?;
@@ -199,10 +188,8 @@ impl<'a> Round<'a> {
         let starts = Lent::new(self.random, &lists.starts);
         let neighbours = Lent::new(self.random, &lists.neighbours);
         let code = proved::accept(n, starts.list(), neighbours.list());
-        same(
-            code,
-            codes::nothing(reference::accept(n, &lists.starts, &lists.neighbours)),
-        )?;
+        let answer = reference::accept(n, &lists.starts, &lists.neighbours);
+        codes::nothing(answer).check(code)?;
         starts.check("starts", &lists.starts)?;
         neighbours.check("neighbours", &lists.neighbours)?;
         Ok(code)
@@ -236,7 +223,7 @@ impl<'a> Round<'a> {
         );
         let [full, low, report, hubs] = &mut tables;
         let answer = reference::build(n, &lists.starts, &lists.neighbours, full, low, report, hubs);
-        same(code, codes::count(answer))?;
+        codes::count(answer).check(code)?;
         starts.check("starts", &lists.starts)?;
         neighbours.check("neighbours", &lists.neighbours)?;
         for (k, name) in ["full", "low", "report", "hubs"].iter().enumerate() {
@@ -267,7 +254,7 @@ impl<'a> Round<'a> {
             [&tables.full, &tables.low, &tables.report].map(|table| Lent::new(self.random, table));
         let code = proved::ask(n, full.list(), low.list(), report.list(), a, b);
         let answer = reference::ask(n, &tables.full, &tables.low, &tables.report, a, b);
-        same(code, codes::answer(answer))?;
+        codes::answer(answer).check(code)?;
         full.check("full", &tables.full)?;
         low.check("low", &tables.low)?;
         report.check("report", &tables.report)?;
@@ -332,7 +319,7 @@ impl<'a> Round<'a> {
             b,
             &mut walk,
         );
-        same(code, codes::answer(answer))?;
+        codes::answer(answer).check(code)?;
         starts.check("starts", &lists.starts)?;
         neighbours.check("neighbours", &lists.neighbours)?;
         full.check("full", &tables.full)?;
@@ -348,10 +335,8 @@ impl<'a> Round<'a> {
         let starts = Lent::new(self.random, &lists.starts);
         let neighbours = Lent::new(self.random, &lists.neighbours);
         let code = proved::test(n, starts.list(), neighbours.list());
-        same(
-            code,
-            codes::tested(reference::test(n, &lists.starts, &lists.neighbours)),
-        )?;
+        let answer = reference::test(n, &lists.starts, &lists.neighbours);
+        codes::tested(answer).check(code)?;
         starts.check("starts", &lists.starts)?;
         neighbours.check("neighbours", &lists.neighbours)?;
         Ok(code)
@@ -365,10 +350,8 @@ impl<'a> Round<'a> {
         let lent_text = Lent::new(self.random, &text);
         let mut lent = Lent::new(self.random, &buffer);
         let code = proved::list(lent_text.list(), lent.list_mut());
-        same(
-            code,
-            codes::count(reference::put_text(&listing, &mut buffer)),
-        )?;
+        let answer = reference::put_text(&listing, &mut buffer);
+        codes::count(answer).check(code)?;
         lent_text.check("text", &text)?;
         lent.check("buffer", &buffer)?;
         counts.listings[refusal_in(&listing)] += 1;

@@ -1,6 +1,7 @@
 //! Compares every call of the proved library with the second implementation: `compare CASES SEED`.
 //!
-//! A case is one call of both on the same input. Answers are compared, and every lent list whole, between guard words.
+//! A case is one call of both on the same input. Answers are compared, as numbers and as the header reads them, and every lent list
+//! whole, between guard words.
 
 mod calls;
 mod lent;
@@ -10,7 +11,7 @@ mod texts;
 
 use calls::{Round, CALLS};
 use comparison::common::{self, Random, Sample};
-use comparison::graphs;
+use comparison::{codes, graphs, header};
 use std::process::ExitCode;
 use std::time::{Duration, Instant};
 
@@ -55,6 +56,8 @@ fn main() -> ExitCode {
 
 /// Runs rounds, each on a graph of its own, until there were enough cases.
 fn run(cases: u64, seed: u64, counts: &mut Counts) -> Result<(), String> {
+    header::check_constants()?;
+    codes::check_largest()?;
     let begun = Instant::now();
     let mut shown = begun;
     let mut round = 0;
