@@ -27,7 +27,7 @@ const JUNK_LONG: usize = 1 << 20;
 pub struct Round<'a> {
     random: &'a mut Random,
     sample: Sample,
-    /// The survey's lists and tables; the tables are empty where the graph has too many links for a survey.
+    /// The survey's lists and tables; the tables are all zero where the graph has too many links for a survey.
     starts: Vec<u32>,
     neighbours: Vec<u16>,
     built: [Vec<u16>; 3],
@@ -41,7 +41,7 @@ impl<'a> Round<'a> {
         let n = sample.n;
         let [mut full, mut low, mut report] = [(); 3].map(|()| vec![0; n * n]);
         let mut hubs = vec![0; n];
-        // refused where there are too many links: the tables are then all zero
+        // refused where there are too many links
         let _ = reference::build(
             n,
             &starts,

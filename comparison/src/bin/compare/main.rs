@@ -80,7 +80,7 @@ fn run(cases: u64, seed: u64, counts: &mut Counts) -> Result<(), String> {
     Ok(())
 }
 
-/// Mostly small graphs, now and then one with as many nodes or links as a listing or a survey may have.
+/// Mostly small graphs, now and then one with about as many nodes or links as a listing or a survey may have.
 fn choose_graph(random: &mut Random) -> Sample {
     let n = match random.below(1000) {
         0..=19 => {
@@ -88,7 +88,13 @@ fn choose_graph(random: &mut Random) -> Sample {
             let high = n / 4 + random.below(n / 2);
             return graphs::with_high(random, n, links, high);
         }
-        20..=499 => 1 + random.below(12),
+        20..=29 => {
+            // so many links need 182 nodes; with few more a round takes less time
+            let spread = if random.percent(80) { 40 } else { 843 };
+            let (n, links) = (182 + random.below(spread), 16383 + random.below(4));
+            return graphs::with_links(random, n, links);
+        }
+        30..=499 => 1 + random.below(12),
         500..=899 => 1 + random.below(40),
         900..=989 => 1 + random.below(130),
         990..=996 => 1 + random.below(400),
