@@ -200,14 +200,16 @@ impl<'a> Round<'a> {
         let lists = self.lists();
         let square = self.sample.n * self.sample.n;
         let wanted = [square, square, square, self.sample.n];
-        // one length in four is free, so that most calls are not refused 8
+        // in half of the calls one length is free, so that most calls are not refused 8
         let free = self.random.below(8);
-        let mut tables = wanted.map(|length| lists::garbage16(self.random, length + 3));
-        for (k, table) in tables.iter_mut().enumerate() {
-            if k == free {
-                table.truncate(lists::length(self.random, wanted[k]));
-            }
-        }
+        let mut tables = [0, 1, 2, 3].map(|k| {
+            let length = if k == free {
+                lists::length(self.random, wanted[k])
+            } else {
+                wanted[k] + 3
+            };
+            lists::garbage16(self.random, length)
+        });
         let starts = Lent::new(self.random, &lists.starts);
         let neighbours = Lent::new(self.random, &lists.neighbours);
         let mut lent = [0, 1, 2, 3].map(|k| Lent::new(self.random, &tables[k]));
