@@ -7,20 +7,36 @@ use crate::{texts, Counts};
 use comparison::common::{Random, Sample};
 use comparison::{codes, header, proved};
 
-pub const CALLS: [&str; 9] = [
-    "threshold",
-    "read",
-    "write",
-    "accept",
-    "build",
-    "ask",
-    "walk",
-    "test",
-    "list",
+pub struct Call {
+    pub name: &'static str,
+    /// How often a round makes it.
+    turns: usize,
+    /// The refusals that it can give.
+    pub refusals: &'static [usize],
+}
+
+const fn call(name: &'static str, turns: usize, refusals: &'static [usize]) -> Call {
+    Call {
+        name,
+        turns,
+        refusals,
+    }
+}
+
+pub const CALLS: [Call; 9] = [
+    call("threshold", 1, &[2]),
+    call("read", 10, &[1, 2, 3, 4, 5, 6, 7, 8]),
+    call("write", 6, &[2, 8, 9, 12]),
+    call("accept", 6, &[2, 8, 9]),
+    call("build", 4, &[2, 8, 9]),
+    call("ask", 10, &[2, 8, 10, 11]),
+    call("walk", 10, &[2, 8, 9, 10, 11]),
+    call("test", 4, &[2, 8, 9]),
+    call("list", 4, &[12]),
 ];
 
-/// How many calls of each kind a round makes, in the order of `CALLS`.
-const TURNS: [usize; 9] = [1, 10, 6, 6, 4, 10, 10, 4, 4];
+/// The refusals that a listing can name.
+pub const LISTED: [usize; 7] = [1, 2, 3, 4, 5, 6, 7];
 
 const JUNK_LONG: usize = 1 << 20;
 
@@ -62,22 +78,22 @@ impl<'a> Round<'a> {
 
     /// Makes the round's calls and counts their outcomes, up to a total.
     pub fn run(&mut self, counts: &mut Counts, cases: u64) -> Result<(), String> {
-        for call in 0..CALLS.len() {
-            for _ in 0..TURNS[call] {
+        for (place, call) in CALLS.iter().enumerate() {
+            for _ in 0..call.turns {
                 if counts.total() >= cases {
                     return Ok(());
                 }
-                let code = self.call(call, counts).map_err(|fault| {
-                    format!("{} on graph {}: {fault}", CALLS[call], self.sample.name)
+                let code = self.call(place, counts).map_err(|fault| {
+                    format!("{} on graph {}: {fault}", call.name, self.sample.name)
                 })?;
-                counts.calls[call][header::REFUSAL.of(code) as usize] += 1;
+                counts.calls[place][header::REFUSAL.of(code) as usize] += 1;
             }
         }
         Ok(())
     }
 
-    fn call(&mut self, call: usize, counts: &mut Counts) -> Outcome {
-        match call {
+    fn call(&mut self, place: usize, counts: &mut Counts) -> Outcome {
+        match place {
             0 => self.threshold(),
             1 => self.read(),
             2 => self.write(),

@@ -1,7 +1,7 @@
 //! Compares every call of the proved library with the second implementation: `compare CASES SEED`.
 //!
 //! A case is one call of both on the same input. Answers are compared, as numbers and as the header reads them, and every lent list
-//! whole, between guard words.
+//! whole, between guard words. Many cases also have to meet every refusal that a call can give.
 
 mod calls;
 mod lent;
@@ -9,11 +9,14 @@ mod lists;
 mod tables;
 mod texts;
 
-use calls::{Round, CALLS};
+use calls::{Round, CALLS, LISTED};
 use comparison::common::{self, Random, Sample};
 use comparison::{codes, graphs, header};
 use std::process::ExitCode;
 use std::time::{Duration, Instant};
+
+/// So many cases have to meet every refusal.
+const MANY: u64 = 50_000;
 
 /// How often there was an answer (place 0) or a refusal with a number.
 type Row = [u64; 13];
@@ -28,6 +31,22 @@ pub struct Counts {
 impl Counts {
     pub fn total(&self) -> u64 {
         self.calls.iter().flatten().sum()
+    }
+
+    /// The refusals that a call can give, or a listing name, and that were not met.
+    fn unmet(&self) -> Vec<String> {
+        let calls = CALLS.iter().map(|call| (call.name, call.refusals));
+        let named = calls.chain([("listing", &LISTED[..])]);
+        let rows = self.calls.iter().chain([&self.listings]);
+        let mut unmet = Vec::new();
+        for ((name, refusals), row) in named.zip(rows) {
+            for &number in refusals {
+                if row[number] == 0 {
+                    unmet.push(format!("{name} {number}"));
+                }
+            }
+        }
+        unmet
     }
 }
 
@@ -45,7 +64,17 @@ fn main() -> ExitCode {
         Ok(()) => {
             print_counts(&counts);
             println!("{cases} cases agree, seed {seed}");
-            ExitCode::SUCCESS
+            let unmet = counts.unmet();
+            if unmet.is_empty() {
+                println!("each call met each of its refusals");
+                return ExitCode::SUCCESS;
+            }
+            println!("refusals that were not met: {}", unmet.join(", "));
+            if cases < MANY {
+                ExitCode::SUCCESS
+            } else {
+                ExitCode::FAILURE
+            }
         }
         Err(message) => {
             println!("{message}");
@@ -134,8 +163,8 @@ fn print_counts(counts: &Counts) {
     print!("{:10}{:>9}", "call", "answered");
     (1..13).for_each(|number| print!("{number:>8}"));
     println!();
-    for (name, row) in CALLS.iter().zip(&counts.calls) {
-        print_row(name, row);
+    for (call, row) in CALLS.iter().zip(&counts.calls) {
+        print_row(call.name, row);
     }
     let sums = std::array::from_fn(|number| counts.calls.iter().map(|row| row[number]).sum());
     print_row("all", &sums);
