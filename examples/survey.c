@@ -68,7 +68,7 @@ static int are_pairs(int count, char **words)
 
 int main(int count, char **words)
 {
-    static const char *const verdicts[] = {"parted", "long", "short"};
+    static const char *const verdicts[] = {[PUXERDAU_PARTED] = "parted", [PUXERDAU_LONG] = "long", [PUXERDAU_SHORT] = "short"};
     if (!are_pairs(count - 1, words + 1)) {
         fprintf(stderr, "usage: survey [NODE NODE].. < SURVEY\n");
         return 2;

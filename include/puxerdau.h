@@ -16,7 +16,8 @@
  *    nothing and keeps nothing, so that threads may call at once.
  *  - Compared with a second implementation, on random input: what the compiled functions answer and leave (comparison/compare).
  *  - Measured: the stack (comparison/stack).
- * The declarations and the inline functions of this file are not proved; examples/run and comparison/stack run them.
+ * The declarations, the constants and the inline functions of this file are not proved. examples/run and comparison/stack use them;
+ * comparison/compare holds the constants to their numbers and takes every answer apart by the functions below.
  *
  * An answer is one number of 64 bits: `code` of crates/codes/specs/Code.antt, taken apart by the functions below. */
 #ifndef PUXERDAU_H
@@ -50,9 +51,9 @@ extern "C" {
 /* Each table of n nodes (2 MiB for 1,024) and the hub list: the contract of puxerdau_build. */
 #define PUXERDAU_TABLE_LENGTH(n) ((size_t)(n) * (size_t)(n))
 #define PUXERDAU_HUBS_LENGTH(n) ((size_t)(n))
-/* The walk list of n nodes: `walking-enough` and `built-enough` of Sizes.antt. */
+/* The walk list of n nodes: `walking-enough` and `built-enough` of crates/model/proofs/Sizes.antt. */
 #define PUXERDAU_WALK_LENGTH(n) (2 * (size_t)(n))
-/* The buffer for a survey's text, 196,621 bytes: `text-few` of Sizes.antt. */
+/* The buffer for a survey's text, 196,621 bytes: `writing-enough` of crates/model/proofs/Sizes.antt. */
 #define PUXERDAU_TEXT_LENGTH (13 + 12 * PUXERDAU_MAX_LINKS)
 /* The buffer for a listing, 146,314 bytes: the contract of puxerdau_list. */
 #define PUXERDAU_LISTING_LENGTH (10 + 9 * (PUXERDAU_LIST_MAX_NODES * (PUXERDAU_LIST_MAX_NODES - 1)))
@@ -69,7 +70,7 @@ extern "C" {
 #define PUXERDAU_NONE 65535u
 
 /* 0, or why the call was refused. */
-enum puxerdau_refusal {
+enum puxerdau_refusal_number {
     PUXERDAU_FORM = 1,          /* the text is not in the stated form */
     PUXERDAU_NODE_COUNT = 2,    /* n is outside 1 to 1,024 */
     PUXERDAU_LINK_COUNT = 3,    /* m is above 16,384 */
@@ -84,8 +85,8 @@ enum puxerdau_refusal {
     PUXERDAU_SHORT_BUFFER = 12  /* the text buffer is too short */
 };
 
-enum puxerdau_route { PUXERDAU_ITSELF = 0, PUXERDAU_LOW = 1, PUXERDAU_THROUGH = 2, PUXERDAU_NO_ROUTE = 3 };
-enum puxerdau_verdict { PUXERDAU_PARTED = 0, PUXERDAU_LONG = 1, PUXERDAU_SHORT = 2 };
+enum puxerdau_route_kind { PUXERDAU_ITSELF = 0, PUXERDAU_LOW = 1, PUXERDAU_THROUGH = 2, PUXERDAU_NO_ROUTE = 3 };
+enum puxerdau_verdict_kind { PUXERDAU_PARTED = 0, PUXERDAU_LONG = 1, PUXERDAU_SHORT = 2 };
 
 /* The parts of an answer. Each is 0 in an answer that was refused, but for the refusal. */
 static inline unsigned puxerdau_refusal(uint64_t answer) { return (unsigned)(answer & 65535); }
@@ -167,7 +168,7 @@ static inline uint64_t puxerdau_survey_read(struct puxerdau_survey *survey, cons
 {
     uint64_t answer = puxerdau_read(text, text_length, survey->starts, survey->starts_length, survey->neighbours,
                                     survey->neighbours_length);
-    survey->n = puxerdau_nodes(answer);
+    survey->n = puxerdau_refusal(answer) == 0 ? puxerdau_nodes(answer) : 0;
     return answer;
 }
 

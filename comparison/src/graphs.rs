@@ -74,3 +74,17 @@ pub fn with_high(random: &mut Random, n: usize, links: usize, high: usize) -> Sa
     growing.fill(above, links);
     growing.sample
 }
+
+/// Exactly `links` random links on n nodes.
+pub fn with_links(random: &mut Random, n: usize, links: usize) -> Sample {
+    let mut sample = Sample::new("random", n);
+    let mut left = links;
+    while left > 0 {
+        let (a, b) = (random.below(n), random.below(n));
+        if a != b && !sample.linked[a][b] {
+            sample.link(a, b);
+            left -= 1;
+        }
+    }
+    sample
+}

@@ -1,10 +1,11 @@
-//! The proved library's calls in Rust, and the codes of the second implementation's answers.
+//! The proved library's calls in Rust, what their header for C says, and the codes of the second implementation's answers.
 //!
 //! Nothing checks these declarations against the archive but the comparison itself; `include/puxerdau.h` has the same ones for C.
 
 pub mod careful;
 pub mod codes;
 pub mod graphs;
+pub mod header;
 pub mod proved;
 
 #[path = "../../reference/tests/common/mod.rs"]

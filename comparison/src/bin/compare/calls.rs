@@ -5,29 +5,45 @@ use crate::lists::{self, Lists};
 use crate::tables::Tables;
 use crate::{texts, Counts};
 use comparison::common::{Random, Sample};
-use comparison::{codes, proved};
+use comparison::{codes, header, proved};
 
-pub const CALLS: [&str; 9] = [
-    "threshold",
-    "read",
-    "write",
-    "accept",
-    "build",
-    "ask",
-    "walk",
-    "test",
-    "list",
+pub struct Call {
+    pub name: &'static str,
+    /// How often a round makes it.
+    turns: usize,
+    /// The refusals that it can give.
+    pub refusals: &'static [usize],
+}
+
+const fn call(name: &'static str, turns: usize, refusals: &'static [usize]) -> Call {
+    Call {
+        name,
+        turns,
+        refusals,
+    }
+}
+
+pub const CALLS: [Call; 9] = [
+    call("threshold", 1, &[2]),
+    call("read", 10, &[1, 2, 3, 4, 5, 6, 7, 8]),
+    call("write", 6, &[2, 8, 9, 12]),
+    call("accept", 6, &[2, 8, 9]),
+    call("build", 4, &[2, 8, 9]),
+    call("ask", 10, &[2, 8, 10, 11]),
+    call("walk", 10, &[2, 8, 9, 10, 11]),
+    call("test", 4, &[2, 8, 9]),
+    call("list", 4, &[12]),
 ];
 
-/// How many calls of each kind a round makes, in the order of `CALLS`.
-const TURNS: [usize; 9] = [1, 10, 6, 6, 4, 10, 10, 4, 4];
+/// The refusals that a listing can name.
+pub const LISTED: [usize; 7] = [1, 2, 3, 4, 5, 6, 7];
 
 const JUNK_LONG: usize = 1 << 20;
 
 pub struct Round<'a> {
     random: &'a mut Random,
     sample: Sample,
-    /// The survey's lists and tables; the tables are empty where the graph has too many links for a survey.
+    /// The survey's lists and tables; the tables are all zero where the graph has too many links for a survey.
     starts: Vec<u32>,
     neighbours: Vec<u16>,
     built: [Vec<u16>; 3],
@@ -35,24 +51,13 @@ pub struct Round<'a> {
 
 type Outcome = Result<u64, String>;
 
-/// Whether the two answers are one.
-fn same(proved: u64, reference: u64) -> Result<(), String> {
-    if proved == reference {
-        Ok(())
-    } else {
-        Err(format!(
-            "answer {proved:#x} where the second implementation has {reference:#x}"
-        ))
-    }
-}
-
 impl<'a> Round<'a> {
     pub fn new(random: &'a mut Random, sample: Sample) -> Self {
         let (starts, neighbours) = sample.lists();
         let n = sample.n;
         let [mut full, mut low, mut report] = [(); 3].map(|()| vec![0; n * n]);
         let mut hubs = vec![0; n];
-        // refused where there are too many links: the tables are then all zero
+        // refused where there are too many links
         let _ = reference::build(
             n,
             &starts,
@@ -73,22 +78,22 @@ impl<'a> Round<'a> {
 
     /// Makes the round's calls and counts their outcomes, up to a total.
     pub fn run(&mut self, counts: &mut Counts, cases: u64) -> Result<(), String> {
-        for call in 0..CALLS.len() {
-            for _ in 0..TURNS[call] {
+        for (place, call) in CALLS.iter().enumerate() {
+            for _ in 0..call.turns {
                 if counts.total() >= cases {
                     return Ok(());
                 }
-                let code = self.call(call, counts).map_err(|fault| {
-                    format!("{} on graph {}: {fault}", CALLS[call], self.sample.name)
+                let code = self.call(place, counts).map_err(|fault| {
+                    format!("{} on graph {}: {fault}", call.name, self.sample.name)
                 })?;
-                counts.calls[call][codes::refusal(code)] += 1;
+                counts.calls[place][header::REFUSAL.of(code) as usize] += 1;
             }
         }
         Ok(())
     }
 
-    fn call(&mut self, call: usize, counts: &mut Counts) -> Outcome {
-        match call {
+    fn call(&mut self, place: usize, counts: &mut Counts) -> Outcome {
+        match place {
             0 => self.threshold(),
             1 => self.read(),
             2 => self.write(),
@@ -125,7 +130,7 @@ impl<'a> Round<'a> {
             _ => self.random.below(1030),
         };
         let code = proved::threshold(n);
-        same(code, codes::count(reference::threshold(n)))?;
+        codes::count(reference::threshold(n)).check(code)?;
         Ok(code)
     }
 
@@ -168,7 +173,7 @@ impl<'a> Round<'a> {
             lent_neighbours.list_mut(),
         );
         let answer = reference::read(&text, &mut starts, &mut neighbours);
-        same(code, codes::size(answer))?;
+        codes::size(answer).check(code)?;
         lent.check("text", &text)?;
         lent_starts.check("starts", &starts)?;
         lent_neighbours.check("neighbours", &neighbours)?;
@@ -186,7 +191,7 @@ impl<'a> Round<'a> {
         let mut lent = Lent::new(self.random, &buffer);
         let code = proved::write(n, starts.list(), neighbours.list(), lent.list_mut());
         let answer = reference::write(n, &lists.starts, &lists.neighbours, &mut buffer);
-        same(code, codes::count(answer))?;
+        codes::count(answer).check(code)?;
         starts.check("starts", &lists.starts)?;
         neighbours.check("neighbours", &lists.neighbours)?;
         lent.check("buffer", &buffer)?;
@@ -199,10 +204,8 @@ impl<'a> Round<'a> {
         let starts = Lent::new(self.random, &lists.starts);
         let neighbours = Lent::new(self.random, &lists.neighbours);
         let code = proved::accept(n, starts.list(), neighbours.list());
-        same(
-            code,
-            codes::nothing(reference::accept(n, &lists.starts, &lists.neighbours)),
-        )?;
+        let answer = reference::accept(n, &lists.starts, &lists.neighbours);
+        codes::nothing(answer).check(code)?;
         starts.check("starts", &lists.starts)?;
         neighbours.check("neighbours", &lists.neighbours)?;
         Ok(code)
@@ -213,14 +216,16 @@ impl<'a> Round<'a> {
         let lists = self.lists();
         let square = self.sample.n * self.sample.n;
         let wanted = [square, square, square, self.sample.n];
-        // one length in four is free, so that most calls are not refused 8
+        // in half of the calls one length is free, so that most calls are not refused 8
         let free = self.random.below(8);
-        let mut tables = wanted.map(|length| lists::garbage16(self.random, length + 3));
-        for (k, table) in tables.iter_mut().enumerate() {
-            if k == free {
-                table.truncate(lists::length(self.random, wanted[k]));
-            }
-        }
+        let mut tables = [0, 1, 2, 3].map(|k| {
+            let length = if k == free {
+                lists::length(self.random, wanted[k])
+            } else {
+                wanted[k] + 3
+            };
+            lists::garbage16(self.random, length)
+        });
         let starts = Lent::new(self.random, &lists.starts);
         let neighbours = Lent::new(self.random, &lists.neighbours);
         let mut lent = [0, 1, 2, 3].map(|k| Lent::new(self.random, &tables[k]));
@@ -236,7 +241,7 @@ impl<'a> Round<'a> {
         );
         let [full, low, report, hubs] = &mut tables;
         let answer = reference::build(n, &lists.starts, &lists.neighbours, full, low, report, hubs);
-        same(code, codes::count(answer))?;
+        codes::count(answer).check(code)?;
         starts.check("starts", &lists.starts)?;
         neighbours.check("neighbours", &lists.neighbours)?;
         for (k, name) in ["full", "low", "report", "hubs"].iter().enumerate() {
@@ -267,7 +272,7 @@ impl<'a> Round<'a> {
             [&tables.full, &tables.low, &tables.report].map(|table| Lent::new(self.random, table));
         let code = proved::ask(n, full.list(), low.list(), report.list(), a, b);
         let answer = reference::ask(n, &tables.full, &tables.low, &tables.report, a, b);
-        same(code, codes::answer(answer))?;
+        codes::answer(answer).check(code)?;
         full.check("full", &tables.full)?;
         low.check("low", &tables.low)?;
         report.check("report", &tables.report)?;
@@ -332,7 +337,7 @@ impl<'a> Round<'a> {
             b,
             &mut walk,
         );
-        same(code, codes::answer(answer))?;
+        codes::answer(answer).check(code)?;
         starts.check("starts", &lists.starts)?;
         neighbours.check("neighbours", &lists.neighbours)?;
         full.check("full", &tables.full)?;
@@ -348,10 +353,8 @@ impl<'a> Round<'a> {
         let starts = Lent::new(self.random, &lists.starts);
         let neighbours = Lent::new(self.random, &lists.neighbours);
         let code = proved::test(n, starts.list(), neighbours.list());
-        same(
-            code,
-            codes::tested(reference::test(n, &lists.starts, &lists.neighbours)),
-        )?;
+        let answer = reference::test(n, &lists.starts, &lists.neighbours);
+        codes::tested(answer).check(code)?;
         starts.check("starts", &lists.starts)?;
         neighbours.check("neighbours", &lists.neighbours)?;
         Ok(code)
@@ -365,10 +368,8 @@ impl<'a> Round<'a> {
         let lent_text = Lent::new(self.random, &text);
         let mut lent = Lent::new(self.random, &buffer);
         let code = proved::list(lent_text.list(), lent.list_mut());
-        same(
-            code,
-            codes::count(reference::put_text(&listing, &mut buffer)),
-        )?;
+        let answer = reference::put_text(&listing, &mut buffer);
+        codes::count(answer).check(code)?;
         lent_text.check("text", &text)?;
         lent.check("buffer", &buffer)?;
         counts.listings[refusal_in(&listing)] += 1;

@@ -7,7 +7,7 @@ pub struct Lists {
     pub neighbours: Vec<u16>,
 }
 
-/// A length at, below or above the one that is wanted.
+/// A length at, below or above the one that is wanted, now and then far above.
 pub fn length(random: &mut Random, wanted: usize) -> usize {
     match random.below(13) {
         0 => wanted.saturating_sub(1),
@@ -63,7 +63,8 @@ pub fn node(random: &mut Random, n: usize) -> usize {
 impl Lists {
     /// Lists that are longer than the survey needs, the rest garbage.
     pub fn extend(&mut self, random: &mut Random) {
-        let more = random.below(20);
+        let most = if random.percent(80) { 20 } else { 5000 };
+        let more = random.below(most);
         self.starts.extend(garbage32(random, more));
         self.neighbours.extend(garbage16(random, more));
     }
@@ -75,7 +76,7 @@ impl Lists {
                 0 => self.damage_starts(random),
                 1 => self.damage_neighbour(random, n),
                 2 => self.damage_row(random, n),
-                _ => self.cut(random),
+                _ => self.resize(random),
             }
         }
     }
@@ -147,13 +148,14 @@ impl Lists {
         }
     }
 
-    fn cut(&mut self, random: &mut Random) {
+    /// Cuts one of the lists, or puts garbage behind it.
+    fn resize(&mut self, random: &mut Random) {
         if random.percent(50) {
             let length = length(random, self.starts.len());
-            self.starts.truncate(length);
+            self.starts.resize_with(length, || random.next() as u32);
         } else {
             let length = length(random, self.neighbours.len());
-            self.neighbours.truncate(length);
+            self.neighbours.resize_with(length, || random.next() as u16);
         }
     }
 }

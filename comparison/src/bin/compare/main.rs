@@ -1,6 +1,7 @@
 //! Compares every call of the proved library with the second implementation: `compare CASES SEED`.
 //!
-//! A case is one call of both on the same input. Answers are compared, and every lent list whole, between guard words.
+//! A case is one call of both on the same input. Answers are compared, as numbers and as the header reads them, and every lent list
+//! whole, between guard words. Many cases also have to meet every refusal that a call can give.
 
 mod calls;
 mod lent;
@@ -8,11 +9,14 @@ mod lists;
 mod tables;
 mod texts;
 
-use calls::{Round, CALLS};
+use calls::{Round, CALLS, LISTED};
 use comparison::common::{self, Random, Sample};
-use comparison::graphs;
+use comparison::{codes, graphs, header};
 use std::process::ExitCode;
 use std::time::{Duration, Instant};
+
+/// So many cases have to meet every refusal.
+const MANY: u64 = 50_000;
 
 /// How often there was an answer (place 0) or a refusal with a number.
 type Row = [u64; 13];
@@ -27,6 +31,22 @@ pub struct Counts {
 impl Counts {
     pub fn total(&self) -> u64 {
         self.calls.iter().flatten().sum()
+    }
+
+    /// The refusals that a call can give, or a listing name, and that were not met.
+    fn unmet(&self) -> Vec<String> {
+        let calls = CALLS.iter().map(|call| (call.name, call.refusals));
+        let named = calls.chain([("listing", &LISTED[..])]);
+        let rows = self.calls.iter().chain([&self.listings]);
+        let mut unmet = Vec::new();
+        for ((name, refusals), row) in named.zip(rows) {
+            for &number in refusals {
+                if row[number] == 0 {
+                    unmet.push(format!("{name} {number}"));
+                }
+            }
+        }
+        unmet
     }
 }
 
@@ -44,7 +64,17 @@ fn main() -> ExitCode {
         Ok(()) => {
             print_counts(&counts);
             println!("{cases} cases agree, seed {seed}");
-            ExitCode::SUCCESS
+            let unmet = counts.unmet();
+            if unmet.is_empty() {
+                println!("each call met each of its refusals");
+                return ExitCode::SUCCESS;
+            }
+            println!("refusals that were not met: {}", unmet.join(", "));
+            if cases < MANY {
+                ExitCode::SUCCESS
+            } else {
+                ExitCode::FAILURE
+            }
         }
         Err(message) => {
             println!("{message}");
@@ -55,6 +85,8 @@ fn main() -> ExitCode {
 
 /// Runs rounds, each on a graph of its own, until there were enough cases.
 fn run(cases: u64, seed: u64, counts: &mut Counts) -> Result<(), String> {
+    header::check_constants()?;
+    codes::check_largest()?;
     let begun = Instant::now();
     let mut shown = begun;
     let mut round = 0;
@@ -77,7 +109,7 @@ fn run(cases: u64, seed: u64, counts: &mut Counts) -> Result<(), String> {
     Ok(())
 }
 
-/// Mostly small graphs, now and then one with as many nodes or links as a listing or a survey may have.
+/// Mostly small graphs, now and then one with about as many nodes or links as a listing or a survey may have.
 fn choose_graph(random: &mut Random) -> Sample {
     let n = match random.below(1000) {
         0..=19 => {
@@ -85,7 +117,13 @@ fn choose_graph(random: &mut Random) -> Sample {
             let high = n / 4 + random.below(n / 2);
             return graphs::with_high(random, n, links, high);
         }
-        20..=499 => 1 + random.below(12),
+        20..=29 => {
+            // so many links need 182 nodes; with few more a round takes less time
+            let spread = if random.percent(80) { 40 } else { 843 };
+            let (n, links) = (182 + random.below(spread), 16383 + random.below(4));
+            return graphs::with_links(random, n, links);
+        }
+        30..=499 => 1 + random.below(12),
         500..=899 => 1 + random.below(40),
         900..=989 => 1 + random.below(130),
         990..=996 => 1 + random.below(400),
@@ -125,8 +163,8 @@ fn print_counts(counts: &Counts) {
     print!("{:10}{:>9}", "call", "answered");
     (1..13).for_each(|number| print!("{number:>8}"));
     println!();
-    for (name, row) in CALLS.iter().zip(&counts.calls) {
-        print_row(name, row);
+    for (call, row) in CALLS.iter().zip(&counts.calls) {
+        print_row(call.name, row);
     }
     let sums = std::array::from_fn(|number| counts.calls.iter().map(|row| row[number]).sum());
     print_row("all", &sums);

@@ -28,7 +28,7 @@ impl Tables {
                 2 => self.alter_route(random, n, a, b),
                 3 => self.alter_report(random, n, a, b),
                 4 => self.swap(random),
-                _ => self.cut(random, n),
+                _ => self.resize(random, n),
             }
         }
     }
@@ -89,9 +89,11 @@ impl Tables {
         }
     }
 
-    fn cut(&mut self, random: &mut Random, n: usize) {
+    /// Cuts one of the tables, or puts garbage behind it.
+    fn resize(&mut self, random: &mut Random, n: usize) {
         let length = super::lists::length(random, n * n);
-        self.pick(random).truncate(length);
+        self.pick(random)
+            .resize_with(length, || random.next() as u16);
     }
 }
 

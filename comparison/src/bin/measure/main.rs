@@ -205,7 +205,7 @@ fn check_careful(x: &Lent) {
     assert!(full == other_full && low == other_low && report == other_report && hubs == other_hubs);
     let tested = careful::test(n, &x.starts, &x.neighbours);
     assert_eq!(
-        codes::tested(tested),
+        codes::tested(tested).code(),
         proved::test(n, &x.starts, &x.neighbours)
     );
     let (mut walk, mut other_walk) = (vec![7; 2 * n], vec![7; 2 * n]);
