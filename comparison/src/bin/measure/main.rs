@@ -66,6 +66,7 @@ fn main() {
         }
     }
     print_growth(&rows);
+    print_listings(budget);
     print_targets(&rows);
 }
 
@@ -363,6 +364,36 @@ fn print_growth(rows: &[Row]) {
             print!("{:>9.3}", row.times[0][k] * 1e9 / work);
         }
         println!();
+    }
+}
+
+/// The listing of sparse surveys: its time, that of the second implementation divided by it, and its growth.
+fn print_listings(budget: Duration) {
+    println!("listings of surveys with two links a node");
+    println!(
+        "{:>6}{:>8}{:>12}{:>14}{:>12}",
+        "nodes", "pairs", "proved, us", "second impl.", "ns a pair"
+    );
+    for n in [16, 32, 64, 128] {
+        let text = make(n, false, 2).text().into_bytes();
+        let mut buffer = vec![1; reference::reports(&text).len()];
+        let (mut proved, mut other) = (f64::MAX, f64::MAX);
+        for _ in 0..PASSES {
+            other = other.min(least(budget / PASSES, || {
+                let listing = reference::reports(black_box(&text));
+                let _ = black_box(reference::put_text(&listing, &mut buffer));
+            }));
+            proved = proved.min(least(budget / PASSES, || {
+                black_box(proved::list(black_box(&text), &mut buffer));
+            }));
+        }
+        let pairs = n * (n - 1) / 2;
+        println!(
+            "{n:>6}{pairs:>8}{:>12.1}{:>13.2}x{:>12.1}",
+            proved * 1e6,
+            other / proved,
+            proved * 1e9 / pairs as f64
+        );
     }
 }
 
