@@ -15,7 +15,8 @@ use Rattle.model.specs.declared.Verdict.the-variants.{Parted, Long, Short}
 use Rattle.model.specs.declared.TestResult.{TestResult}
 use Rattle.model.specs.Answers.{Outcome, refused, answered, number}
 use Rattle.model.proofs.Outcomes.{never, number-bounds}
-use Rattle.codes.specs.Code.{noField, countField, sizeField, routeNumber, hubNumber, answerField, verdictNumber, testField, field, decoded, noValue, countIn, sizeIn, routeIn, answerIn, verdictIn, testIn, IsCode}
+use Rattle.codes.specs.Code.{noField, countField, sizeField, routeNumber, hubNumber, answerField, verdictNumber, testField}
+use Rattle.codes.specs.Code.{field, decoded, noValue, countIn, sizeIn, routeIn, answerIn, verdictIn, testIn, IsCode}
 
 -- a mask is a remainder
 masked : (k x y : ℕ) → x / 2 ^ k % 65536 ≡ y → field k x ≡ y

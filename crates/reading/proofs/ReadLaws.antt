@@ -16,6 +16,7 @@ use Rattle.model.specs.Reading.{named, readLinks, parsed, countsOf, parseLinks,
 use Rattle.model.proofs.Lists.{keep-same, keep-below, of-upTo}
 use Rattle.model.proofs.Links.{Within, AllFresh, of-first-taken, links-sound}
 use Rattle.model.specs.Demand.{ReadRight}
+use Rattle.model.proofs.Outcomes.{promised}
 use Rattle.model.proofs.ReadBack.{named-below, reading-right}
 use Rattle.model.proofs.SurveyLists.{neighbours-length, starts-same, neighbours-same}
 use Rattle.model.proofs.Totals.{links-total}
@@ -149,4 +150,4 @@ module _ (N M : ℕ) (text s₀ x₀ s x : List ℕ) (hs : s ≡ replicate (leng
 -- within the limits of a survey
 pub read-is : (text : List ℕ) (p q : ℕ) (r : AfterReading) → r ≡ readingOf p q (parse 1024 16384 p q text) → (r ≡ reading text p q) × ReadRight text r
 unfolding reading
-read-is text p q r e = (e, subst (λ (x : AfterReading). ReadRight text x) (sym e) (reading-right text p q))
+read-is text p q r e = promised (ReadRight text) (reading-right text p q) e
