@@ -1,6 +1,6 @@
 -- The whole way, from a text to reports and walks, over the links that the text's lines name.
 -- Assumes nothing.
-use mathlib.Core.Path.{_≡_, ap, _∙_, subst, fun-ext}
+use mathlib.Core.Path.{_≡_, ap, subst, fun-ext}
 use mathlib.Core.List.{List}
 use Prim.Native.Nat.{ℕ, _*_, _≤_, _<_}
 use lib.ListN.{length}
@@ -13,7 +13,7 @@ use Rattle.model.specs.Hubs.{hubs}
 use Rattle.model.specs.Reading.{named, reading}
 use Rattle.model.specs.Building.{AfterBuilding, built, building}
 use Rattle.model.specs.Walking.{walking}
-use Rattle.model.specs.Demand.{Allowed, AllowedAnswer, WalkSound, WholeWay}
+use Rattle.model.specs.Demand.{Allowed, WalkSound, WholeWay}
 use Rattle.model.proofs.Demand.{building-answers, building-right, walking-sound, walking-right}
 use Rattle.model.proofs.ReadBack.{reading-right}
 

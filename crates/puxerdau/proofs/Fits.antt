@@ -1,10 +1,10 @@
 -- The values of every answer are within the limits of a survey, so that each fits its field of the code.
 -- Assumes nothing.
-use mathlib.Core.Path.{_≡_, refl, ap, _∙_, subst}
+use mathlib.Core.Path.{_≡_, refl, subst}
 use mathlib.Core.Bool.{not}
 use mathlib.Core.List.{List}
-use Prim.Native.Nat.{ℕ, _+_, _*_, _≤_}
-use native.Mathlib.Nat.{le-refl, le-trans, mul-le-mul}
+use Prim.Native.Nat.{ℕ, _*_, _≤_}
+use native.Mathlib.Nat.{le-trans, mul-le-mul}
 use native.Mathlib.Omega.{arith}
 use lib.Dec.{ltb}
 use lib.ListN.{length}
@@ -14,7 +14,7 @@ use Rattle.model.specs.Answers.{Outcome, refused, answered, mapAnswer}
 use Rattle.model.specs.Survey.{Graph, neighboursOf, badSize, isSurvey, accepting, Accepted}
 use Rattle.model.specs.Threshold.{threshold, thresholdAnswer, bitLength}
 use Rattle.model.specs.Hubs.{closed, hubs}
-use Rattle.model.specs.Reading.{Parsed, parse, AfterReading, readingOf, reading}
+use Rattle.model.specs.Reading.{Parsed, parse, readingOf, reading}
 use Rattle.model.specs.Building.{AfterBuilding, shortLists, built, building}
 use Rattle.model.specs.TwoOrFour.{sources, testResult}
 use Rattle.model.specs.Testing.{testing}

@@ -1,5 +1,5 @@
 // The open calls for programs in C and other languages: numbers and slices go in, one number of 64 bits comes back. A slice is a
-// pointer and then a count of entries. `IsCode` (crate `codes`, specs/Code.antt) says where a refusal's number and an answer's values stand
+// pointer and then a count of entries. `IsCode` (crate `base_answer_codes`, specs/Code.antt) says where a refusal's number and an answer's values stand
 // in that number, and that they are read back from it (`decoded`) as include/puxerdau.h does.
 ghost use mathlib.Core.Path.{_≡_};
 ghost use Prim.Native.Nat.{_≤_};
@@ -15,15 +15,15 @@ ghost use Rattle.model.specs.Walking.{walking};
 ghost use Rattle.model.specs.Testing.{testing};
 ghost use Rattle.model.specs.Listing.{listing, writingListing};
 ghost use Rattle.model.specs.Demand.{ReadRight, WriteRight, BuildRight, AskRight, WalkSound, WalkRight, TestRight};
-ghost use Rattle.listing.specs.Length.{mostListing};
-ghost use Rattle.codes.specs.Code.{noField, countField, sizeField, answerField, testField, decoded, noValue, countIn, sizeIn, answerIn, testIn, IsCode, readDecoded, writeDecoded, buildDecoded, walkDecoded};
+ghost use Rattle.listing_writing.specs.Length.{mostListing};
+ghost use Rattle.base_answer_codes.specs.Code.{noField, countField, sizeField, answerField, testField, decoded, noValue, countIn, sizeIn, answerIn, testIn, IsCode, readDecoded, writeDecoded, buildDecoded, walkDecoded};
 
 // The threshold of n nodes.
 #[no_mangle]
 pub extern "C" fn puxerdau_threshold(n: usize) -> u64
     ensures { λ r. ⌜ IsCode countField countIn (thresholdAnswer n) r ⌝ }
 {
-    codes::counting_code(threshold::threshold_of(n))
+    base_answer_codes::counting_code(base_threshold::threshold_of(n))
 }
 
 // Reads a survey from its text into two lists.
@@ -34,7 +34,7 @@ pub extern "C" fn puxerdau_read(text: &[u8], starts: &mut [u32], neighbours: &mu
         ≡ reading (now (text .entry)) (length (now (starts .entry))) (length (now (neighbours .entry))) ⌝ }
     ensures { λ r. ⌜ ReadRight (now (text .entry)) (readDecoded r (now (starts .exit)) (now (neighbours .exit))) ⌝ }
 {
-    codes::reading_code(reading::read_survey(text, starts, neighbours))
+    base_answer_codes::reading_code(survey_reading::read_survey(text, starts, neighbours))
 }
 
 // Writes a survey's text into a buffer.
@@ -49,7 +49,7 @@ pub extern "C" fn puxerdau_write(
     ensures { λ r. ⌜ writeDecoded r (now (buffer .exit)) ≡ writing n (now (starts .entry)) (now (neighbours .entry)) (now (buffer .entry)) ⌝ }
     ensures { λ r. ⌜ WriteRight n (now (starts .entry)) (now (neighbours .entry)) (writeDecoded r (now (buffer .exit))) ⌝ }
 {
-    codes::counting_code(writing::write_survey(n, starts, neighbours, buffer))
+    base_answer_codes::counting_code(survey_writing::write_survey(n, starts, neighbours, buffer))
 }
 
 // Whether the lists are a survey's: the refusals that all calls over a survey share.
@@ -57,7 +57,7 @@ pub extern "C" fn puxerdau_write(
 pub extern "C" fn puxerdau_accept(n: usize, starts: &[u32], neighbours: &[u16]) -> u64
     ensures { λ r. ⌜ IsCode noField noValue (accepting n (now (starts .entry)) (now (neighbours .entry))) r ⌝ }
 {
-    codes::accepting_code(survey::accept(n, starts, neighbours))
+    base_answer_codes::accepting_code(survey_acceptance::accept(n, starts, neighbours))
 }
 
 // Builds the three tables and the hub list of a survey.
@@ -77,7 +77,15 @@ pub extern "C" fn puxerdau_build(
     ensures { λ r. ⌜ BuildRight n (threshold n) (now (starts .entry)) (now (neighbours .entry))
         (buildDecoded r (now (full .exit)) (now (low .exit)) (now (report .exit)) (now (hubs .exit))) ⌝ }
 {
-    codes::counting_code(tables::build(n, starts, neighbours, full, low, report, hubs))
+    base_answer_codes::counting_code(table_building::build(
+        n,
+        starts,
+        neighbours,
+        full,
+        low,
+        report,
+        hubs,
+    ))
 }
 
 // Asks a pair: the report with its route.
@@ -93,7 +101,7 @@ pub extern "C" fn puxerdau_ask(
     ensures { λ r. ⌜ IsCode answerField answerIn (asking n (now (full .entry)) (now (low .entry)) (now (report .entry)) a b) r ⌝ }
     ensures { λ r. ⌜ AskRight n (now (full .entry)) (now (low .entry)) (now (report .entry)) a b (decoded answerIn r) ⌝ }
 {
-    codes::asking_code(pairs::ask(n, full, low, report, a, b))
+    base_answer_codes::asking_code(answer_pairs::ask(n, full, low, report, a, b))
 }
 
 // Writes the walk of a pair into a list.
@@ -116,7 +124,17 @@ pub extern "C" fn puxerdau_walk(
     ensures { λ r. ⌜ WalkRight n (threshold n) (now (starts .entry)) (now (neighbours .entry)) (now (full .entry)) (now (low .entry)) (now (report .entry)) a b
         (length (now (walk .entry))) (walkDecoded r (now (walk .exit))) ⌝ }
 {
-    codes::asking_code(walks::write_walk(n, starts, neighbours, full, low, report, a, b, walk))
+    base_answer_codes::asking_code(walk_writing::write_walk(
+        n,
+        starts,
+        neighbours,
+        full,
+        low,
+        report,
+        a,
+        b,
+        walk,
+    ))
 }
 
 // The two-or-four test of a survey.
@@ -125,7 +143,7 @@ pub extern "C" fn puxerdau_test(n: usize, starts: &[u32], neighbours: &[u16]) ->
     ensures { λ r. ⌜ IsCode testField testIn (testing n (now (starts .entry)) (now (neighbours .entry))) r ⌝ }
     ensures { λ r. ⌜ TestRight n (now (starts .entry)) (now (neighbours .entry)) (decoded testIn r) ⌝ }
 {
-    codes::testing_code(verdict::test(n, starts, neighbours))
+    base_answer_codes::testing_code(answer_two_or_four::test(n, starts, neighbours))
 }
 
 // Writes the listing of a text into a buffer.
@@ -135,5 +153,5 @@ pub extern "C" fn puxerdau_list(text: &[u8], buffer: &mut [u8]) -> u64
     ensures { λ r. ⌜ writeDecoded r (now (buffer .exit)) ≡ writingListing (now (text .entry)) (now (buffer .entry)) ⌝ }
     ensures { λ _. ⌜ length (listing (now (text .entry))) ≤ mostListing ⌝ }
 {
-    codes::counting_code(listing::write_listing(text, buffer))
+    base_answer_codes::counting_code(listing_writing::write_listing(text, buffer))
 }

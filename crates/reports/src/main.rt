@@ -4,7 +4,7 @@ use model::Counting;
 // Reads a text, and prints its listing by way of a buffer.
 fn list(text: &mut [u8], lines: &mut [u8]) {
     let length = io::read_full(0, text);
-    match listing::write_listing(&text[..length], lines) {
+    match listing_writing::write_listing(&text[..length], lines) {
         Counting::Refused(_) => {}
         Counting::Count(k) => {
             io::write_all(1, &lines[..k]);

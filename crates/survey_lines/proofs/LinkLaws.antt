@@ -19,11 +19,11 @@ use Rattle.model.proofs.Tests.{true-T, and-l, and-r, or-turned, not-and, not-lt
 use Rattle.model.proofs.Loops.{drop-next}
 use Rattle.model.proofs.Links.{of-link-taken}
 use Rattle.model.proofs.Outcomes.{never}
-use Rattle.nodeset.specs.NodeSet.{member, inserted}
-use Rattle.nodeset.proofs.Bits.{eqb-same}
-use Rattle.nodeset.specs.Matrix.{edgesIn}
-use Rattle.nodeset.proofs.Matrix.{edge-with, edges-none}
-use Rattle.survey_lines.specs.Links.{Holds, linkIn, Told}
+use Rattle.base_nodeset.specs.NodeSet.{member, inserted}
+use Rattle.base_nodeset.proofs.Bits.{eqb-same}
+use Rattle.base_nodeset.specs.Matrix.{edgesIn}
+use Rattle.base_nodeset.proofs.Matrix.{edge-with, edges-none}
+use Rattle.survey_lines.specs.LinesRead.{Holds, linkIn, Told}
 use Rattle.survey_lines.specs.declared.Links.the-variants as links
 
 -- ---- one line

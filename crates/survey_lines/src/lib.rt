@@ -1,14 +1,14 @@
 // The lines of a survey text: its first line, and its link lines, read into a bit matrix in which a repeated link is found in constant time.
 use model::Refusal;
-use text::Line;
+use text_reading::Line;
 ghost use mathlib.Core.Path.{_≡_};
 ghost use mathlib.Core.List.{[]};
 ghost use Prim.Native.Nat.{_≤_};
 ghost use lib.ListN.{length, replicate, drop};
 ghost use Rattle.model.specs.SurveyText.{line};
 ghost use Rattle.model.specs.Reading.{readLinks, countsOf};
-ghost use Rattle.nodeset.specs.Matrix.{edgesIn};
-ghost use Rattle.survey_lines.specs.Links.{linkIn, lineAnswer, Told};
+ghost use Rattle.base_nodeset.specs.Matrix.{edgesIn};
+ghost use Rattle.survey_lines.specs.LinesRead.{linkIn, lineAnswer, Told};
 
 // What a line of a survey text says: its two numbers and the place after it.
 pub enum LineSays {
@@ -30,7 +30,7 @@ fn link_at(text: &[u8], at: usize, n: usize, bits: &[u64]) -> LineSays
     if text.len() <= at {
         return LineSays::Refused(Refusal::LineCount);
     }
-    let Line::Pair(a, b, next) = text::line_at(text, at, 76) else {
+    let Line::Pair(a, b, next) = text_reading::line_at(text, at, 76) else {
         return LineSays::Refused(Refusal::Form);
     };
     let near = (a < n as u64) & (b < n as u64);
@@ -42,7 +42,7 @@ fn link_at(text: &[u8], at: usize, n: usize, bits: &[u64]) -> LineSays
     }
     let u = a as usize;
     let v = b as usize;
-    if nodeset::contains(bits, 1024 * u + v) {
+    if base_nodeset::contains(bits, 1024 * u + v) {
         return LineSays::Refused(Refusal::RepeatedLink);
     }
     LineSays::Pair(u, v, next)
@@ -59,8 +59,8 @@ pub fn read_links(text: &[u8], at: usize, n: usize, m: usize, bits: &mut [u64]) 
         match link_at(text, next, n, bits) {
             LineSays::Refused(r) => return Links::Refused(r),
             LineSays::Pair(a, b, e) => {
-                nodeset::insert(bits, 1024 * a + b);
-                nodeset::insert(bits, 1024 * b + a);
+                base_nodeset::insert(bits, 1024 * a + b);
+                base_nodeset::insert(bits, 1024 * b + a);
                 next = e;
             }
         }
@@ -77,7 +77,7 @@ pub fn first_line(text: &[u8], most_nodes: usize, most_links: usize, p: usize, q
     requires { ⌜ («most_nodes» ≤ 1024) × («most_links» ≤ 16384) ⌝ }
     ensures { λ r. ⌜ lineAnswer (now (text .entry)) r ≡ countsOf «most_nodes» «most_links» p q (line 83 (now (text .entry))) ⌝ }
 {
-    let Line::Pair(nodes, count, at) = text::line_at(text, 0, 83) else {
+    let Line::Pair(nodes, count, at) = text_reading::line_at(text, 0, 83) else {
         return LineSays::Refused(Refusal::Form);
     };
     if nodes < 1 {

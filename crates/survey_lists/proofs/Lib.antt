@@ -1,2 +1,2 @@
-pub mod Members
+pub mod WordWriting
 pub mod ListLaws

@@ -7,19 +7,19 @@ use Prim.Native.Nat.{ℕ, _+_, _-_, _*_, _≤_, _<_}
 use native.Mathlib.Numerals.{add-one}
 use native.Mathlib.Omega.{arith}
 use lib.ListN.{length, getD, set, length-append}
-use Rattle.lists.specs.Writing.{Wrote}
-use Rattle.lists.proofs.Writing.{wrote-none, wrote-one, wrote-then, wrote-room, wrote-length, wrote-over}
+use Rattle.base_lists.specs.Written.{Wrote}
+use Rattle.base_lists.proofs.Written.{wrote-none, wrote-one, wrote-then, wrote-room, wrote-length, wrote-over}
 use Rattle.model.specs.Basics.{from, upTo, keep, gather, over}
 use Rattle.model.specs.Survey.{Graph}
 use Rattle.model.specs.Reading.{startsOf, neighboursFrom}
 use Rattle.model.proofs.Lists.{keep-append, gather-append, gather-suc, map-append, upTo-suc, upTo-add}
 use Rattle.model.proofs.Entries.{length-row}
-use Rattle.nodeset.specs.NodeSet.{bit, member, membersFrom}
-use Rattle.nodeset.proofs.Bits.{word-bit}
-use Rattle.nodeset.proofs.Words.{next-word}
-use Rattle.nodeset.specs.Matrix.{edgesIn}
-use Rattle.nodeset.proofs.Matrix.{edge-bit}
-use Rattle.survey_lists.specs.Rows.{rowsIn}
+use Rattle.base_nodeset.specs.NodeSet.{bit, member, membersFrom}
+use Rattle.base_nodeset.proofs.Bits.{word-bit}
+use Rattle.base_nodeset.proofs.Words.{next-word}
+use Rattle.base_nodeset.specs.Matrix.{edgesIn}
+use Rattle.base_nodeset.proofs.Matrix.{edge-bit}
+use Rattle.survey_lists.specs.MatrixRows.{rowsIn}
 
 -- what is kept of the numbers below u is no more than of those below n
 kept-below : (f : ℕ → Bool) (u n : ℕ) → u ≤ n → length (keep f (upTo u)) ≤ length (keep f (upTo n))

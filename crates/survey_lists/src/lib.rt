@@ -2,11 +2,11 @@
 ghost use mathlib.Core.Path.{_≡_};
 ghost use Prim.Native.Nat.{_+_, _<_, _≤_};
 ghost use lib.ListN.{length};
-ghost use Rattle.lists.specs.Writing.{Wrote};
+ghost use Rattle.base_lists.specs.Written.{Wrote};
 ghost use Rattle.model.specs.Basics.{over};
 ghost use Rattle.model.specs.Reading.{startsOf, neighboursFrom};
-ghost use Rattle.nodeset.specs.NodeSet.{membersFrom};
-ghost use Rattle.survey_lists.specs.Rows.{rowsIn};
+ghost use Rattle.base_nodeset.specs.NodeSet.{membersFrom};
+ghost use Rattle.survey_lists.specs.MatrixRows.{rowsIn};
 
 // Writes the set bits of a word, ascending, at a place of the list, where its lowest bit stands for `base`.
 fn write_word(word: u64, base: usize, neighbours: &mut [u16], at: usize) -> usize

@@ -2,7 +2,7 @@
 -- Assumes nothing.
 use mathlib.Core.Path.{subst}
 use Rattle.model.specs.Answers.{Outcome}
-use Rattle.codes.specs.Code.{noField, noValue, IsCode}
+use Rattle.base_answer_codes.specs.Code.{noField, noValue, IsCode}
 use borrow.Author.Needs.{needs}
 use Rattle.puxerdau.proofs.puxerdau_accept.Statement.{statement}
 use Rattle.puxerdau.proofs.puxerdau_accept.Tie as tie

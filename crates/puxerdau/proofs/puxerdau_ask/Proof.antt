@@ -4,7 +4,7 @@ use mathlib.Core.Path.{sym, subst}
 use Rattle.model.specs.declared.Answer.{Answer}
 use Rattle.model.specs.Answers.{Outcome}
 use Rattle.model.specs.Demand.{AskRight}
-use Rattle.codes.specs.Code.{answerField, answerIn, IsCode}
+use Rattle.base_answer_codes.specs.Code.{answerField, answerIn, IsCode}
 use borrow.Author.Needs.{needs}
 use Rattle.puxerdau.proofs.puxerdau_ask.Statement.{statement}
 use Rattle.puxerdau.proofs.puxerdau_ask.Tie as tie

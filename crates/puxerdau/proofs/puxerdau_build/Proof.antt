@@ -4,8 +4,8 @@ use mathlib.Core.Path.{refl, sym, ap, _∙_}
 use native.Mathlib.Omega.{arith}
 use Rattle.model.specs.Building.{AfterBuilding}
 use Rattle.model.specs.Demand.{BuildRight}
-use Rattle.codes.specs.Code.{countField, countIn}
-use Rattle.codes.proofs.Decoding.{passed-on}
+use Rattle.base_answer_codes.specs.Code.{countField, countIn}
+use Rattle.base_answer_codes.proofs.Decoding.{passed-on}
 use Rattle.puxerdau.proofs.Fits.{hubs-fit}
 use borrow.Author.Needs.{needs}
 use Rattle.puxerdau.proofs.puxerdau_build.Statement.{statement}

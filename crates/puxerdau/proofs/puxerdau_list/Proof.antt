@@ -6,9 +6,9 @@ use native.Mathlib.Omega.{arith}
 use lib.ListN.{length}
 use Rattle.model.specs.Listing.{listing}
 use Rattle.model.specs.Writing.{AfterWriting}
-use Rattle.listing.specs.Length.{mostListing}
-use Rattle.codes.specs.Code.{countField, countIn}
-use Rattle.codes.proofs.Decoding.{passed-on}
+use Rattle.listing_writing.specs.Length.{mostListing}
+use Rattle.base_answer_codes.specs.Code.{countField, countIn}
+use Rattle.base_answer_codes.proofs.Decoding.{passed-on}
 use Rattle.puxerdau.proofs.Fits.{listing-fits}
 use borrow.Author.Needs.{needs}
 use Rattle.puxerdau.proofs.puxerdau_list.Statement.{statement}

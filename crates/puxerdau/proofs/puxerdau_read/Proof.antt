@@ -5,8 +5,8 @@ use native.Mathlib.Omega.{arith}
 use lib.ListN.{length}
 use Rattle.model.specs.Reading.{AfterReading}
 use Rattle.model.specs.Demand.{ReadRight}
-use Rattle.codes.specs.Code.{sizeField, sizeIn}
-use Rattle.codes.proofs.Decoding.{passed-on}
+use Rattle.base_answer_codes.specs.Code.{sizeField, sizeIn}
+use Rattle.base_answer_codes.proofs.Decoding.{passed-on}
 use Rattle.puxerdau.proofs.Fits.{read-fits}
 use borrow.Author.Needs.{needs}
 use Rattle.puxerdau.proofs.puxerdau_read.Statement.{statement}

@@ -5,7 +5,7 @@ use native.Mathlib.Omega.{arith}
 use Rattle.model.specs.declared.TestResult.{TestResult}
 use Rattle.model.specs.Answers.{Outcome}
 use Rattle.model.specs.Demand.{TestRight}
-use Rattle.codes.specs.Code.{testField, testIn, IsCode}
+use Rattle.base_answer_codes.specs.Code.{testField, testIn, IsCode}
 use Rattle.puxerdau.proofs.Fits.{searches-fit}
 use borrow.Author.Needs.{needs}
 use Rattle.puxerdau.proofs.puxerdau_test.Statement.{statement}

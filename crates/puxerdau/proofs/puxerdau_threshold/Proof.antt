@@ -1,10 +1,10 @@
 -- `puxerdau::puxerdau_threshold` meets its contract: the outcome, in code.
 -- Assumes nothing.
-use mathlib.Core.Path.{sym, ap, _∙_, subst}
+use mathlib.Core.Path.{sym, _∙_, subst}
 use Prim.Native.Nat.{ℕ}
 use native.Mathlib.Omega.{arith}
 use Rattle.model.specs.Answers.{Outcome}
-use Rattle.codes.specs.Code.{countField, countIn, IsCode}
+use Rattle.base_answer_codes.specs.Code.{countField, countIn, IsCode}
 use Rattle.puxerdau.proofs.Fits.{threshold-fits}
 use borrow.Author.Needs.{needs}
 use Rattle.puxerdau.proofs.puxerdau_threshold.Statement.{statement}

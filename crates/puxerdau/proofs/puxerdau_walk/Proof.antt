@@ -7,8 +7,8 @@ use Rattle.model.specs.Graph.{linked}
 use Rattle.model.specs.Threshold.{threshold}
 use Rattle.model.specs.Walking.{AfterWalking}
 use Rattle.model.specs.Demand.{WalkSound, WalkRight}
-use Rattle.codes.specs.Code.{answerField, answerIn}
-use Rattle.codes.proofs.Decoding.{passed-on}
+use Rattle.base_answer_codes.specs.Code.{answerField, answerIn}
+use Rattle.base_answer_codes.proofs.Decoding.{passed-on}
 use borrow.Author.Needs.{needs}
 use Rattle.puxerdau.proofs.puxerdau_walk.Statement.{statement}
 use Rattle.puxerdau.proofs.puxerdau_walk.Tie as tie

@@ -1,7 +1,7 @@
 -- `survey_lines::first_line` meets its contract: at each `return` the tests that led there say which case holds.
 -- Assumes nothing.
 use mathlib.Core.Path.{sym, ap, _∙_}
-use Rattle.text.specs.Scan.{found}
+use Rattle.text_reading.specs.Scan.{found}
 use Rattle.survey_lines.proofs.FirstLaws.{counts-malformed, no-node, many-nodes, many-links, short-starts, short-neighbours, counted}
 use borrow.Author.Needs.{needs}
 use Rattle.survey_lines.proofs.first_line.Statement.{statement}

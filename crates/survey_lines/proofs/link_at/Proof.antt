@@ -3,9 +3,9 @@
 use mathlib.Core.Path.{sym, ap, _∙_}
 use native.Mathlib.Omega.{arith}
 use borrow.Author.Tests.{not-true, not-false}
-use Rattle.text.specs.Scan.{found}
-use Rattle.nodeset.specs.Matrix.{edgesIn}
-use Rattle.nodeset.proofs.Matrix.{edge-bit}
+use Rattle.text_reading.specs.Scan.{found}
+use Rattle.base_nodeset.specs.Matrix.{edgesIn}
+use Rattle.base_nodeset.proofs.Matrix.{edge-bit}
 use Rattle.survey_lines.proofs.LinkLaws.{both-below, link-end, link-malformed, link-far, link-loop, link-again, link-new}
 use borrow.Author.Needs.{needs}
 use Rattle.survey_lines.proofs.link_at.Statement.{statement}

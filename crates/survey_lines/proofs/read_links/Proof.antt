@@ -6,8 +6,8 @@ use Prim.Native.Nat.{ℕ, _-_}
 use native.Mathlib.Omega.{arith}
 use lib.ListN.{length, drop, length-replicate}
 use Rattle.model.specs.declared.Refusal.the-variants.{LineCount}
-use Rattle.nodeset.specs.Matrix.{edgesIn}
-use Rattle.survey_lines.specs.Links.{lineAnswer}
+use Rattle.base_nodeset.specs.Matrix.{edgesIn}
+use Rattle.survey_lines.specs.LinesRead.{lineAnswer}
 use Rattle.survey_lines.proofs.LinkLaws.{link-below, Progress, progress-none, progress-refused, progress-taken, progress-more, progress-done, told-refused, told-taken}
 use Rattle.survey_lines.proofs.read_links.Statement.{statement}
 use Rattle.survey_lines.proofs.read_links.Tie as tie

@@ -4,7 +4,7 @@ use mathlib.Core.Path.{_∙_}
 use lib.ListN.{length-set}
 use Prim.Native.Nat.{_-_}
 use native.Mathlib.Omega.{arith}
-use Rattle.survey_lists.specs.Rows.{rowsIn}
+use Rattle.survey_lists.specs.MatrixRows.{rowsIn}
 use Rattle.survey_lists.proofs.ListLaws.{Lists, lists-none, position, start-here, row-fits, lists-more, lists-long, lists-done}
 use Rattle.survey_lists.proofs.write_lists.Statement.{statement}
 use Rattle.survey_lists.proofs.write_lists.Tie as tie

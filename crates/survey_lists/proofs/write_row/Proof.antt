@@ -2,7 +2,7 @@
 -- Assumes nothing.
 use Prim.Native.Nat.{_-_, _≤_}
 use native.Mathlib.Omega.{arith}
-use Rattle.lists.specs.Writing.{Wrote}
+use Rattle.base_lists.specs.Written.{Wrote}
 use Rattle.survey_lists.proofs.ListLaws.{rowTo, row-none, word-fits, word-more, row-long, row-whole}
 use Rattle.survey_lists.proofs.write_row.Statement.{statement}
 use Rattle.survey_lists.proofs.write_row.Tie as tie

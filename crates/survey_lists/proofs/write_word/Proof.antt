@@ -3,8 +3,8 @@
 use native.Mathlib.Omega.{arith}
 use lib.Count.{trailingZeros}
 use lib.Pow.{pow-pos}
-use Rattle.nodeset.proofs.Bits.{shifted}
-use Rattle.survey_lists.proofs.Members.{Some, some-none, some-all, some-long, low, some-here, some-more}
+use Rattle.base_nodeset.proofs.Bits.{shifted}
+use Rattle.survey_lists.proofs.WordWriting.{Some, some-none, some-all, some-long, low, some-here, some-more}
 use Rattle.survey_lists.proofs.write_word.Statement.{statement}
 use Rattle.survey_lists.proofs.write_word.Tie as tie
 

@@ -1,0 +1,54 @@
+-- `answer_pairs::attaining_hub` meets its contract: the nodes that are left still say which is the smallest.
+-- Assumes nothing.
+use mathlib.Core.Path.{sym, _∙_}
+use Prim.Native.Nat.{_-_}
+use borrow.Author.Needs.{needs}
+use native.Mathlib.Omega.{arith}
+use Rattle.answer_pairs.proofs.HubLaws.{Tried, tried-none, tried-found, tried-more, tried-all}
+use Rattle.answer_pairs.proofs.attaining_hub.Statement.{statement}
+use Rattle.answer_pairs.proofs.attaining_hub.Tie as tie
+
+abbrev Inv-loop : tie.InvT-loop
+Inv-loop n full a b r h₀ h = Tried n full a b r h
+
+abbrev μ-loop : tie.MeasureT-loop
+μ-loop n full a b r h₀ h = n - h
+
+loop-holds : tie.Need-loop-holds Inv-loop μ-loop
+loop-holds c = tried-none (c .before .args .n) (c .before .args .full .now) (c .before .args .a) (c .before .args .b) (c .before .args .r)
+
+hub-attains-requires : tie.Need-hub-attains-requires Inv-loop μ-loop
+hub-attains-requires c κs = search needs
+
+cast-result : tie.Need-cast-result Inv-loop μ-loop
+cast-result c = omega arith
+
+returns : tie.Need-returns Inv-loop μ-loop
+returns c = tried-found (c .before .before .before .before .before .args .n) (c .before .before .before .before .before .args .full .now) (c .before .before .before .before .before .args .a) (c .before .before .before .before .before .args .b) (c .before .before .before .before .before .args .r) (c .before .before .before .loop .h) (c .before .before .before .loop .inv) (c .before .before .loop-test .taken) (sym (c .before .hub-attains .ensures) ∙ (c .if1 .taken))
+
+add-h : tie.Need-add-h Inv-loop μ-loop
+add-h c = omega arith
+
+loop-less : tie.Need-loop-less Inv-loop μ-loop
+loop-less c = omega arith
+
+loop-again : tie.Need-loop-again Inv-loop μ-loop
+loop-again c = tried-more (c .before .before .before .before .before .args .n) (c .before .before .before .before .before .args .full .now) (c .before .before .before .before .before .args .a) (c .before .before .before .before .before .args .b) (c .before .before .before .before .before .args .r) (c .before .before .before .loop .h) (c .before .before .before .loop .inv) (c .before .before .loop-test .taken) (sym (c .before .hub-attains .ensures) ∙ (c .if1 .left))
+
+returns-2 : tie.Need-returns-2 Inv-loop μ-loop
+returns-2 c = tried-all (c .before .before .before .args .n) (c .before .before .before .args .full .now) (c .before .before .before .args .a) (c .before .before .before .args .b) (c .before .before .before .args .r) (c .before .loop .h) (c .before .loop .inv) (c .loop-test .left)
+
+pub attaining-hub-spec : {M : Type 1} → statement M
+attaining-hub-spec =
+    tie.close
+    (tie.spec
+    Inv-loop
+    μ-loop
+    loop-holds
+    hub-attains-requires
+    cast-result
+    returns
+    add-h
+    loop-less
+    loop-again
+    returns-2)

@@ -1,0 +1,27 @@
+-- `answer_pairs::entry_at` meets its contract.
+-- Assumes nothing.
+use mathlib.Core.Path.{refl}
+use native.Mathlib.Omega.{arith}
+use Rattle.model.specs.Tables.{entryAt}
+use Rattle.model.proofs.Entries.{place-inside, square-small}
+use Rattle.answer_pairs.proofs.entry_at.Statement.{statement}
+use Rattle.answer_pairs.proofs.entry_at.Tie as tie
+
+mul-at : tie.Need-mul-at
+mul-at c = omega (arith, place-inside ((c .args .n)) ((c .args .row)) ((c .args .column)) ((c .pre .2)) ((c .pre .3)), square-small ((c .args .n)) ((c .pre .0)))
+
+add-at : tie.Need-add-at
+add-at c = omega (arith, place-inside ((c .args .n)) ((c .args .row)) ((c .args .column)) ((c .pre .2)) ((c .pre .3)), square-small ((c .args .n)) ((c .pre .0)))
+
+mul-result : tie.Need-mul-result
+mul-result c = omega (arith, place-inside ((c .args .n)) ((c .args .row)) ((c .args .column)) ((c .pre .2)) ((c .pre .3)), square-small ((c .args .n)) ((c .pre .0)))
+
+shared-slice-read-result : tie.Need-shared-slice-read-result
+shared-slice-read-result c = omega (arith, place-inside ((c .before .args .n)) ((c .before .args .row)) ((c .before .args .column)) ((c .before .pre .2)) ((c .before .pre .3)))
+
+returns : tie.Need-returns
+unfolding entryAt
+returns c = refl
+
+pub entry-at-spec : {M : Type 1} → statement M
+entry-at-spec = tie.close (tie.spec mul-at add-at mul-result shared-slice-read-result returns)

@@ -1,0 +1,2 @@
+pub mod DepthVerdict
+pub mod Sources

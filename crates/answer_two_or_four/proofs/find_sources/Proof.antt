@@ -1,0 +1,77 @@
+-- `answer_two_or_four::find_sources` meets its contract: the smallest low node and its neighbours, or the hubs.
+-- Assumes nothing.
+use mathlib.Core.Path.{sym, ap, _∙_}
+use mathlib.Core.List.{List, _∷_}
+use Prim.Native.Nat.{ℕ, _*_}
+use native.Mathlib.Omega.{arith}
+use lib.ListN.{length, length-set, length-replicate}
+use Rattle.model.specs.Survey.{neighboursOf}
+use Rattle.model.proofs.Acceptance.{few-neighbours}
+use Rattle.table_hubs.proofs.Greedy.{hubs-front}
+use Rattle.base_nodeset.specs.NodeSet.{member}
+use Rattle.survey_neighbours.proofs.RowLaws.{rows-of}
+use Rattle.answer_two_or_four.proofs.Sources.{sources-hubs, sources-low, two-written}
+use borrow.Author.Needs.{needs}
+use Rattle.answer_two_or_four.proofs.find_sources.Statement.{statement}
+use Rattle.answer_two_or_four.proofs.find_sources.Tie as tie
+
+slice-aggregate-low-nodes : tie.Need-slice-aggregate-low-nodes
+slice-aggregate-low-nodes c = search needs
+
+low-nodes-requires : tie.Need-low-nodes-requires
+low-nodes-requires c κs = search needs
+
+slice-aggregate-smallest : tie.Need-slice-aggregate-smallest
+slice-aggregate-smallest c = sym (((c .before .before .low-nodes .kept .1 .1 .1 .1 .0)) ∙ length-replicate {A = ℕ} 16 0)
+
+smallest-requires : tie.Need-smallest-requires
+smallest-requires c κs = omega (arith, (((c .before .before .low-nodes .kept .1 .1 .1 .1 .0)) ∙ length-replicate {A = ℕ} 16 0))
+
+choose-hubs-requires : tie.Need-choose-hubs-requires
+choose-hubs-requires c κs = search needs
+
+same-length : tie.Need-same-length
+same-length c = search needs
+
+returns : tie.Need-returns
+returns c = ((c .before .before .choose-hubs .ensures .0) ∙ ap length (sym (sources-hubs ((c .before .before .before .before .before .before .before .before .before .before .before .before .before .args .n)) ((c .before .before .before .before .before .before .before .before .before .before .before .before .before .args .s)) (neighboursOf ((c .before .before .before .before .before .before .before .before .before .before .before .before .before .args .starts .now)) ((c .before .before .before .before .before .before .before .before .before .before .before .before .before .args .neighbours .now))) ((c .before .before .before .before .before .before .before .before .before .before .before .before .before .pre .0 .size)) (member ((c .before .before .before .before .before .before .before .before .low-nodes .last .1 .1 .1 .1 .0))) ((c .before .before .before .before .before .before .before .before .low-nodes .ensures)) (64 * length ((c .before .before .before .before .before .before .before .before .low-nodes .last .1 .1 .1 .1 .0))) ((c .before .before .before .before .before .smallest .result)) (omega (arith, (((c .before .before .before .before .before .before .before .before .low-nodes .kept .1 .1 .1 .1 .0)) ∙ length-replicate {A = ℕ} 16 0), (c .before .before .before .before .before .before .before .before .before .before .before .before .before .pre .0 .size))) ((c .before .before .before .before .before .smallest .ensures)) ((c .before .before .before .before .if1 .taken)))), hubs-front ((c .before .before .before .before .before .before .before .before .before .before .before .before .before .args .n)) ((c .before .before .before .before .before .before .before .before .before .before .before .before .before .args .s)) (neighboursOf ((c .before .before .before .before .before .before .before .before .before .before .before .before .before .args .starts .now)) ((c .before .before .before .before .before .before .before .before .before .before .before .before .before .args .neighbours .now))) ((c .before .before .before .before .before .before .before .before .before .before .before .before .before .args .list .now)) _ _ ((c .before .before .choose-hubs .ensures .0)) ((c .before .before .choose-hubs .ensures .1)) ∙ sym (sources-hubs ((c .before .before .before .before .before .before .before .before .before .before .before .before .before .args .n)) ((c .before .before .before .before .before .before .before .before .before .before .before .before .before .args .s)) (neighboursOf ((c .before .before .before .before .before .before .before .before .before .before .before .before .before .args .starts .now)) ((c .before .before .before .before .before .before .before .before .before .before .before .before .before .args .neighbours .now))) ((c .before .before .before .before .before .before .before .before .before .before .before .before .before .pre .0 .size)) (member ((c .before .before .before .before .before .before .before .before .low-nodes .last .1 .1 .1 .1 .0))) ((c .before .before .before .before .before .before .before .before .low-nodes .ensures)) (64 * length ((c .before .before .before .before .before .before .before .before .low-nodes .last .1 .1 .1 .1 .0))) ((c .before .before .before .before .before .smallest .result)) (omega (arith, (((c .before .before .before .before .before .before .before .before .low-nodes .kept .1 .1 .1 .1 .0)) ∙ length-replicate {A = ℕ} 16 0), (c .before .before .before .before .before .before .before .before .before .before .before .before .before .pre .0 .size))) ((c .before .before .before .before .before .smallest .ensures)) ((c .before .before .before .before .if1 .taken))))
+
+cast-list : tie.Need-cast-list
+cast-list c = search needs
+
+slice-write-list : tie.Need-slice-write-list
+slice-write-list c = search needs
+
+own-requires : tie.Need-own-requires
+own-requires c κs = (rows-of ((c .before .before .before .before .before .before .before .before .before .pre .0)), (c .if1 .left))
+
+copy16-requires : tie.Need-copy16-requires
+copy16-requires c κs = omega (arith, ap length ((c .before .own .ensures)), few-neighbours ((c .before .before .before .before .before .before .before .before .before .before .before .args .n)) ((c .before .before .before .before .before .before .before .before .before .before .before .args .starts .now)) ((c .before .before .before .before .before .before .before .before .before .before .before .args .neighbours .now)) ((c .before .before .before .before .before .before .before .before .before .before .before .pre .0)) ((c .before .before .before .smallest .result)) ((c .before .before .if1 .left)), (c .before .before .before .before .before .before .before .before .before .before .before .pre .1), length-set ((c .before .before .before .before .before .before .before .before .before .before .before .args .list .now)) 0 ((c .before .before .before .smallest .result)))
+
+add-result : tie.Need-add-result
+add-result c = search needs
+
+same-length-2 : tie.Need-same-length-2
+same-length-2 c = ((c .before .before .copy16 .kept .1 .0)) ∙ length-set ((c .before .before .before .before .before .before .before .before .before .before .before .before .before .before .args .list .now)) 0 ((c .before .before .before .before .before .before .smallest .result))
+
+returns-2 : tie.Need-returns-2
+returns-2 c = (omega (arith, ap length ((c .before .before .before .before .own .ensures)), ap length (sources-low ((c .before .before .before .before .before .before .before .before .before .before .before .before .before .before .args .n)) ((c .before .before .before .before .before .before .before .before .before .before .before .before .before .before .args .s)) (neighboursOf ((c .before .before .before .before .before .before .before .before .before .before .before .before .before .before .args .starts .now)) ((c .before .before .before .before .before .before .before .before .before .before .before .before .before .before .args .neighbours .now))) ((c .before .before .before .before .before .before .before .before .before .before .before .before .before .before .pre .0 .size)) (member ((c .before .before .before .before .before .before .before .before .before .low-nodes .last .1 .1 .1 .1 .0))) ((c .before .before .before .before .before .before .before .before .before .low-nodes .ensures)) (64 * length ((c .before .before .before .before .before .before .before .before .before .low-nodes .last .1 .1 .1 .1 .0))) ((c .before .before .before .before .before .before .smallest .result)) (omega (arith, (((c .before .before .before .before .before .before .before .before .before .low-nodes .kept .1 .1 .1 .1 .0)) ∙ length-replicate {A = ℕ} 16 0), (c .before .before .before .before .before .before .before .before .before .before .before .before .before .before .pre .0 .size))) ((c .before .before .before .before .before .before .smallest .ensures)) ((c .before .before .before .before .before .if1 .left)))), two-written ((c .before .before .before .before .before .before .before .before .before .before .before .before .before .before .args .list .now)) _ _ ((c .before .before .before .before .before .before .smallest .result)) _ (omega (arith, ap length ((c .before .before .before .before .own .ensures)), few-neighbours ((c .before .before .before .before .before .before .before .before .before .before .before .before .before .before .args .n)) ((c .before .before .before .before .before .before .before .before .before .before .before .before .before .before .args .starts .now)) ((c .before .before .before .before .before .before .before .before .before .before .before .before .before .before .args .neighbours .now)) ((c .before .before .before .before .before .before .before .before .before .before .before .before .before .before .pre .0)) ((c .before .before .before .before .before .before .smallest .result)) ((c .before .before .before .before .before .if1 .left)), (c .before .before .before .before .before .before .before .before .before .before .before .before .before .before .pre .1))) ((c .before .before .copy16 .ensures)) ∙ ap (λ (l : List ℕ). ((c .before .before .before .before .before .before .smallest .result)) ∷ l) ((c .before .before .before .before .own .ensures)) ∙ sym (sources-low ((c .before .before .before .before .before .before .before .before .before .before .before .before .before .before .args .n)) ((c .before .before .before .before .before .before .before .before .before .before .before .before .before .before .args .s)) (neighboursOf ((c .before .before .before .before .before .before .before .before .before .before .before .before .before .before .args .starts .now)) ((c .before .before .before .before .before .before .before .before .before .before .before .before .before .before .args .neighbours .now))) ((c .before .before .before .before .before .before .before .before .before .before .before .before .before .before .pre .0 .size)) (member ((c .before .before .before .before .before .before .before .before .before .low-nodes .last .1 .1 .1 .1 .0))) ((c .before .before .before .before .before .before .before .before .before .low-nodes .ensures)) (64 * length ((c .before .before .before .before .before .before .before .before .before .low-nodes .last .1 .1 .1 .1 .0))) ((c .before .before .before .before .before .before .smallest .result)) (omega (arith, (((c .before .before .before .before .before .before .before .before .before .low-nodes .kept .1 .1 .1 .1 .0)) ∙ length-replicate {A = ℕ} 16 0), (c .before .before .before .before .before .before .before .before .before .before .before .before .before .before .pre .0 .size))) ((c .before .before .before .before .before .before .smallest .ensures)) ((c .before .before .before .before .before .if1 .left))))
+
+pub find-sources-spec : {M : Type 1} → statement M
+find-sources-spec =
+    tie.close
+    (tie.spec
+    slice-aggregate-low-nodes
+    low-nodes-requires
+    slice-aggregate-smallest
+    smallest-requires
+    choose-hubs-requires
+    same-length
+    returns
+    cast-list
+    slice-write-list
+    own-requires
+    copy16-requires
+    add-result
+    same-length-2
+    returns-2)

@@ -1,0 +1,23 @@
+-- `answer_two_or_four::verdict_on` meets its contract.
+-- Assumes nothing.
+use mathlib.Core.Path.{refl}
+use borrow.Author.Tests.{eq-eqb, ne-eqb, lt-ltb, le-ltb}
+use Rattle.model.specs.Basics.{none}
+use Rattle.answer_two_or_four.specs.DepthVerdict.{ofDepth}
+use Rattle.answer_two_or_four.proofs.verdict_on.Statement.{statement}
+use Rattle.answer_two_or_four.proofs.verdict_on.Tie as tie
+
+returns : tie.Need-returns
+unfolding ofDepth
+returns c = rw (eq-eqb ((c .before .args .depth)) none ((c .if1 .taken))) refl
+
+returns-2 : tie.Need-returns-2
+unfolding ofDepth
+returns-2 c = rw (ne-eqb ((c .before .before .args .depth)) none ((c .before .if1 .left)), lt-ltb 2 ((c .before .before .args .depth)) ((c .if2 .taken))) refl
+
+returns-3 : tie.Need-returns-3
+unfolding ofDepth
+returns-3 c = rw (ne-eqb ((c .before .before .args .depth)) none ((c .before .if1 .left)), le-ltb 2 ((c .before .before .args .depth)) ((c .if2 .left))) refl
+
+pub verdict-on-spec : {M : Type 1} → statement M
+verdict-on-spec = tie.close (tie.spec returns returns-2 returns-3)

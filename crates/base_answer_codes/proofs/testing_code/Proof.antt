@@ -1,0 +1,62 @@
+-- `base_answer_codes::testing_code` meets its contract: by cases of the answer.
+-- Assumes nothing.
+use mathlib.Core.Path.{ap}
+use Prim.Native.Nat.{_+_, _*_}
+use native.Mathlib.Omega.{arith}
+use Rattle.model.specs.Answers.{testAnswer}
+use Rattle.base_answer_codes.specs.Code.{testField, testIn}
+use Rattle.base_answer_codes.proofs.Decoding.{refusal-code, answer-code, test-back}
+use borrow.Author.Needs.{needs}
+use Rattle.base_answer_codes.proofs.testing_code.Statement.{statement}
+use Rattle.base_answer_codes.proofs.testing_code.Tie as tie
+
+enum-known-x : tie.Need-enum-known-x
+enum-known-x c = search needs
+
+refusal-number-requires : tie.Need-refusal-number-requires
+refusal-number-requires c κs = search needs
+
+cast-result : tie.Need-cast-result
+cast-result c = search needs
+
+enum-known-x-2 : tie.Need-enum-known-x-2
+enum-known-x-2 c = search needs
+
+verdict-number-requires : tie.Need-verdict-number-requires
+verdict-number-requires c κs = search needs
+
+mul-result : tie.Need-mul-result
+mul-result c = let x = c .before .before .x2 in let few = c .before .before .before .before .pre (x .given .0 .0)
+    (ap testAnswer (x .given .1)) in omega arith
+
+add-result : tie.Need-add-result
+add-result c = let x = c .before .before .x2 in let few = c .before .before .before .before .pre (x .given .0 .0)
+    (ap testAnswer (x .given .1)) in omega arith
+
+mul-result-2 : tie.Need-mul-result-2
+mul-result-2 c = let x = c .before .before .x2 in let few = c .before .before .before .before .pre (x .given .0 .0)
+    (ap testAnswer (x .given .1)) in omega arith
+
+returns : tie.Need-returns
+returns c = let x = c .before .before .x in refusal-code testField testIn (x .given .0 .0) (ap testAnswer (x .given .1))
+    (c .refusal-number .ensures)
+
+returns-2 : tie.Need-returns-2
+returns-2 c = let x = c .before .before .x2 in let few = c .before .before .before .before .pre (x .given .0 .0)
+    (ap testAnswer (x .given .1)) in answer-code testField testIn (x .given .0 .0) (test-back (x .given .0 .0) few)
+    (ap testAnswer (x .given .1)) (ap (λ k. 65536 * (k + 65536 * x .given .0 .0 .searches)) (c .verdict-number .ensures .0))
+
+pub testing-code-spec : {M : Type 1} → statement M
+testing-code-spec =
+    tie.close
+    (tie.spec
+    enum-known-x
+    refusal-number-requires
+    cast-result
+    enum-known-x-2
+    verdict-number-requires
+    mul-result
+    add-result
+    mul-result-2
+    returns
+    returns-2)

@@ -1,0 +1,4 @@
+pub mod Filling
+pub mod Written
+pub mod Copying
+pub mod TableRows

@@ -1,0 +1,110 @@
+-- The set bits of a word: by trailing zeros, by a count of ones, and as what a test keeps. Each once over the width.
+-- Assumes nothing.
+use mathlib.Core.Path.{_≡_, refl, sym, ap, _∙_}
+use mathlib.Core.Logic.{_⊎_, inl, inr, ⊎-elim}
+use mathlib.Core.Bool.{Bool}
+use mathlib.Core.List.{List, [], _∷_, _++_}
+use Prim.Native.Nat.{ℕ, zero, suc, _+_, _-_, _*_, _/_, _%_, _^_, _≤_, _<_}
+use native.Mathlib.Nat.{pow-suc, add-zero, zero-add, add-suc, suc-add}
+use native.Mathlib.Omega.{arith}
+use lib.Arith.{lt-one}
+use lib.Count.{ones, ones-step, trailingZeros}
+use lib.Dec.{eqb}
+use lib.ListN.{length}
+use Rattle.model.specs.Basics.{from, upTo, keep}
+use Rattle.model.proofs.Lists.{keep-append, from-add}
+use Rattle.base_nodeset.specs.NodeSet.{bit, membersFrom}
+use Rattle.base_nodeset.proofs.Bits.{bit-zero, bit-suc}
+
+-- by the lowest bit
+odd-or : (w : ℕ) → (w % 2 ≡ 1) ⊎ (w % 2 ≡ 0)
+odd-or w = go (w % 2) refl
+  where
+    go : (r : ℕ) → w % 2 ≡ r → (w % 2 ≡ 1) ⊎ (w % 2 ≡ 0)
+    go zero e = inr e
+    go (suc zero) e = inl e
+    go (suc (suc r)) e = absurd (omega arith)
+
+trailing-odd : (k w : ℕ) → w % 2 ≡ 1 → trailingZeros (suc k) w ≡ 0
+unfolding trailingZeros
+trailing-odd k w h = rw h
+
+trailing-even : (k w : ℕ) → w % 2 ≡ 0 → trailingZeros (suc k) w ≡ suc (trailingZeros k (w / 2))
+unfolding trailingZeros
+trailing-even k w h = rw h
+
+bits-odd : (k u w : ℕ) → w % 2 ≡ 1 → membersFrom (suc k) u w ≡ u ∷ membersFrom k (suc u) (w / 2)
+unfolding membersFrom
+bits-odd k u w h = rw h
+
+bits-even : (k u w : ℕ) → w % 2 ≡ 0 → membersFrom (suc k) u w ≡ membersFrom k (suc u) (w / 2)
+unfolding membersFrom
+bits-even k u w h = rw h
+
+pub bits-none : (k u : ℕ) → membersFrom k u 0 ≡ []
+unfolding membersFrom
+bits-none zero u = refl
+bits-none (suc k) u = bits-none k (suc u)
+
+-- the lowest set bit is in the word
+pub record Lowest (k u w : ℕ) : Type 0 where
+  pub below : trailingZeros k w < k
+  pub holds : 2 ^ trailingZeros k w ≤ w
+  pub first : membersFrom k u w ≡ (u + trailingZeros k w) ∷ membersFrom k u (w - 2 ^ trailingZeros k w)
+
+pub lowest : (k u w : ℕ) → 0 < w → w < 2 ^ k → Lowest k u w
+lowest zero u w p h = absurd (omega arith)
+lowest (suc k) u w p h =
+    ⊎-elim
+    (λ o.
+    let t : trailingZeros (suc k) w ≡ 0 = trailing-odd k w o in
+    let e : (w - 1) % 2 ≡ 0 = omega arith in
+    let f : (w - 1) / 2 ≡ w / 2 = omega arith in
+    let z : u + 0 ≡ u = omega arith in
+    record {
+      below = omega arith;
+      holds = rw t p;
+      first = rw (t, z) (bits-odd k u w o ∙ ap (λ (l : List ℕ). u ∷ l) (sym (bits-even k u (w - 1) e ∙ ap (membersFrom k (suc u)) f)));
+    })
+    (λ o.
+    let t : trailingZeros (suc k) w ≡ suc (trailingZeros k (w / 2)) = trailing-even k w o in
+    let g : 2 ^ suc k ≡ 2 ^ k * 2 = pow-suc 2 k in
+    let i = lowest k (suc u) (w / 2) (omega arith) (omega arith) in
+    let x : 2 ^ suc (trailingZeros k (w / 2)) ≡ 2 ^ trailingZeros k (w / 2) * 2 = pow-suc 2 (trailingZeros k (w / 2)) in
+    let e : (w - 2 ^ suc (trailingZeros k (w / 2))) % 2 ≡ 0 = omega (arith, i .holds) in
+    let f : (w - 2 ^ suc (trailingZeros k (w / 2))) / 2 ≡ w / 2 - 2 ^ trailingZeros k (w / 2) = omega (arith, i .holds) in
+    let z : u + suc (trailingZeros k (w / 2)) ≡ suc u + trailingZeros k (w / 2) = omega arith in
+    record {
+      below = omega (arith, i .below);
+      holds = rw t (omega (arith, i .holds));
+      first = rw (t, z) (bits-even k u w o ∙ i .first ∙ ap (λ (l : List ℕ). (suc u + trailingZeros k (w / 2)) ∷ l) (sym (bits-even k u (w - 2 ^ suc (trailingZeros k (w / 2))) e ∙ ap (membersFrom k (suc u)) f)));
+    })
+    (odd-or w)
+
+-- the ones of a word of k bits are as many as its set bits
+pub ones-members : (k u w : ℕ) → w < 2 ^ k → length (membersFrom k u w) ≡ ones w
+unfolding membersFrom ones
+ones-members zero u w h = sym (ap ones (lt-one h))
+ones-members (suc k) u w h =
+    let rest = ones-members k (suc u) (w / 2) (omega (arith, pow-suc 2 k)) in
+    ⊎-elim
+    (λ o. ap length (bits-odd k u w o) ∙ omega (arith, rest, ones-step w))
+    (λ o. ap length (bits-even k u w o) ∙ omega (arith, rest, ones-step w))
+    (odd-or w)
+
+-- ---- a word of a row of words: what a test keeps of 64 numbers are the set bits of the word that says the test
+
+members-keep : (k u w : ℕ) (f : ℕ → Bool) → ((i : ℕ) → i < k → f (u + i) ≡ bit w i) → keep f (from u k) ≡ membersFrom k u w
+unfolding from keep membersFrom
+members-keep zero u w f h = refl
+members-keep (suc k) u w f h =
+    let first : f u ≡ eqb (w % 2) 1 = ap f (sym (add-zero u)) ∙ h 0 (omega arith) ∙ bit-zero w in
+    let rest = members-keep k (suc u) (w / 2) f (λ i l. ap f (suc-add u i ∙ sym (add-suc u i)) ∙ h (suc i) (omega arith) ∙ bit-suc w i) in
+    rw (first, rest)
+
+pub row-word : (k u w : ℕ) (f : ℕ → Bool) → ((i : ℕ) → i < k → f (u + i) ≡ bit w i) → keep f (upTo (u + k)) ≡ keep f (upTo u) ++ membersFrom k u w
+unfolding upTo
+row-word k u w f h =
+    ap (keep f) (from-add 0 u k ∙ ap (λ (x : ℕ). from 0 u ++ from x k) (zero-add u))
+    ∙ keep-append f (from 0 u) (from u k)
+    ∙ ap (λ (l : List ℕ). keep f (from 0 u) ++ l) (members-keep k u w f h)

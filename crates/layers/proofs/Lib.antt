@@ -1,3 +1,0 @@
-pub mod Matrix
-pub mod Marks
-pub mod Turns

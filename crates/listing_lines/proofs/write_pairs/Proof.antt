@@ -1,0 +1,54 @@
+-- `listing_lines::write_pairs` meets its contract: what is written, and the rows that are left, are the lines of all pairs.
+-- Assumes nothing.
+use mathlib.Core.Path.{sym, subst}
+use mathlib.Core.List.{List}
+use Prim.Native.Nat.{ℕ, _+_, _-_, _≤_}
+use native.Mathlib.Omega.{arith}
+use lib.ListN.{length}
+use Rattle.base_lists.specs.Written.{Wrote}
+use Rattle.base_lists.proofs.Written.{Left, left-all, left-fits, left-more, left-length, left-none}
+use Rattle.listing_lines.specs.RowText.{rowText}
+use Rattle.listing_lines.proofs.Texts.{rowsFrom, rows-next, rows-end, pairs-rows}
+use Rattle.listing_lines.proofs.write_pairs.Statement.{statement}
+use Rattle.listing_lines.proofs.write_pairs.Tie as tie
+
+abbrev Inv-loop : tie.InvT-loop
+Inv-loop n full low report buffer₀ at i₀ a₀ buffer i a = (a ≤ n) × Left buffer₀ buffer at i (rowsFrom n full low report 0) (rowsFrom n full low report a)
+
+abbrev μ-loop : tie.MeasureT-loop
+μ-loop n full low report buffer₀ at i₀ a₀ buffer i a = n - a
+
+loop-holds : tie.Need-loop-holds Inv-loop μ-loop
+loop-holds c = (omega arith, left-all _ _ _)
+
+write-row-requires : tie.Need-write-row-requires Inv-loop μ-loop
+write-row-requires c κs = (((c .before .before .before .before .before .before .before .pre .0 .0), (c .before .before .before .before .before .before .before .pre .0 .1), (c .before .before .before .before .before .before .before .pre .0 .2), (c .before .before .before .before .before .before .before .pre .0 .3), (c .before .loop-test .taken)), left-fits _ _ _ (subst (λ (t : List ℕ). (c .before .before .before .before .before .before .before .args .at) + length t ≤ length (c .before .before .before .before .before .before .before .args .buffer .now)) (pairs-rows (c .before .before .before .before .before .before .before .args .n) (c .before .before .before .before .before .before .before .args .full .now) (c .before .before .before .before .before .before .before .args .low .now) (c .before .before .before .before .before .before .before .args .report .now)) (c .before .before .before .before .before .before .before .pre .1)) _ _ (rowText (c .before .before .before .before .before .before .before .args .n) (c .before .before .before .before .before .before .before .args .full .now) (c .before .before .before .before .before .before .before .args .low .now) (c .before .before .before .before .before .before .before .args .report .now) (c .before .before .loop .a) ((c .before .before .loop .a) + 1)) (rowsFrom (c .before .before .before .before .before .before .before .args .n) (c .before .before .before .before .before .before .before .args .full .now) (c .before .before .before .before .before .before .before .args .low .now) (c .before .before .before .before .before .before .before .args .report .now) ((c .before .before .loop .a) + 1)) (subst (λ (t : List ℕ). Left (c .before .before .before .before .before .before .before .args .buffer .now) (c .before .before .loop .buffer) (c .before .before .before .before .before .before .before .args .at) (c .before .before .loop .i) (rowsFrom (c .before .before .before .before .before .before .before .args .n) (c .before .before .before .before .before .before .before .args .full .now) (c .before .before .before .before .before .before .before .args .low .now) (c .before .before .before .before .before .before .before .args .report .now) 0) t) (rows-next (c .before .before .before .before .before .before .before .args .n) (c .before .before .before .before .before .before .before .args .full .now) (c .before .before .before .before .before .before .before .args .low .now) (c .before .before .before .before .before .before .before .args .report .now) (c .before .before .loop .a) (c .before .loop-test .taken)) (c .before .before .loop .inv .1)))
+
+add-a : tie.Need-add-a Inv-loop μ-loop
+add-a c = omega (arith, (c .before .before .before .before .before .before .before .before .before .before .pre .0), (c .before .before .before .before .loop-test .taken))
+
+loop-less : tie.Need-loop-less Inv-loop μ-loop
+loop-less c = omega (arith, (c .before .before .before .before .loop-test .taken))
+
+loop-again : tie.Need-loop-again Inv-loop μ-loop
+loop-again c = (omega (arith, (c .before .before .before .before .loop-test .taken)), left-more _ _ _ (subst (λ (t : List ℕ). (c .before .before .before .before .before .before .before .before .before .before .args .at) + length t ≤ length (c .before .before .before .before .before .before .before .before .before .before .args .buffer .now)) (pairs-rows (c .before .before .before .before .before .before .before .before .before .before .args .n) (c .before .before .before .before .before .before .before .before .before .before .args .full .now) (c .before .before .before .before .before .before .before .before .before .before .args .low .now) (c .before .before .before .before .before .before .before .before .before .before .args .report .now)) (c .before .before .before .before .before .before .before .before .before .before .pre .1)) _ _ (rowText (c .before .before .before .before .before .before .before .before .before .before .args .n) (c .before .before .before .before .before .before .before .before .before .before .args .full .now) (c .before .before .before .before .before .before .before .before .before .before .args .low .now) (c .before .before .before .before .before .before .before .before .before .before .args .report .now) (c .before .before .before .before .before .loop .a) ((c .before .before .before .before .before .loop .a) + 1)) (rowsFrom (c .before .before .before .before .before .before .before .before .before .before .args .n) (c .before .before .before .before .before .before .before .before .before .before .args .full .now) (c .before .before .before .before .before .before .before .before .before .before .args .low .now) (c .before .before .before .before .before .before .before .before .before .before .args .report .now) ((c .before .before .before .before .before .loop .a) + 1)) (subst (λ (t : List ℕ). Left (c .before .before .before .before .before .before .before .before .before .before .args .buffer .now) (c .before .before .before .before .before .loop .buffer) (c .before .before .before .before .before .before .before .before .before .before .args .at) (c .before .before .before .before .before .loop .i) (rowsFrom (c .before .before .before .before .before .before .before .before .before .before .args .n) (c .before .before .before .before .before .before .before .before .before .before .args .full .now) (c .before .before .before .before .before .before .before .before .before .before .args .low .now) (c .before .before .before .before .before .before .before .before .before .before .args .report .now) 0) t) (rows-next (c .before .before .before .before .before .before .before .before .before .before .args .n) (c .before .before .before .before .before .before .before .before .before .before .args .full .now) (c .before .before .before .before .before .before .before .before .before .before .args .low .now) (c .before .before .before .before .before .before .before .before .before .before .args .report .now) (c .before .before .before .before .before .loop .a) (c .before .before .before .before .loop-test .taken)) (c .before .before .before .before .before .loop .inv .1)) _ _ (c .before .before .write-row .ensures))
+
+same-length : tie.Need-same-length Inv-loop μ-loop
+same-length c = left-length _ _ _ (subst (λ (t : List ℕ). (c .before .before .before .before .before .before .args .at) + length t ≤ length (c .before .before .before .before .before .before .args .buffer .now)) (pairs-rows (c .before .before .before .before .before .before .args .n) (c .before .before .before .before .before .before .args .full .now) (c .before .before .before .before .before .before .args .low .now) (c .before .before .before .before .before .before .args .report .now)) (c .before .before .before .before .before .before .pre .1)) _ _ _ (c .before .loop .inv .1)
+
+returns : tie.Need-returns Inv-loop μ-loop
+returns c = subst (λ (t : List ℕ). Wrote (c .before .before .before .before .before .before .args .buffer .now) (c .before .loop .buffer) (c .before .before .before .before .before .before .args .at) (c .before .loop .i) t) (sym (pairs-rows (c .before .before .before .before .before .before .args .n) (c .before .before .before .before .before .before .args .full .now) (c .before .before .before .before .before .before .args .low .now) (c .before .before .before .before .before .before .args .report .now))) (left-none _ _ _ (subst (λ (t : List ℕ). (c .before .before .before .before .before .before .args .at) + length t ≤ length (c .before .before .before .before .before .before .args .buffer .now)) (pairs-rows (c .before .before .before .before .before .before .args .n) (c .before .before .before .before .before .before .args .full .now) (c .before .before .before .before .before .before .args .low .now) (c .before .before .before .before .before .before .args .report .now)) (c .before .before .before .before .before .before .pre .1)) _ _ (subst (λ (t : List ℕ). Left (c .before .before .before .before .before .before .args .buffer .now) (c .before .loop .buffer) (c .before .before .before .before .before .before .args .at) (c .before .loop .i) (rowsFrom (c .before .before .before .before .before .before .args .n) (c .before .before .before .before .before .before .args .full .now) (c .before .before .before .before .before .before .args .low .now) (c .before .before .before .before .before .before .args .report .now) 0) t) (rows-end (c .before .before .before .before .before .before .args .n) (c .before .before .before .before .before .before .args .full .now) (c .before .before .before .before .before .before .args .low .now) (c .before .before .before .before .before .before .args .report .now) (c .before .loop .a) (c .loop-test .left)) (c .before .loop .inv .1)))
+
+pub write-pairs-spec : {M : Type 1} → statement M
+write-pairs-spec =
+    tie.close
+    (tie.spec
+    Inv-loop
+    μ-loop
+    loop-holds
+    write-row-requires
+    add-a
+    loop-less
+    loop-again
+    same-length
+    returns)

@@ -1,4 +1,0 @@
-pub mod Filling
-pub mod Writing
-pub mod Copying
-pub mod TableRows

@@ -1,2 +1,0 @@
-pub mod Bfs
-pub mod Turns

@@ -1,0 +1,3 @@
+pub mod RowJoining
+pub mod Marks
+pub mod LayerTurns

@@ -1,0 +1,77 @@
+-- `search_by_words::insert_row` meets its contract: the first i words of the set have the node's neighbours.
+-- Assumes nothing.
+use mathlib.Core.Path.{sym, _∙_}
+use Prim.Native.Nat.{_-_}
+use native.Mathlib.Omega.{arith}
+use Rattle.search_by_words.proofs.RowJoining.{Joining, joining-none, joining-more, joining-all}
+use Rattle.search_by_words.proofs.insert_row.Statement.{statement}
+use Rattle.search_by_words.proofs.insert_row.Tie as tie
+
+abbrev Inv-loop : tie.InvT-loop
+Inv-loop rows v found₀ i₀ found i = Joining rows v found₀ found i
+
+abbrev μ-loop : tie.MeasureT-loop
+μ-loop rows v found₀ i₀ found i = 16 - i
+
+loop-holds : tie.Need-loop-holds Inv-loop μ-loop
+loop-holds c = joining-none _ _ _ (c .pre .2)
+
+mul-found : tie.Need-mul-found Inv-loop μ-loop
+mul-found c = omega (arith, (c .before .before .pre .0), (c .before .before .pre .1), ((c .before .loop .inv)) .long, (c .loop-test .taken))
+
+slice-read-found : tie.Need-slice-read-found Inv-loop μ-loop
+slice-read-found c = omega (arith, (c .before .before .before .pre .0), (c .before .before .before .pre .1), ((c .before .before .loop .inv)) .long, (c .before .loop-test .taken))
+
+mul-found-2 : tie.Need-mul-found-2 Inv-loop μ-loop
+mul-found-2 c = omega (arith, (c .before .before .before .pre .0), (c .before .before .before .pre .1), ((c .before .before .loop .inv)) .long, (c .before .loop-test .taken))
+
+add-found : tie.Need-add-found Inv-loop μ-loop
+add-found c = omega (arith, (c .before .before .before .pre .0), (c .before .before .before .pre .1), ((c .before .before .loop .inv)) .long, (c .before .loop-test .taken))
+
+mul-found-3 : tie.Need-mul-found-3 Inv-loop μ-loop
+mul-found-3 c = omega (arith, (c .before .before .before .pre .0), (c .before .before .before .pre .1), ((c .before .before .loop .inv)) .long, (c .before .loop-test .taken))
+
+shared-slice-read-found : tie.Need-shared-slice-read-found Inv-loop μ-loop
+shared-slice-read-found c = omega (arith, (c .before .before .before .before .pre .0), (c .before .before .before .before .pre .1), ((c .before .before .before .loop .inv)) .long, (c .before .before .loop-test .taken))
+
+mul-found-4 : tie.Need-mul-found-4 Inv-loop μ-loop
+mul-found-4 c = omega (arith, (c .before .before .before .before .pre .0), (c .before .before .before .before .pre .1), ((c .before .before .before .loop .inv)) .long, (c .before .before .loop-test .taken))
+
+slice-write-found : tie.Need-slice-write-found Inv-loop μ-loop
+slice-write-found c = omega (arith, (c .before .before .before .before .pre .0), (c .before .before .before .before .pre .1), ((c .before .before .before .loop .inv)) .long, (c .before .before .loop-test .taken))
+
+add-i : tie.Need-add-i Inv-loop μ-loop
+add-i c = omega (arith, (c .before .before .loop-test .taken))
+
+loop-less : tie.Need-loop-less Inv-loop μ-loop
+loop-less c = omega (arith, (c .before .before .loop-test .taken))
+
+loop-again : tie.Need-loop-again Inv-loop μ-loop
+loop-again c = joining-more _ _ _ _ _ (c .before .before .before .loop .inv) (c .before .before .loop-test .taken)
+
+same-length : tie.Need-same-length Inv-loop μ-loop
+same-length c = ((c .before .loop .inv)) .long ∙ sym (c .before .before .pre .2)
+
+returns : tie.Need-returns Inv-loop μ-loop
+returns c = joining-all _ _ _ _ _ (c .before .loop .inv) (c .loop-test .left) (c .before .before .pre .2)
+
+pub insert-row-spec : {M : Type 1} → statement M
+insert-row-spec =
+    tie.close
+    (tie.spec
+    Inv-loop
+    μ-loop
+    loop-holds
+    mul-found
+    slice-read-found
+    mul-found-2
+    add-found
+    mul-found-3
+    shared-slice-read-found
+    mul-found-4
+    slice-write-found
+    add-i
+    loop-less
+    loop-again
+    same-length
+    returns)

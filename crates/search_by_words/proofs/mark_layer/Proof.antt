@@ -1,0 +1,66 @@
+-- `search_by_words::mark_layer` meets its contract: the nodes of the first w words are marked.
+-- Assumes nothing.
+use mathlib.Core.Path.{sym, _∙_}
+use Prim.Native.Nat.{_-_}
+use native.Mathlib.Omega.{arith}
+use Rattle.base_nodeset.specs.Matrix.{edgesIn}
+use Rattle.search_by_words.proofs.Marks.{Marked, marked-none, marked-same, word-inside, marked-more, marked-row, marked-found}
+use Rattle.search_by_words.proofs.mark_layer.Statement.{statement}
+use Rattle.search_by_words.proofs.mark_layer.Tie as tie
+
+abbrev Inv-loop : tie.InvT-loop
+Inv-loop layer d rows row₀ found₀ w₀ row found w = Marked (edgesIn rows) layer d row₀ found₀ row found w
+
+abbrev μ-loop : tie.MeasureT-loop
+μ-loop layer d rows row₀ found₀ w₀ row found w = 16 - w
+
+loop-holds : tie.Need-loop-holds Inv-loop μ-loop
+loop-holds c = marked-none (edgesIn (c .before .before .before .before .args .rows .now)) (c .before .before .before .before .args .layer .now) (c .before .before .before .before .args .d) (c .before .before .before .before .args .row .now) (c .before .before .before .before .args .found .now) (c .before .before .before .before .pre .0 .2)
+
+mul-mark-word : tie.Need-mul-mark-word Inv-loop μ-loop
+mul-mark-word c = omega (arith, (c .before .before .before .before .before .before .pre .0 .0), (c .loop-test .taken))
+
+shared-slice-read-mark-word : tie.Need-shared-slice-read-mark-word Inv-loop μ-loop
+shared-slice-read-mark-word c = omega (arith, (c .before .before .before .before .before .before .before .pre .0 .0), (c .before .loop-test .taken))
+
+mul-mark-word-2 : tie.Need-mul-mark-word-2 Inv-loop μ-loop
+mul-mark-word-2 c = omega (arith, (c .before .before .before .before .before .before .before .pre .0 .0), (c .before .loop-test .taken))
+
+mark-word-requires : tie.Need-mark-word-requires Inv-loop μ-loop
+mark-word-requires c κs = ((omega (arith, (c .before .before .before .loop-test .taken)), (c .before .before .before .before .before .before .before .before .before .pre .0 .1), ((c .before .before .before .before .loop .inv)) .long), word-inside (edgesIn (c .before .before .before .before .before .before .before .before .before .args .rows .now)) (c .before .before .before .before .before .before .before .before .before .args .layer .now) (c .before .before .before .before .before .before .before .before .before .args .d) (c .before .before .before .before .before .before .before .before .before .args .row .now) (c .before .before .before .before .before .before .before .before .before .args .found .now) _ _ _ (c .before .before .before .before .loop .inv) (c .before .before .before .before .before .before .before .before .before .pre .1))
+
+add-w : tie.Need-add-w Inv-loop μ-loop
+add-w c = omega (arith, (c .before .before .before .before .before .before .before .before .before .before .before .before .before .before .pre .0 .0), (c .before .before .before .before .before .before .before .before .loop-test .taken))
+
+loop-less : tie.Need-loop-less Inv-loop μ-loop
+loop-less c = omega (arith, (c .before .before .before .before .before .before .before .before .before .before .before .before .before .before .pre .0 .0), (c .before .before .before .before .before .before .before .before .loop-test .taken))
+
+loop-again : tie.Need-loop-again Inv-loop μ-loop
+loop-again c = marked-more (edgesIn (c .before .before .before .before .before .before .before .before .before .before .before .before .before .before .args .rows .now)) (c .before .before .before .before .before .before .before .before .before .before .before .before .before .before .args .layer .now) (c .before .before .before .before .before .before .before .before .before .before .before .before .before .before .args .d) (c .before .before .before .before .before .before .before .before .before .before .before .before .before .before .args .row .now) (c .before .before .before .before .before .before .before .before .before .before .before .before .before .before .args .found .now) _ _ _ (c .before .before .before .before .before .before .before .before .before .loop .inv) (c .before .before .before .before .before .before .before .before .loop-test .taken) _ _ (c .before .before .before .before .mark-word .kept .1 .1 .1 .1 .1 .0) (c .before .before .before .before .mark-word .ensures .0) (c .before .before .before .before .mark-word .ensures .1)
+
+same-length : tie.Need-same-length Inv-loop μ-loop
+same-length c = marked-same (edgesIn (c .before .before .before .before .before .before .args .rows .now)) (c .before .before .before .before .before .before .args .layer .now) (c .before .before .before .before .before .before .args .d) (c .before .before .before .before .before .before .args .row .now) (c .before .before .before .before .before .before .args .found .now) _ _ _ (c .before .loop .inv)
+
+same-length-2 : tie.Need-same-length-2 Inv-loop μ-loop
+same-length-2 c = ((c .before .loop .inv)) .long ∙ sym (c .before .before .before .before .before .before .pre .0 .2)
+
+returns : tie.Need-returns Inv-loop μ-loop
+returns c = (marked-row (edgesIn (c .before .before .before .before .before .before .args .rows .now)) (c .before .before .before .before .before .before .args .layer .now) (c .before .before .before .before .before .before .args .d) (c .before .before .before .before .before .before .args .row .now) (c .before .before .before .before .before .before .args .found .now) _ _ _ (c .before .loop .inv) (c .loop-test .left), marked-found (edgesIn (c .before .before .before .before .before .before .args .rows .now)) (c .before .before .before .before .before .before .args .layer .now) (c .before .before .before .before .before .before .args .d) (c .before .before .before .before .before .before .args .row .now) (c .before .before .before .before .before .before .args .found .now) _ _ _ (c .before .loop .inv) (c .loop-test .left))
+
+pub mark-layer-spec : {M : Type 1} → statement M
+mark-layer-spec =
+    tie.close
+    (tie.spec
+    Inv-loop
+    μ-loop
+    loop-holds
+    mul-mark-word
+    shared-slice-read-mark-word
+    mul-mark-word-2
+    mark-word-requires
+    add-w
+    loop-less
+    loop-again
+    same-length
+    same-length-2
+    returns)

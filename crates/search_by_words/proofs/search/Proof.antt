@@ -1,0 +1,139 @@
+-- `search_by_words::search` meets its contract. Each turn of the loop is one layer; an empty one changes nothing, nor do those after it.
+-- Assumes nothing.
+use mathlib.Core.Path.{_≡_, refl, sym, ap, _∙_}
+use Prim.Native.Nat.{ℕ, _-_, _≤_}
+use native.Mathlib.Omega.{arith}
+use lib.ListN.{length, replicate, length-replicate}
+use Rattle.model.specs.Basics.{none}
+use Rattle.base_nodeset.specs.NodeSet.{member}
+use Rattle.base_nodeset.proofs.Words.{past-smallest}
+use Rattle.base_nodeset.specs.Matrix.{edgesIn}
+use Rattle.search_by_words.proofs.LayerTurns.{Turn, turn-start, turn-more, front-inside, turn-empty, turn-end}
+use borrow.Author.Needs.{needs}
+use Rattle.search_by_words.proofs.search.Statement.{statement}
+use Rattle.search_by_words.proofs.search.Tie as tie
+
+abbrev Inv-loop : tie.InvT-loop
+Inv-loop n rows source row₀ layer₀ unvisited₀ found₀ k₀ row layer unvisited found k = Turn (edgesIn rows) n source k row (member layer) (member unvisited) (member found) × (k ≤ n) × (length layer ≡ 16) × (length unvisited ≡ 16) × (length found ≡ 16)
+
+abbrev μ-loop : tie.MeasureT-loop
+μ-loop n rows source row₀ layer₀ unvisited₀ found₀ k₀ row layer unvisited found k = n - k
+
+fill16-requires : tie.Need-fill16-requires Inv-loop μ-loop
+fill16-requires c κs = search needs
+
+slice-aggregate-insert : tie.Need-slice-aggregate-insert Inv-loop μ-loop
+slice-aggregate-insert c = search needs
+
+insert-requires : tie.Need-insert-requires Inv-loop μ-loop
+insert-requires c κs = search needs
+
+slice-aggregate-insert-below : tie.Need-slice-aggregate-insert-below Inv-loop μ-loop
+slice-aggregate-insert-below c = search needs
+
+insert-below-requires : tie.Need-insert-below-requires Inv-loop μ-loop
+insert-below-requires c κs = (refl, (c .before .before .before .before .before .before .before .before .before .before .pre .0))
+
+slice-aggregate-remove : tie.Need-slice-aggregate-remove Inv-loop μ-loop
+slice-aggregate-remove c = search needs
+
+remove-requires : tie.Need-remove-requires Inv-loop μ-loop
+remove-requires c κs = omega (arith, (c .before .before .insert-below .kept .0) ∙ length-replicate {A = ℕ} 16 0, (c .before .before .before .before .before .before .before .before .before .before .before .before .before .pre .0), (c .before .before .before .before .before .before .before .before .before .before .before .before .before .pre .2))
+
+loop-holds : tie.Need-loop-holds Inv-loop μ-loop
+loop-holds c = (turn-start (edgesIn (c .before .before .before .before .before .before .before .before .before .before .before .before .before .before .before .args .rows .now)) (c .before .before .before .before .before .before .before .before .before .before .before .before .before .before .before .args .n) (c .before .before .before .before .before .before .before .before .before .before .before .before .before .before .before .args .source) _ _ _ _ ((c .before .before .before .before .before .before .before .before .before .before .before .fill16 .ensures) ∙ ap (λ (m : ℕ). replicate m none) (c .before .before .before .before .before .before .before .before .before .before .before .before .before .before .before .pre .3)) (c .before .before .before .before .before .before .before .insert .ensures) (c .before .before .before .before .insert-below .ensures) (c .before .remove .ensures), omega arith, (c .before .before .before .before .before .before .before .insert .kept .0) ∙ length-replicate {A = ℕ} 16 0, (c .before .remove .kept .0) ∙ (c .before .before .before .before .insert-below .kept .0) ∙ length-replicate {A = ℕ} 16 0, length-replicate {A = ℕ} 16 0)
+
+slice-aggregate-smallest : tie.Need-slice-aggregate-smallest Inv-loop μ-loop
+slice-aggregate-smallest c = sym (c .before .before .loop .inv .2)
+
+smallest-requires : tie.Need-smallest-requires Inv-loop μ-loop
+smallest-requires c κs = omega (arith, (c .before .before .loop .inv .2))
+
+same-length : tie.Need-same-length Inv-loop μ-loop
+same-length c = ((c .before .before .before .before .loop .inv .0)) .size ∙ sym (c .before .before .before .before .before .before .before .before .before .before .before .before .before .before .before .before .before .before .before .before .pre .3)
+
+returns : tie.Need-returns Inv-loop μ-loop
+returns c = turn-empty (edgesIn (c .before .before .before .before .before .before .before .before .before .before .before .before .before .before .before .before .before .before .before .before .args .rows .now)) (c .before .before .before .before .before .before .before .before .before .before .before .before .before .before .before .before .before .before .before .before .args .n) (c .before .before .before .before .before .before .before .before .before .before .before .before .before .before .before .before .before .before .before .before .args .source) (c .before .before .before .before .before .before .before .before .before .before .before .before .before .before .before .before .before .before .before .before .pre .2) (c .before .before .before .before .before .before .before .before .before .before .before .before .before .before .before .before .before .before .before .before .pre .0) (c .before .before .before .before .loop .k) _ _ _ _ (c .before .before .before .before .loop .inv .1) (c .before .before .before .before .loop .inv .0) (past-smallest (c .before .before .before .before .before .before .before .before .before .before .before .before .before .before .before .before .before .before .before .before .args .n) (c .before .before .before .before .loop .layer) (omega (arith, (c .before .before .before .before .loop .inv .2), (c .before .before .before .before .before .before .before .before .before .before .before .before .before .before .before .before .before .before .before .before .pre .0))) _ (c .before .smallest .ensures) (c .if1 .taken))
+
+slice-aggregate-mark-layer : tie.Need-slice-aggregate-mark-layer Inv-loop μ-loop
+slice-aggregate-mark-layer c = sym (c .before .before .before .before .before .loop .inv .2)
+
+cast-mark-layer : tie.Need-cast-mark-layer Inv-loop μ-loop
+cast-mark-layer c = omega (arith, (c .before .before .before .before .loop-test .taken), (c .before .before .before .before .before .before .before .before .before .before .before .before .before .before .before .before .before .before .before .before .before .pre .0))
+
+slice-aggregate-mark-layer-2 : tie.Need-slice-aggregate-mark-layer-2 Inv-loop μ-loop
+slice-aggregate-mark-layer-2 c = sym (c .before .before .before .before .before .before .before .loop .inv .4)
+
+mark-layer-requires : tie.Need-mark-layer-requires Inv-loop μ-loop
+mark-layer-requires c κs = (((c .before .before .before .before .before .before .before .loop .inv .2), (c .before .before .before .before .before .before .before .before .before .before .before .before .before .before .before .before .before .before .before .before .before .before .before .pre .1), (c .before .before .before .before .before .before .before .loop .inv .4)), front-inside (edgesIn (c .before .before .before .before .before .before .before .before .before .before .before .before .before .before .before .before .before .before .before .before .before .before .before .args .rows .now)) (c .before .before .before .before .before .before .before .before .before .before .before .before .before .before .before .before .before .before .before .before .before .before .before .args .n) (c .before .before .before .before .before .before .before .before .before .before .before .before .before .before .before .before .before .before .before .before .before .before .before .args .source) (c .before .before .before .before .before .before .before .before .before .before .before .before .before .before .before .before .before .before .before .before .before .before .before .pre .2) (c .before .before .before .before .before .before .before .before .before .before .before .before .before .before .before .before .before .before .before .before .before .before .before .pre .0) (c .before .before .before .before .before .before .before .loop .k) _ _ _ _ (c .before .before .before .before .before .before .before .loop .inv .0))
+
+slice-aggregate-write-intersection : tie.Need-slice-aggregate-write-intersection Inv-loop μ-loop
+slice-aggregate-write-intersection c = omega (arith, (c .before .before .before .before .before .before .before .before .before .before .before .before .loop .inv .2), (c .before .before .before .before .before .before .before .before .before .before .before .before .loop .inv .3), (c .before .before .before .before .before .before .before .before .before .before .before .before .loop .inv .4), (c .before .before .before .before .mark-layer .kept .1 .1 .1 .1 .0))
+
+slice-aggregate-write-intersection-2 : tie.Need-slice-aggregate-write-intersection-2 Inv-loop μ-loop
+slice-aggregate-write-intersection-2 c = omega (arith, (c .before .before .before .before .before .before .before .before .before .before .before .before .before .loop .inv .2), (c .before .before .before .before .before .before .before .before .before .before .before .before .before .loop .inv .3), (c .before .before .before .before .before .before .before .before .before .before .before .before .before .loop .inv .4), (c .before .before .before .before .before .mark-layer .kept .1 .1 .1 .1 .0))
+
+slice-aggregate-write-intersection-3 : tie.Need-slice-aggregate-write-intersection-3 Inv-loop μ-loop
+slice-aggregate-write-intersection-3 c = sym (c .before .before .before .before .before .before .before .before .before .before .before .before .before .before .loop .inv .2)
+
+write-intersection-requires : tie.Need-write-intersection-requires Inv-loop μ-loop
+write-intersection-requires c κs = (omega (arith, (c .before .before .before .before .before .before .before .before .before .before .before .before .before .before .loop .inv .2), (c .before .before .before .before .before .before .before .before .before .before .before .before .before .before .loop .inv .3), (c .before .before .before .before .before .before .before .before .before .before .before .before .before .before .loop .inv .4), (c .before .before .before .before .before .before .mark-layer .kept .1 .1 .1 .1 .0)), omega (arith, (c .before .before .before .before .before .before .before .before .before .before .before .before .before .before .loop .inv .2), (c .before .before .before .before .before .before .before .before .before .before .before .before .before .before .loop .inv .3), (c .before .before .before .before .before .before .before .before .before .before .before .before .before .before .loop .inv .4), (c .before .before .before .before .before .before .mark-layer .kept .1 .1 .1 .1 .0)))
+
+slice-aggregate-subtract : tie.Need-slice-aggregate-subtract Inv-loop μ-loop
+slice-aggregate-subtract c = sym (c .before .before .before .before .before .before .before .before .before .before .before .before .before .before .before .before .before .loop .inv .3)
+
+slice-aggregate-subtract-2 : tie.Need-slice-aggregate-subtract-2 Inv-loop μ-loop
+slice-aggregate-subtract-2 c = sym ((c .before .before .before .write-intersection .kept .1 .1 .0) ∙ (c .before .before .before .before .before .before .before .before .before .before .before .before .before .before .before .before .before .before .loop .inv .2))
+
+subtract-requires : tie.Need-subtract-requires Inv-loop μ-loop
+subtract-requires c κs = (c .before .before .before .before .before .before .before .before .before .before .before .before .before .before .before .before .before .before .loop .inv .3) ∙ sym ((c .before .before .before .write-intersection .kept .1 .1 .0) ∙ (c .before .before .before .before .before .before .before .before .before .before .before .before .before .before .before .before .before .before .loop .inv .2))
+
+add-k : tie.Need-add-k Inv-loop μ-loop
+add-k c = omega (arith, (c .before .before .before .before .before .before .before .before .before .before .before .before .before .before .before .before .before .before .before .loop-test .taken), (c .before .before .before .before .before .before .before .before .before .before .before .before .before .before .before .before .before .before .before .before .before .before .before .before .before .before .before .before .before .before .before .before .before .before .before .before .pre .0))
+
+loop-less : tie.Need-loop-less Inv-loop μ-loop
+loop-less c = omega (arith, (c .before .before .before .before .before .before .before .before .before .before .before .before .before .before .before .before .before .before .before .loop-test .taken))
+
+loop-again : tie.Need-loop-again Inv-loop μ-loop
+loop-again c = (turn-more (edgesIn (c .before .before .before .before .before .before .before .before .before .before .before .before .before .before .before .before .before .before .before .before .before .before .before .before .before .before .before .before .before .before .before .before .before .before .before .before .args .rows .now)) (c .before .before .before .before .before .before .before .before .before .before .before .before .before .before .before .before .before .before .before .before .before .before .before .before .before .before .before .before .before .before .before .before .before .before .before .before .args .n) (c .before .before .before .before .before .before .before .before .before .before .before .before .before .before .before .before .before .before .before .before .before .before .before .before .before .before .before .before .before .before .before .before .before .before .before .before .args .source) (c .before .before .before .before .before .before .before .before .before .before .before .before .before .before .before .before .before .before .before .before .before .before .before .before .before .before .before .before .before .before .before .before .before .before .before .before .pre .2) (c .before .before .before .before .before .before .before .before .before .before .before .before .before .before .before .before .before .before .before .before .before .before .before .before .before .before .before .before .before .before .before .before .before .before .before .before .pre .0) (c .before .before .before .before .before .before .before .before .before .before .before .before .before .before .before .before .before .before .before .before .loop .k) _ _ _ _ _ _ _ _ (c .before .before .before .before .before .before .before .before .before .before .before .before .before .before .before .before .before .before .before .before .loop .inv .0) (c .before .before .before .before .before .before .before .before .before .before .before .before .mark-layer .ensures .0) (c .before .before .before .before .before .before .before .before .before .before .before .before .mark-layer .ensures .1) (c .before .before .before .before .before .write-intersection .ensures) (c .before .subtract .ensures), omega (arith, (c .before .before .before .before .before .before .before .before .before .before .before .before .before .before .before .before .before .before .before .loop-test .taken)), (c .before .before .before .before .before .write-intersection .kept .1 .1 .0) ∙ (c .before .before .before .before .before .before .before .before .before .before .before .before .before .before .before .before .before .before .before .before .loop .inv .2), (c .before .subtract .kept .0) ∙ (c .before .before .before .before .before .before .before .before .before .before .before .before .before .before .before .before .before .before .before .before .loop .inv .3), (c .before .before .before .before .before .before .before .before .before .before .before .before .mark-layer .kept .1 .1 .1 .1 .0) ∙ (c .before .before .before .before .before .before .before .before .before .before .before .before .before .before .before .before .before .before .before .before .loop .inv .4))
+
+same-length-2 : tie.Need-same-length-2 Inv-loop μ-loop
+same-length-2 c = ((c .before .loop .inv .0)) .size ∙ sym (c .before .before .before .before .before .before .before .before .before .before .before .before .before .before .before .before .before .pre .3)
+
+returns-2 : tie.Need-returns-2 Inv-loop μ-loop
+returns-2 c = turn-end (edgesIn (c .before .before .before .before .before .before .before .before .before .before .before .before .before .before .before .before .before .args .rows .now)) (c .before .before .before .before .before .before .before .before .before .before .before .before .before .before .before .before .before .args .n) (c .before .before .before .before .before .before .before .before .before .before .before .before .before .before .before .before .before .args .source) (c .before .before .before .before .before .before .before .before .before .before .before .before .before .before .before .before .before .pre .2) (c .before .before .before .before .before .before .before .before .before .before .before .before .before .before .before .before .before .pre .0) (c .before .loop .k) _ _ _ _ (omega (arith, (c .before .loop .inv .1), (c .loop-test .left))) (c .before .loop .inv .0)
+
+pub search-spec : {M : Type 1} → statement M
+search-spec =
+    tie.close
+    (tie.spec
+    Inv-loop
+    μ-loop
+    fill16-requires
+    slice-aggregate-insert
+    insert-requires
+    slice-aggregate-insert-below
+    insert-below-requires
+    slice-aggregate-remove
+    remove-requires
+    loop-holds
+    slice-aggregate-smallest
+    smallest-requires
+    same-length
+    returns
+    slice-aggregate-mark-layer
+    cast-mark-layer
+    slice-aggregate-mark-layer-2
+    mark-layer-requires
+    slice-aggregate-write-intersection
+    slice-aggregate-write-intersection-2
+    slice-aggregate-write-intersection-3
+    write-intersection-requires
+    slice-aggregate-subtract
+    slice-aggregate-subtract-2
+    subtract-requires
+    add-k
+    loop-less
+    loop-again
+    same-length-2
+    returns-2)

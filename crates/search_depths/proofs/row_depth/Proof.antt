@@ -1,0 +1,56 @@
+-- `search_depths::row_depth` meets its contract: the greatest so far, and that of what is left, are the greatest of all.
+-- Assumes nothing.
+use mathlib.Core.Path.{_≡_, sym, subst}
+use Prim.Native.Nat.{ℕ, _+_, _-_, _≤_, max}
+use native.Mathlib.Omega.{arith}
+use lib.ListN.{length, drop}
+use Rattle.search_depths.specs.Depth.{greatest}
+use Rattle.search_depths.proofs.Depths.{row-turn, row-end}
+use borrow.Author.Needs.{needs}
+use Rattle.search_depths.proofs.row_depth.Statement.{statement}
+use Rattle.search_depths.proofs.row_depth.Tie as tie
+
+abbrev Inv-loop : tie.InvT-loop
+Inv-loop row most₀ i₀ most i = (i ≤ length row) × (max most (greatest (drop i row)) ≡ greatest row)
+
+abbrev μ-loop : tie.MeasureT-loop
+μ-loop row most₀ i₀ most i = length row - i
+
+loop-holds : tie.Need-loop-holds Inv-loop μ-loop
+loop-holds c = (omega arith, omega arith)
+
+mul-greater : tie.Need-mul-greater Inv-loop μ-loop
+mul-greater c = search needs
+
+shared-slice-read-greater : tie.Need-shared-slice-read-greater Inv-loop μ-loop
+shared-slice-read-greater c = search needs
+
+greater-requires : tie.Need-greater-requires Inv-loop μ-loop
+greater-requires c κs = search needs
+
+add-i : tie.Need-add-i Inv-loop μ-loop
+add-i c = search needs
+
+loop-less : tie.Need-loop-less Inv-loop μ-loop
+loop-less c = search needs
+
+loop-again : tie.Need-loop-again Inv-loop μ-loop
+loop-again c = (omega arith, subst (λ (m : ℕ). max m (greatest (drop ((c .before .before .before .loop .i) + 1) ((c .before .before .before .before .before .args .row .now)))) ≡ greatest ((c .before .before .before .before .before .args .row .now))) (sym ((c .greater .ensures))) (row-turn ((c .before .before .before .before .before .args .row .now)) ((c .before .before .before .loop .i)) ((c .before .before .before .loop .most)) ((c .before .before .loop-test .taken)) ((c .before .before .before .loop .inv .1))))
+
+returns : tie.Need-returns Inv-loop μ-loop
+returns c = row-end ((c .before .before .before .args .row .now)) ((c .before .loop .i)) ((c .before .loop .most)) ((c .loop-test .left)) ((c .before .loop .inv .1))
+
+pub row-depth-spec : {M : Type 1} → statement M
+row-depth-spec =
+    tie.close
+    (tie.spec
+    Inv-loop
+    μ-loop
+    loop-holds
+    mul-greater
+    shared-slice-read-greater
+    greater-requires
+    add-i
+    loop-less
+    loop-again
+    returns)

@@ -1,0 +1,66 @@
+-- `search_matrix::link_list` meets its contract: the links that are in the matrix and those to the rest of the list are all of them.
+-- Assumes nothing.
+use mathlib.Core.Path.{sym, _∙_}
+use Prim.Native.Nat.{_-_}
+use native.Mathlib.Omega.{arith}
+use lib.ListN.{length}
+use Rattle.model.proofs.Ascending.{getD-has}
+use Rattle.base_nodeset.specs.NodeSet.{member}
+use Rattle.base_nodeset.specs.Matrix.{edgesIn}
+use Rattle.search_matrix.proofs.LinkPutting.{Linking, linking-none, linking-more, linking-all}
+use borrow.Author.Needs.{needs}
+use Rattle.search_matrix.proofs.link_list.Statement.{statement}
+use Rattle.search_matrix.proofs.link_list.Tie as tie
+
+abbrev Inv-loop : tie.InvT-loop
+Inv-loop v list allowed rows₀ i₀ rows i = Linking v list (member allowed) (edgesIn rows₀) rows i
+
+abbrev μ-loop : tie.MeasureT-loop
+μ-loop v list allowed rows₀ i₀ rows i = length list - i
+
+loop-holds : tie.Need-loop-holds Inv-loop μ-loop
+loop-holds c = linking-none (c .before .before .before .args .v) (c .before .before .before .args .list .now) (member (c .before .before .before .args .allowed .now)) (c .before .before .before .args .rows .now) (c .before .before .before .pre .2)
+
+mul-link : tie.Need-mul-link Inv-loop μ-loop
+mul-link c = search needs
+
+shared-slice-read-link : tie.Need-shared-slice-read-link Inv-loop μ-loop
+shared-slice-read-link c = search needs
+
+cast-link : tie.Need-cast-link Inv-loop μ-loop
+cast-link c = omega (arith, ((c .shared-slice-known3 .given)) (c .before .before .loop .i))
+
+link-requires : tie.Need-link-requires Inv-loop μ-loop
+link-requires c κs = ((c .before .before .before .before .before .before .before .pre .0), (c .before .before .before .before .before .before .before .pre .3) _ (getD-has (c .before .before .before .before .before .before .before .args .list .now) (c .before .before .before .loop .i) (c .before .before .loop-test .taken)), (c .before .before .before .before .before .before .before .pre .1), ((c .before .before .before .loop .inv)) .long)
+
+add-i : tie.Need-add-i Inv-loop μ-loop
+add-i c = search needs
+
+loop-less : tie.Need-loop-less Inv-loop μ-loop
+loop-less c = search needs
+
+loop-again : tie.Need-loop-again Inv-loop μ-loop
+loop-again c = linking-more (c .before .before .before .before .before .before .before .before .before .before .args .v) (c .before .before .before .before .before .before .before .before .before .before .args .list .now) (member (c .before .before .before .before .before .before .before .before .before .before .args .allowed .now)) (c .before .before .before .before .before .before .before .before .before .before .args .rows .now) _ _ (c .before .before .before .before .before .before .loop .inv) _ (c .before .before .before .before .before .loop-test .taken) ((c .before .before .link .kept .1 .1 .1 .0)) (c .before .before .link .ensures)
+
+same-length : tie.Need-same-length Inv-loop μ-loop
+same-length c = ((c .before .loop .inv)) .long ∙ sym (c .before .before .before .before .before .pre .2)
+
+returns : tie.Need-returns Inv-loop μ-loop
+returns c = linking-all (c .before .before .before .before .before .args .v) (c .before .before .before .before .before .args .list .now) (member (c .before .before .before .before .before .args .allowed .now)) (c .before .before .before .before .before .args .rows .now) _ _ (c .before .loop .inv) (c .loop-test .left)
+
+pub link-list-spec : {M : Type 1} → statement M
+link-list-spec =
+    tie.close
+    (tie.spec
+    Inv-loop
+    μ-loop
+    loop-holds
+    mul-link
+    shared-slice-read-link
+    cast-link
+    link-requires
+    add-i
+    loop-less
+    loop-again
+    same-length
+    returns)

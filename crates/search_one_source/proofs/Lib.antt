@@ -1,0 +1,2 @@
+pub mod Bfs
+pub mod QueueTurns

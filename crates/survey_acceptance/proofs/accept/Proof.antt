@@ -1,0 +1,41 @@
+-- `survey_acceptance::accept` meets its contract.
+-- Assumes nothing.
+use mathlib.Core.Path.{sym, _∙_}
+use native.Mathlib.Omega.{arith}
+use borrow.Author.Tests.{not-true, not-false}
+use borrow.Author.Tests.{lt-ltb, le-ltb}
+use Rattle.model.specs.Survey.{accepting}
+use Rattle.model.proofs.Acceptance.{good-size, small-size, large-size}
+use borrow.Author.Needs.{needs}
+use Rattle.survey_acceptance.proofs.accept.Statement.{statement}
+use Rattle.survey_acceptance.proofs.accept.Tie as tie
+
+returns : tie.Need-returns
+unfolding accepting
+returns c = rw (small-size (c .before .before .before .args .n) (c .if1 .taken))
+
+returns-2 : tie.Need-returns-2
+unfolding accepting
+returns-2 c = rw (large-size (c .before .before .before .before .args .n) (c .if2 .taken))
+
+add-if3 : tie.Need-add-if3
+add-if3 c = search needs
+
+returns-3 : tie.Need-returns-3
+unfolding accepting
+returns-3 c = rw (good-size (c .before .before .before .before .before .args .n) (omega arith) (omega arith), lt-ltb _ _ (c .if3 .taken))
+
+is-survey-requires : tie.Need-is-survey-requires
+is-survey-requires c κs = search needs
+
+returns-4 : tie.Need-returns-4
+unfolding accepting
+returns-4 c = rw (good-size (c .before .before .before .before .before .before .before .args .n) (omega arith) (omega arith), le-ltb _ _ (c .before .before .if3 .left), sym (c .before .is-survey .ensures) ∙ not-true _ (c .if4 .taken))
+
+returns-5 : tie.Need-returns-5
+unfolding accepting
+returns-5 c = rw (good-size (c .before .before .before .before .before .before .before .args .n) (omega arith) (omega arith), le-ltb _ _ (c .before .before .if3 .left), sym (c .before .is-survey .ensures) ∙ not-false _ (c .if4 .left))
+
+pub accept-spec : {M : Type 1} → statement M
+accept-spec =
+    tie.close (tie.spec returns returns-2 add-if3 returns-3 is-survey-requires returns-4 returns-5)

@@ -1,0 +1,127 @@
+-- `survey_acceptance::match_row` meets its contract: what is left of the row still says the whole pass.
+-- Assumes nothing.
+use mathlib.Core.Path.{_≡_, refl, sym, ap, _∙_}
+use mathlib.Core.Bool.{Bool, true}
+use Prim.Native.Nat.{_+_, _≤_, _-_}
+use native.Mathlib.Omega.{arith}
+use lib.Dec.{eqb}
+use lib.ListN.{length, getD, drop, set, length-set}
+use Rattle.survey_acceptance.proofs.Matching.{matchRow}
+use Rattle.survey_acceptance.proofs.Pass.{collected, match-end, match-low, match-high, match-past, match-next}
+use Rattle.survey_acceptance.proofs.Fitting.{fits-of}
+use borrow.Author.Needs.{needs}
+use Rattle.survey_acceptance.proofs.match_row.Statement.{statement}
+use Rattle.survey_acceptance.proofs.match_row.Tie as tie
+
+abbrev Inv-loop : tie.InvT-loop
+Inv-loop n last v row neighbours cursors₀ before₀ wrong₀ i₀ cursors before wrong i = (i ≤ length row) × (length cursors ≡ length cursors₀) × (matchRow neighbours last n v (eqb wrong 0) before (drop i row) cursors ≡ matchRow neighbours last n v true v row cursors₀)
+
+abbrev μ-loop : tie.MeasureT-loop
+μ-loop n last v row neighbours cursors₀ before₀ wrong₀ i₀ cursors before wrong i = length row - i
+
+loop-holds : tie.Need-loop-holds Inv-loop μ-loop
+loop-holds c = (omega arith, refl, refl)
+
+mul-x : tie.Need-mul-x Inv-loop μ-loop
+mul-x c = search needs
+
+shared-slice-read-x : tie.Need-shared-slice-read-x Inv-loop μ-loop
+shared-slice-read-x c = search needs
+
+cast-x : tie.Need-cast-x Inv-loop μ-loop
+cast-x c = omega (arith, (c .shared-slice-known .given) (c .before .before .loop .i))
+
+same-length : tie.Need-same-length Inv-loop μ-loop
+same-length c = (c .before .before .before .loop .inv .1)
+
+returns : tie.Need-returns Inv-loop μ-loop
+returns c = fits-of (c .before .before .before .before .args .neighbours .now) (c .before .before .before .before .args .last) (c .before .before .before .before .args .n) (c .before .before .before .before .args .v) (c .before .before .before .before .args .row .now) (c .before .before .before .before .args .cursors .now) (c .before .before .before .before .pre .0) _ _ (sym (match-low (c .before .before .before .before .args .neighbours .now) (c .before .before .before .before .args .last) (c .before .before .before .before .args .n) (c .before .before .before .before .args .v) (c .before .before .before .before .args .row .now) (eqb (c .before .before .before .loop .wrong) 0) (c .before .before .before .loop .before) (c .before .before .before .loop .i) (c .before .before .before .loop .cursors) (c .before .before .loop-test .taken) (omega (arith, (c .if1 .taken)))) ∙ (c .before .before .before .loop .inv .2))
+
+same-length-2 : tie.Need-same-length-2 Inv-loop μ-loop
+same-length-2 c = (c .before .before .before .before .loop .inv .1)
+
+returns-2 : tie.Need-returns-2 Inv-loop μ-loop
+returns-2 c = fits-of (c .before .before .before .before .before .args .neighbours .now) (c .before .before .before .before .before .args .last) (c .before .before .before .before .before .args .n) (c .before .before .before .before .before .args .v) (c .before .before .before .before .before .args .row .now) (c .before .before .before .before .before .args .cursors .now) (c .before .before .before .before .before .pre .0) _ _ (sym (match-high (c .before .before .before .before .before .args .neighbours .now) (c .before .before .before .before .before .args .last) (c .before .before .before .before .before .args .n) (c .before .before .before .before .before .args .v) (c .before .before .before .before .before .args .row .now) (eqb (c .before .before .before .before .loop .wrong) 0) (c .before .before .before .before .loop .before) (c .before .before .before .before .loop .i) (c .before .before .before .before .loop .cursors) (c .before .before .before .loop-test .taken) (omega (arith, (c .before .if1 .left))) (c .if2 .taken)) ∙ (c .before .before .before .before .loop .inv .2))
+
+mul-at : tie.Need-mul-at Inv-loop μ-loop
+mul-at c = search needs
+
+slice-read-at : tie.Need-slice-read-at Inv-loop μ-loop
+slice-read-at c = omega (arith, (c .before .before .before .before .before .loop .inv .1))
+
+cast-at : tie.Need-cast-at Inv-loop μ-loop
+cast-at c = omega (arith, (c .slice-known .given) (getD (c .before .before .before .before .before .before .args .row .now) (c .before .before .before .before .before .loop .i) 0))
+
+same-length-3 : tie.Need-same-length-3 Inv-loop μ-loop
+same-length-3 c = (c .before .before .before .before .before .before .loop .inv .1)
+
+returns-3 : tie.Need-returns-3 Inv-loop μ-loop
+returns-3 c = fits-of (c .before .before .before .before .before .before .before .args .neighbours .now) (c .before .before .before .before .before .before .before .args .last) (c .before .before .before .before .before .before .before .args .n) (c .before .before .before .before .before .before .before .args .v) (c .before .before .before .before .before .before .before .args .row .now) (c .before .before .before .before .before .before .before .args .cursors .now) (c .before .before .before .before .before .before .before .pre .0) _ _ (sym (match-past (c .before .before .before .before .before .before .before .args .neighbours .now) (c .before .before .before .before .before .before .before .args .last) (c .before .before .before .before .before .before .before .args .n) (c .before .before .before .before .before .before .before .args .v) (c .before .before .before .before .before .before .before .args .row .now) (eqb (c .before .before .before .before .before .before .loop .wrong) 0) (c .before .before .before .before .before .before .loop .before) (c .before .before .before .before .before .before .loop .i) (c .before .before .before .before .before .before .loop .cursors) (c .before .before .before .before .before .loop-test .taken) (omega (arith, (c .before .before .before .if1 .left))) (c .before .before .if2 .left) (c .if3 .taken)) ∙ (c .before .before .before .before .before .before .loop .inv .2))
+
+mul-wrong : tie.Need-mul-wrong Inv-loop μ-loop
+mul-wrong c = omega (arith, (c .before .slice-known .given) (getD (c .before .before .before .before .before .before .before .args .row .now) (c .before .before .before .before .before .before .loop .i) 0))
+
+shared-slice-read-wrong : tie.Need-shared-slice-read-wrong Inv-loop μ-loop
+shared-slice-read-wrong c = omega (arith, (c .before .if3 .left))
+
+cast-wrong : tie.Need-cast-wrong Inv-loop μ-loop
+cast-wrong c = omega (arith, (c .shared-slice-known2 .given) (getD (c .before .before .before .before .before .before .before .loop .cursors) (getD (c .before .before .before .before .before .before .before .before .args .row .now) (c .before .before .before .before .before .before .before .loop .i) 0) 0))
+
+add-cursors : tie.Need-add-cursors Inv-loop μ-loop
+add-cursors c = omega (arith, (c .before .before .slice-known .given) (getD (c .before .before .before .before .before .before .before .before .args .row .now) (c .before .before .before .before .before .before .before .loop .i) 0))
+
+cast-cursors : tie.Need-cast-cursors Inv-loop μ-loop
+cast-cursors c = omega (arith, (c .before .if3 .left))
+
+mul-cursors : tie.Need-mul-cursors Inv-loop μ-loop
+mul-cursors c = search needs
+
+slice-write-cursors : tie.Need-slice-write-cursors Inv-loop μ-loop
+slice-write-cursors c = omega (arith, (c .before .before .before .before .before .before .before .loop .inv .1), (c .before .before .before .if2 .left))
+
+add-i : tie.Need-add-i Inv-loop μ-loop
+add-i c = search needs
+
+loop-less : tie.Need-loop-less Inv-loop μ-loop
+loop-less c = search needs
+
+loop-again : tie.Need-loop-again Inv-loop μ-loop
+loop-again c = (omega arith, length-set (c .before .before .before .before .before .before .before .loop .cursors) (getD (c .before .before .before .before .before .before .before .before .args .row .now) (c .before .before .before .before .before .before .before .loop .i) 0) (getD (c .before .before .before .before .before .before .before .loop .cursors) (getD (c .before .before .before .before .before .before .before .before .args .row .now) (c .before .before .before .before .before .before .before .loop .i) 0) 0 + 1) ∙ (c .before .before .before .before .before .before .before .loop .inv .1), ap (λ (g : Bool). matchRow (c .before .before .before .before .before .before .before .before .args .neighbours .now) (c .before .before .before .before .before .before .before .before .args .last) (c .before .before .before .before .before .before .before .before .args .n) (c .before .before .before .before .before .before .before .before .args .v) g (getD (c .before .before .before .before .before .before .before .before .args .row .now) (c .before .before .before .before .before .before .before .loop .i) 0) (drop ((c .before .before .before .before .before .before .before .loop .i) + 1) (c .before .before .before .before .before .before .before .before .args .row .now)) (set (c .before .before .before .before .before .before .before .loop .cursors) (getD (c .before .before .before .before .before .before .before .before .args .row .now) (c .before .before .before .before .before .before .before .loop .i) 0) (getD (c .before .before .before .before .before .before .before .loop .cursors) (getD (c .before .before .before .before .before .before .before .before .args .row .now) (c .before .before .before .before .before .before .before .loop .i) 0) 0 + 1))) (collected (c .before .before .before .before .before .before .before .loop .wrong) (getD (c .before .before .before .before .before .before .before .before .args .neighbours .now) (getD (c .before .before .before .before .before .before .before .loop .cursors) (getD (c .before .before .before .before .before .before .before .before .args .row .now) (c .before .before .before .before .before .before .before .loop .i) 0) 0) 0) (c .before .before .before .before .before .before .before .before .args .v)) ∙ sym (match-next (c .before .before .before .before .before .before .before .before .args .neighbours .now) (c .before .before .before .before .before .before .before .before .args .last) (c .before .before .before .before .before .before .before .before .args .n) (c .before .before .before .before .before .before .before .before .args .v) (c .before .before .before .before .before .before .before .before .args .row .now) (eqb (c .before .before .before .before .before .before .before .loop .wrong) 0) (c .before .before .before .before .before .before .before .loop .before) (c .before .before .before .before .before .before .before .loop .i) (c .before .before .before .before .before .before .before .loop .cursors) (c .before .before .before .before .before .before .loop-test .taken) (omega (arith, (c .before .before .before .before .if1 .left))) (c .before .before .before .if2 .left) (c .before .if3 .left)) ∙ (c .before .before .before .before .before .before .before .loop .inv .2))
+
+same-length-4 : tie.Need-same-length-4 Inv-loop μ-loop
+same-length-4 c = (c .before .loop .inv .1)
+
+returns-4 : tie.Need-returns-4 Inv-loop μ-loop
+returns-4 c = fits-of (c .before .before .args .neighbours .now) (c .before .before .args .last) (c .before .before .args .n) (c .before .before .args .v) (c .before .before .args .row .now) (c .before .before .args .cursors .now) (c .before .before .pre .0) _ _ (sym (match-end (c .before .before .args .neighbours .now) (c .before .before .args .last) (c .before .before .args .n) (c .before .before .args .v) (c .before .before .args .row .now) (eqb (c .before .loop .wrong) 0) (c .before .loop .before) (c .before .loop .i) (c .before .loop .cursors) (c .loop-test .left)) ∙ (c .before .loop .inv .2))
+
+pub match-row-spec : {M : Type 1} → statement M
+match-row-spec =
+    tie.close
+    (tie.spec
+    Inv-loop
+    μ-loop
+    loop-holds
+    mul-x
+    shared-slice-read-x
+    cast-x
+    same-length
+    returns
+    same-length-2
+    returns-2
+    mul-at
+    slice-read-at
+    cast-at
+    same-length-3
+    returns-3
+    mul-wrong
+    shared-slice-read-wrong
+    cast-wrong
+    add-cursors
+    cast-cursors
+    mul-cursors
+    slice-write-cursors
+    add-i
+    loop-less
+    loop-again
+    same-length-4
+    returns-4)

@@ -1,0 +1,137 @@
+-- `survey_acceptance::match_rows` meets its contract: what is left of the rows still says the whole.
+-- Assumes nothing.
+use mathlib.Core.Path.{_≡_, refl, sym, _∙_, ap}
+use mathlib.Core.Bool.{true}
+use Prim.Native.Nat.{ℕ, _+_, _≤_, _-_}
+use native.Mathlib.Nat.{sub-zero}
+use native.Mathlib.Omega.{arith}
+use borrow.Author.Tests.{not-true, not-false}
+use lib.ListN.{length, getD}
+use Rattle.survey_acceptance.proofs.Matching.{left, Pass, matchRows}
+use Rattle.survey_neighbours.proofs.RowLaws.{start-within}
+use Rattle.survey_acceptance.proofs.Pass.{rows-end, rows-past, rows-bad, rows-next}
+use Rattle.survey_acceptance.proofs.Fitting.{match-fits, of-fits}
+use Rattle.survey_acceptance.proofs.SurveyTest.{only-matching}
+use borrow.Author.Needs.{needs}
+use Rattle.survey_acceptance.proofs.match_rows.Statement.{statement}
+use Rattle.survey_acceptance.proofs.match_rows.Tie as tie
+
+abbrev Inv-loop : tie.InvT-loop
+Inv-loop n starts neighbours cursors₀ last v₀ cursors v = (v ≤ n) × (length cursors ≡ length cursors₀) × (matchRows starts neighbours n (n - v) v cursors ≡ matchRows starts neighbours n n 0 cursors₀)
+
+abbrev μ-loop : tie.MeasureT-loop
+μ-loop n starts neighbours cursors₀ last v₀ cursors v = n - v
+
+mul-last : tie.Need-mul-last Inv-loop μ-loop
+mul-last c = omega (arith, (c .before .before .before .pre .0 .0 .room), (c .before .before .before .pre .0 .0 .few))
+
+shared-slice-read-last : tie.Need-shared-slice-read-last Inv-loop μ-loop
+shared-slice-read-last c = omega (arith, (c .before .before .before .before .pre .0 .0 .room))
+
+cast-last : tie.Need-cast-last Inv-loop μ-loop
+cast-last c = omega (arith, (c .shared-slice-known3 .given) (c .before .before .before .before .args .n))
+
+loop-holds : tie.Need-loop-holds Inv-loop μ-loop
+loop-holds c = (omega arith, refl, ap (λ (k : ℕ). matchRows (c .before .before .before .before .args .starts .now) (c .before .before .before .before .args .neighbours .now) (c .before .before .before .before .args .n) k 0 (c .before .before .before .before .args .cursors .now)) (sub-zero (c .before .before .before .before .args .n)))
+
+mul-at : tie.Need-mul-at Inv-loop μ-loop
+mul-at c = omega (arith, (c .before .before .before .before .before .before .pre .0 .0 .few))
+
+slice-read-at : tie.Need-slice-read-at Inv-loop μ-loop
+slice-read-at c = omega (arith, (c .before .before .loop .inv .1))
+
+cast-at : tie.Need-cast-at Inv-loop μ-loop
+cast-at c = omega (arith, (c .slice-known2 .given) (c .before .before .loop .v))
+
+add-end : tie.Need-add-end Inv-loop μ-loop
+add-end c = omega (arith, (c .before .before .before .before .before .before .before .pre .0 .0 .few))
+
+mul-end : tie.Need-mul-end Inv-loop μ-loop
+mul-end c = omega (arith, (c .before .before .before .before .before .before .before .pre .0 .0 .few))
+
+shared-slice-read-end : tie.Need-shared-slice-read-end Inv-loop μ-loop
+shared-slice-read-end c = omega (arith, (c .before .before .before .before .before .before .before .before .pre .0 .0 .room))
+
+cast-end : tie.Need-cast-end Inv-loop μ-loop
+cast-end c = omega (arith, (c .shared-slice-known4 .given) ((c .before .before .before .loop .v) + 1))
+
+same-length : tie.Need-same-length Inv-loop μ-loop
+same-length c = (c .before .before .before .before .loop .inv .1)
+
+returns : tie.Need-returns Inv-loop μ-loop
+returns c = ap (λ (p : Pass). p .good) (sym (rows-past (c .before .before .before .before .before .before .before .before .before .args .starts .now) (c .before .before .before .before .before .before .before .before .before .args .neighbours .now) (c .before .before .before .before .before .before .before .before .before .args .n) (c .before .before .before .before .loop .v) (c .before .before .before .before .loop .cursors) (c .before .before .before .loop-test .taken) (c .if1 .taken)) ∙ (c .before .before .before .before .loop .inv .2)) ∙ only-matching (c .before .before .before .before .before .before .before .before .before .args .n) (c .before .before .before .before .before .before .before .before .before .args .starts .now) (c .before .before .before .before .before .before .before .before .before .args .neighbours .now) (c .before .before .before .before .before .before .before .before .before .pre .0 .0) (c .before .before .before .before .before .before .before .before .before .pre .0 .1) (c .before .before .before .before .before .before .before .before .before .pre .0 .2) (c .before .before .before .before .before .before .before .before .before .args .cursors .now) (c .before .before .before .before .before .before .before .before .before .pre .1 .0) (c .before .before .before .before .before .before .before .before .before .pre .1 .1)
+
+mul-match-row : tie.Need-mul-match-row Inv-loop μ-loop
+mul-match-row c = omega (arith, (c .before .before .slice-known2 .given) (c .before .before .before .before .loop .v))
+
+part-match-row-start : tie.Need-part-match-row-start Inv-loop μ-loop
+part-match-row-start c = (c .if1 .left)
+
+part-match-row-end : tie.Need-part-match-row-end Inv-loop μ-loop
+part-match-row-end c = start-within (c .before .before .before .before .before .before .before .before .before .args .n) (c .before .before .before .before .before .before .before .before .before .args .starts .now) (c .before .before .before .before .before .before .before .before .before .args .neighbours .now) (c .before .before .before .before .before .before .before .before .before .pre .0 .0) ((c .before .before .before .before .loop .v) + 1) (omega arith)
+
+match-row-requires : tie.Need-match-row-requires Inv-loop μ-loop
+match-row-requires c κs = (omega (arith, (c .before .before .before .before .before .before .loop .inv .1)), omega arith, (c .before .before .before .before .before .before .before .before .before .before .before .pre .0 .0 .within))
+
+same-length-2 : tie.Need-same-length-2 Inv-loop μ-loop
+same-length-2 c = (c .before .before .before .match-row .kept .1 .1 .1 .1 .1 .0) ∙ (c .before .before .before .before .before .before .before .before .before .before .loop .inv .1)
+
+returns-2 : tie.Need-returns-2 Inv-loop μ-loop
+unfolding left
+returns-2 c = sym (ap (λ (p : Pass). p .good) (sym (c .before .before .before .before .before .before .before .before .before .before .loop .inv .2))
+    ∙ rows-bad (c .before .before .before .before .before .before .before .before .before .before .before .before .before .before .before .args .starts .now) (c .before .before .before .before .before .before .before .before .before .before .before .before .before .before .before .args .neighbours .now) (c .before .before .before .before .before .before .before .before .before .before .before .before .before .before .before .args .n) (c .before .before .before .before .before .before .before .before .before .before .loop .v) (c .before .before .before .before .before .before .before .before .before .before .loop .cursors) (c .before .before .before .before .before .before .before .before .before .loop-test .taken) (c .before .before .before .before .before .before .if1 .left)
+    (match-fits (c .before .before .before .before .before .before .before .before .before .before .before .before .before .before .before .args .neighbours .now) (getD (c .before .before .before .before .before .before .before .before .before .before .before .before .before .before .before .args .starts .now) (c .before .before .before .before .before .before .before .before .before .before .before .before .before .before .before .args .n) 0) (c .before .before .before .before .before .before .before .before .before .before .before .before .before .before .before .args .n) (c .before .before .before .before .before .before .before .before .before .before .loop .v) (left (c .before .before .before .before .before .before .before .before .before .before .before .before .before .before .before .args .starts .now) (c .before .before .before .before .before .before .before .before .before .before .before .before .before .before .before .args .neighbours .now) (c .before .before .before .before .before .before .before .before .before .before .loop .cursors) (c .before .before .before .before .before .before .before .before .before .before .loop .v)) (c .before .before .before .before .before .before .before .before .before .before .loop .cursors) ∙ sym (c .before .before .before .match-row .ensures .0) ∙ not-true _ (c .if2 .taken)))
+    ∙ only-matching (c .before .before .before .before .before .before .before .before .before .before .before .before .before .before .before .args .n) (c .before .before .before .before .before .before .before .before .before .before .before .before .before .before .before .args .starts .now) (c .before .before .before .before .before .before .before .before .before .before .before .before .before .before .before .args .neighbours .now) (c .before .before .before .before .before .before .before .before .before .before .before .before .before .before .before .pre .0 .0) (c .before .before .before .before .before .before .before .before .before .before .before .before .before .before .before .pre .0 .1) (c .before .before .before .before .before .before .before .before .before .before .before .before .before .before .before .pre .0 .2) (c .before .before .before .before .before .before .before .before .before .before .before .before .before .before .before .args .cursors .now) (c .before .before .before .before .before .before .before .before .before .before .before .before .before .before .before .pre .1 .0) (c .before .before .before .before .before .before .before .before .before .before .before .before .before .before .before .pre .1 .1)
+
+add-v : tie.Need-add-v Inv-loop μ-loop
+add-v c = search needs
+
+loop-less : tie.Need-loop-less Inv-loop μ-loop
+loop-less c = search needs
+
+loop-again : tie.Need-loop-again Inv-loop μ-loop
+unfolding left
+loop-again c = let g : (c .before .before .before .match-row .result) ≡ true = not-false _ (c .if2 .left) in (
+  omega arith,
+  (c .before .before .before .match-row .kept .1 .1 .1 .1 .1 .0) ∙ (c .before .before .before .before .before .before .before .before .before .before .loop .inv .1),
+  sym (rows-next (c .before .before .before .before .before .before .before .before .before .before .before .before .before .before .before .args .starts .now) (c .before .before .before .before .before .before .before .before .before .before .before .before .before .before .before .args .neighbours .now) (c .before .before .before .before .before .before .before .before .before .before .before .before .before .before .before .args .n) (c .before .before .before .before .before .before .before .before .before .before .loop .v) (c .before .before .before .before .before .before .before .before .before .before .loop .cursors) (c .before .before .before .before .before .before .before .before .before .loop-test .taken) (c .before .before .before .before .before .before .if1 .left) true (c .before .before .before .match-row .last .1 .1 .1 .1 .1 .0)
+      (of-fits (c .before .before .before .before .before .before .before .before .before .before .before .before .before .before .before .args .neighbours .now) (getD (c .before .before .before .before .before .before .before .before .before .before .before .before .before .before .before .args .starts .now) (c .before .before .before .before .before .before .before .before .before .before .before .before .before .before .before .args .n) 0) (c .before .before .before .before .before .before .before .before .before .before .before .before .before .before .before .args .n) (c .before .before .before .before .before .before .before .before .before .before .loop .v) (left (c .before .before .before .before .before .before .before .before .before .before .before .before .before .before .before .args .starts .now) (c .before .before .before .before .before .before .before .before .before .before .before .before .before .before .before .args .neighbours .now) (c .before .before .before .before .before .before .before .before .before .before .loop .cursors) (c .before .before .before .before .before .before .before .before .before .before .loop .v)) (c .before .before .before .before .before .before .before .before .before .before .loop .cursors) (c .before .before .before .match-row .last .1 .1 .1 .1 .1 .0) (omega (arith, (c .before .before .before .before .before .before .before .before .before .before .loop .inv .1), (c .before .before .before .before .before .before .before .before .before .before .before .before .before .before .before .pre .1 .0))) (c .before .before .before .match-row .kept .1 .1 .1 .1 .1 .0)
+      (sym (c .before .before .before .match-row .ensures .0) ∙ g) ((c .before .before .before .match-row .ensures .1) g)) refl) ∙ (c .before .before .before .before .before .before .before .before .before .before .loop .inv .2),
+)
+
+same-length-3 : tie.Need-same-length-3 Inv-loop μ-loop
+same-length-3 c = (c .before .loop .inv .1)
+
+returns-3 : tie.Need-returns-3 Inv-loop μ-loop
+returns-3 c = ap (λ (p : Pass). p .good) (sym (rows-end (c .before .before .before .before .before .before .args .starts .now) (c .before .before .before .before .before .before .args .neighbours .now) (c .before .before .before .before .before .before .args .n) (c .before .loop .v) (c .before .loop .cursors) (c .loop-test .left)) ∙ (c .before .loop .inv .2)) ∙ only-matching (c .before .before .before .before .before .before .args .n) (c .before .before .before .before .before .before .args .starts .now) (c .before .before .before .before .before .before .args .neighbours .now) (c .before .before .before .before .before .before .pre .0 .0) (c .before .before .before .before .before .before .pre .0 .1) (c .before .before .before .before .before .before .pre .0 .2) (c .before .before .before .before .before .before .args .cursors .now) (c .before .before .before .before .before .before .pre .1 .0) (c .before .before .before .before .before .before .pre .1 .1)
+
+pub match-rows-spec : {M : Type 1} → statement M
+match-rows-spec =
+    tie.close
+    (tie.spec
+    Inv-loop
+    μ-loop
+    mul-last
+    shared-slice-read-last
+    cast-last
+    loop-holds
+    mul-at
+    slice-read-at
+    cast-at
+    add-end
+    mul-end
+    shared-slice-read-end
+    cast-end
+    same-length
+    returns
+    mul-match-row
+    part-match-row-start
+    part-match-row-end
+    match-row-requires
+    same-length-2
+    returns-2
+    add-v
+    loop-less
+    loop-again
+    same-length-3
+    returns-3)

@@ -1,0 +1,24 @@
+-- `survey_writing::link_length` meets its contract.
+-- Assumes nothing.
+use mathlib.Core.Path.{sym, ap, _∙_}
+use native.Mathlib.Omega.{arith}
+use lib.ListN.{length}
+use Rattle.survey_writing.proofs.LineLaws.{line-left, line-taken}
+use borrow.Author.Needs.{needs}
+use Rattle.survey_writing.proofs.link_length.Statement.{statement}
+use Rattle.survey_writing.proofs.link_length.Tie as tie
+
+cast-line-length : tie.Need-cast-line-length
+cast-line-length c = search needs
+
+line-length-requires : tie.Need-line-length-requires
+line-length-requires c κs = search needs
+
+returns : tie.Need-returns
+returns c = (((c .line-length .ensures .0)) 76 ∙ ap length (sym (line-taken ((c .before .before .args .a)) ((c .before .before .args .b)) ((c .before .if1 .taken)))), (c .line-length .ensures .1))
+
+returns-2 : tie.Need-returns-2
+returns-2 c = (ap length (sym (line-left ((c .before .args .a)) ((c .before .args .b)) ((c .if1 .left)))), omega arith)
+
+pub link-length-spec : {M : Type 1} → statement M
+link-length-spec = tie.close (tie.spec cast-line-length line-length-requires returns returns-2)

@@ -1,0 +1,58 @@
+-- `survey_writing::row_length` meets its contract: the bytes counted and those of the lines left are all.
+-- Assumes nothing.
+use Prim.Native.Nat.{_-_, _≤_}
+use native.Mathlib.Omega.{arith}
+use lib.ListN.{length, drop}
+use Rattle.survey_writing.specs.LinkLines.{linesOf}
+use Rattle.survey_writing.proofs.LineLaws.{Counted, row-none, row-more, row-done}
+use Rattle.survey_writing.proofs.row_length.Statement.{statement}
+use Rattle.survey_writing.proofs.row_length.Tie as tie
+
+abbrev Inv-loop : tie.InvT-loop
+Inv-loop a row total₀ i₀ total i = (i ≤ length row) × Counted total i (linesOf a row) (linesOf a (drop i row))
+
+abbrev μ-loop : tie.MeasureT-loop
+μ-loop a row total₀ i₀ total i = length row - i
+
+loop-holds : tie.Need-loop-holds Inv-loop μ-loop
+loop-holds c = (omega arith, row-none ((c .before .args .a)) ((c .before .args .row .now)))
+
+mul-link-length : tie.Need-mul-link-length Inv-loop μ-loop
+mul-link-length c = omega arith
+
+shared-slice-read-link-length : tie.Need-shared-slice-read-link-length Inv-loop μ-loop
+shared-slice-read-link-length c = omega arith
+
+link-length-requires : tie.Need-link-length-requires Inv-loop μ-loop
+link-length-requires c κs = omega arith
+
+add-total : tie.Need-add-total Inv-loop μ-loop
+add-total c = omega (arith, (c .before .before .before .loop .inv .1 .few), (c .link-length .ensures .1), (c .before .before .before .before .before .pre .1))
+
+add-i : tie.Need-add-i Inv-loop μ-loop
+add-i c = omega arith
+
+loop-less : tie.Need-loop-less Inv-loop μ-loop
+loop-less c = omega arith
+
+loop-again : tie.Need-loop-again Inv-loop μ-loop
+loop-again c = (omega arith, row-more ((c .before .before .before .before .before .args .a)) ((c .before .before .before .before .before .args .row .now)) ((c .before .before .before .loop .total)) ((c .before .before .before .loop .i)) _ ((c .before .before .loop-test .taken)) ((c .before .before .before .loop .inv .1)) ((c .link-length .ensures)))
+
+returns : tie.Need-returns Inv-loop μ-loop
+returns c = row-done ((c .before .before .before .args .a)) ((c .before .before .before .args .row .now)) ((c .before .loop .total)) ((c .before .loop .i)) ((c .loop-test .left)) ((c .before .loop .inv .0)) ((c .before .loop .inv .1))
+
+pub row-length-spec : {M : Type 1} → statement M
+row-length-spec =
+    tie.close
+    (tie.spec
+    Inv-loop
+    μ-loop
+    loop-holds
+    mul-link-length
+    shared-slice-read-link-length
+    link-length-requires
+    add-total
+    add-i
+    loop-less
+    loop-again
+    returns)

@@ -1,0 +1,76 @@
+-- `survey_writing::write_text` meets its contract: the rows written and those left are all.
+-- Assumes nothing.
+use mathlib.Core.Path.{sym, subst}
+use mathlib.Core.List.{List}
+use Prim.Native.Nat.{ℕ, _+_, _-_, _≤_}
+use native.Mathlib.Omega.{arith}
+use lib.ListN.{length}
+use Rattle.base_lists.specs.Written.{Wrote}
+use Rattle.base_lists.proofs.Written.{Left, left-all}
+use Rattle.model.specs.Survey.{neighboursOf}
+use Rattle.survey_neighbours.proofs.RowLaws.{rows-of}
+use Rattle.survey_writing.specs.LinkLines.{linesOf}
+use Rattle.survey_writing.proofs.LineLaws.{rowsFrom, all-room, next-room, next-written, rows-length, text-written}
+use Rattle.survey_writing.proofs.write_text.Statement.{statement}
+use Rattle.survey_writing.proofs.write_text.Tie as tie
+
+abbrev Inv-loop : tie.InvT-loop
+Inv-loop n starts neighbours buffer₀ pos₀ v₀ buffer pos v = (v ≤ n) × Left buffer₀ buffer pos₀ pos (rowsFrom n (neighboursOf starts neighbours) 0) (rowsFrom n (neighboursOf starts neighbours) v)
+
+abbrev μ-loop : tie.MeasureT-loop
+μ-loop n starts neighbours buffer₀ pos₀ v₀ buffer pos v = n - v
+
+cast-write-line : tie.Need-cast-write-line Inv-loop μ-loop
+cast-write-line c = omega (arith, (c .before .before .before .before .pre .0 .size))
+
+mul-write-line : tie.Need-mul-write-line Inv-loop μ-loop
+mul-write-line c = omega (arith, (c .before .before .before .before .pre .0 .size))
+
+shared-slice-read-write-line : tie.Need-shared-slice-read-write-line Inv-loop μ-loop
+shared-slice-read-write-line c = omega (arith, (c .before .before .before .before .before .pre .0 .room))
+
+write-line-requires : tie.Need-write-line-requires Inv-loop μ-loop
+write-line-requires c κs = omega (arith, all-room ((c .before .before .before .before .before .args .n)) ((c .before .before .before .before .before .args .starts .now)) ((c .before .before .before .before .before .args .neighbours .now)) ((c .before .before .before .before .before .pre .0)) ((c .before .before .before .before .before .args .buffer .now)) ((c .before .before .before .before .before .pre .1)))
+
+loop-holds : tie.Need-loop-holds Inv-loop μ-loop
+loop-holds c = (omega arith, left-all _ _ _)
+
+own-requires : tie.Need-own-requires Inv-loop μ-loop
+own-requires c κs = (rows-of ((c .before .before .before .before .before .before .before .before .before .before .pre .0)), (c .loop-test .taken))
+
+write-row-requires : tie.Need-write-row-requires Inv-loop μ-loop
+write-row-requires c κs = (omega (arith, (c .before .before .before .before .before .before .before .before .before .before .before .before .pre .0 .size), (c .before .before .loop-test .taken)), subst (λ (l : List ℕ). ((c .before .before .before .loop .pos)) + length (linesOf ((c .before .before .before .loop .v)) l) ≤ length ((c .before .before .before .loop .buffer))) (sym ((c .before .own .ensures))) (next-room ((c .before .before .before .before .before .before .before .before .before .before .before .before .args .n)) ((c .before .before .before .before .before .before .before .before .before .before .before .before .args .starts .now)) ((c .before .before .before .before .before .before .before .before .before .before .before .before .args .neighbours .now)) ((c .before .before .before .before .before .before .before .before .before .before .before .before .pre .0)) ((c .before .before .before .before .before .before .before .before .before .before .before .before .args .buffer .now)) ((c .before .before .before .before .before .before .before .before .before .before .before .before .pre .1)) ((c .before .before .before .before .before .before .write-line .last .0)) ((c .before .before .before .before .before .before .write-line .result)) ((c .before .before .before .before .before .before .write-line .ensures)) ((c .before .before .before .loop .buffer)) ((c .before .before .before .loop .pos)) ((c .before .before .before .loop .v)) ((c .before .before .before .loop .inv .1)) ((c .before .before .loop-test .taken))))
+
+add-v : tie.Need-add-v Inv-loop μ-loop
+add-v c = omega (arith, (c .before .before .before .before .before .before .before .before .before .before .before .before .before .before .before .pre .0 .size))
+
+loop-less : tie.Need-loop-less Inv-loop μ-loop
+loop-less c = omega arith
+
+loop-again : tie.Need-loop-again Inv-loop μ-loop
+loop-again c = (omega arith, next-written ((c .before .before .before .before .before .before .before .before .before .before .before .before .before .before .before .args .n)) ((c .before .before .before .before .before .before .before .before .before .before .before .before .before .before .before .args .starts .now)) ((c .before .before .before .before .before .before .before .before .before .before .before .before .before .before .before .args .neighbours .now)) ((c .before .before .before .before .before .before .before .before .before .before .before .before .before .before .before .pre .0)) ((c .before .before .before .before .before .before .before .before .before .before .before .before .before .before .before .args .buffer .now)) ((c .before .before .before .before .before .before .before .before .before .before .before .before .before .before .before .pre .1)) ((c .before .before .before .before .before .before .before .before .before .write-line .last .0)) ((c .before .before .before .before .before .before .before .before .before .write-line .result)) ((c .before .before .before .before .before .before .before .before .before .write-line .ensures)) ((c .before .before .before .before .before .before .loop .buffer)) ((c .before .before .before .before .before .before .loop .pos)) ((c .before .before .before .before .before .before .loop .v)) ((c .before .before .before .before .before .before .loop .inv .1)) ((c .before .before .before .before .before .loop-test .taken)) ((c .before .before .write-row .last .1 .1 .0)) ((c .before .before .write-row .result)) (subst (λ (l : List ℕ). Wrote ((c .before .before .before .before .before .before .loop .buffer)) ((c .before .before .write-row .last .1 .1 .0)) ((c .before .before .before .before .before .before .loop .pos)) ((c .before .before .write-row .result)) (linesOf ((c .before .before .before .before .before .before .loop .v)) l)) ((c .before .before .before .before .own .ensures)) ((c .before .before .write-row .ensures))))
+
+same-length : tie.Need-same-length Inv-loop μ-loop
+same-length c = rows-length ((c .before .before .before .before .before .before .before .before .before .before .args .n)) ((c .before .before .before .before .before .before .before .before .before .before .args .starts .now)) ((c .before .before .before .before .before .before .before .before .before .before .args .neighbours .now)) ((c .before .before .before .before .before .before .before .before .before .before .pre .0)) ((c .before .before .before .before .before .before .before .before .before .before .args .buffer .now)) ((c .before .before .before .before .before .before .before .before .before .before .pre .1)) ((c .before .before .before .before .write-line .last .0)) ((c .before .before .before .before .write-line .result)) ((c .before .before .before .before .write-line .ensures)) ((c .before .loop .buffer)) ((c .before .loop .pos)) ((c .before .loop .v)) ((c .before .loop .inv .1))
+
+returns : tie.Need-returns Inv-loop μ-loop
+returns c = text-written ((c .before .before .before .before .before .before .before .before .before .before .args .n)) ((c .before .before .before .before .before .before .before .before .before .before .args .starts .now)) ((c .before .before .before .before .before .before .before .before .before .before .args .neighbours .now)) ((c .before .before .before .before .before .before .before .before .before .before .pre .0)) ((c .before .before .before .before .before .before .before .before .before .before .args .buffer .now)) ((c .before .before .before .before .before .before .before .before .before .before .pre .1)) ((c .before .before .before .before .write-line .last .0)) ((c .before .before .before .before .write-line .result)) ((c .before .before .before .before .write-line .ensures)) ((c .before .loop .buffer)) ((c .before .loop .pos)) ((c .before .loop .v)) ((c .before .loop .inv .1)) ((c .loop-test .left))
+
+pub write-text-spec : {M : Type 1} → statement M
+write-text-spec =
+    tie.close
+    (tie.spec
+    Inv-loop
+    μ-loop
+    cast-write-line
+    mul-write-line
+    shared-slice-read-write-line
+    write-line-requires
+    loop-holds
+    own-requires
+    write-row-requires
+    add-v
+    loop-less
+    loop-again
+    same-length
+    returns)

@@ -1,0 +1,102 @@
+-- `table_distances::fill_full` meets its contract: after i hubs the table has their rows.
+-- Assumes nothing.
+use mathlib.Core.Path.{_≡_, refl, sym, ap, _∙_, subst}
+use mathlib.Core.Bool.{Bool}
+use mathlib.Core.List.{List, _++_, map}
+use Prim.Native.Nat.{ℕ, _-_, _*_, _≤_}
+use native.Mathlib.Omega.{arith}
+use lib.Dec.{T, lt→ltb}
+use lib.ListN.{length, getD, drop, length-replicate}
+use lib.Seq.{length-take-le}
+use Rattle.base_lists.specs.Written.{written}
+use Rattle.model.specs.Basics.{upTo}
+use Rattle.model.specs.Graph.{between, fewest, linked}
+use Rattle.model.specs.Survey.{neighboursOf}
+use Rattle.model.proofs.Entries.{square-small}
+use Rattle.model.proofs.Ascending.{getD-has}
+use Rattle.base_nodeset.specs.NodeSet.{member}
+use Rattle.table_distances.proofs.Distances.{fullTo, full-none, full-next, full-length, full-room, full-all, full-done}
+use borrow.Author.Needs.{needs}
+use Rattle.table_distances.proofs.fill_full.Statement.{statement}
+use Rattle.table_distances.proofs.fill_full.Tie as tie
+
+abbrev Inv-loop : tie.InvT-loop
+Inv-loop n starts neighbours hubs full₀ all size i₀ full i = (i ≤ length hubs) × (full ≡ fullTo n (neighboursOf starts neighbours) hubs i full₀)
+
+abbrev μ-loop : tie.MeasureT-loop
+μ-loop n starts neighbours hubs full₀ all size i₀ full i = length hubs - i
+
+slice-aggregate-insert-below : tie.Need-slice-aggregate-insert-below Inv-loop μ-loop
+slice-aggregate-insert-below c = search needs
+
+insert-below-requires : tie.Need-insert-below-requires Inv-loop μ-loop
+insert-below-requires c κs = (refl, (c .before .before .before .before .before .pre .0 .0 .size))
+
+mul-size : tie.Need-mul-size Inv-loop μ-loop
+mul-size c = omega (arith, square-small ((c .before .before .before .before .before .before .before .args .n)) ((c .before .before .before .before .before .before .before .pre .0 .0 .size)))
+
+slice-relend-prefix-fill16 : tie.Need-slice-relend-prefix-fill16 Inv-loop μ-loop
+slice-relend-prefix-fill16 c = omega (arith, (c .before .before .before .before .before .before .before .pre .0 .1))
+
+slice-aggregate-fill16 : tie.Need-slice-aggregate-fill16 Inv-loop μ-loop
+slice-aggregate-fill16 c = sym (length-take-le _ (c .before .before .before .before .before .before .before .before .args .full .now) (omega (arith, (c .before .before .before .before .before .before .before .before .pre .0 .1))))
+
+fill16-requires : tie.Need-fill16-requires Inv-loop μ-loop
+fill16-requires c κs = search needs
+
+loop-holds : tie.Need-loop-holds Inv-loop μ-loop
+loop-holds c = (omega arith, full-none ((c .before .before .before .before .before .before .before .before .before .before .before .args .n)) (neighboursOf ((c .before .before .before .before .before .before .before .before .before .before .before .args .starts .now)) ((c .before .before .before .before .before .before .before .before .before .before .before .args .neighbours .now))) ((c .before .before .before .before .before .before .before .before .before .before .before .args .hubs .now)) ((c .before .before .before .before .before .before .before .before .before .before .before .args .full .now)) ((c .before .before .fill16 .last .0)) ((c .before .before .before .before .before .before .before .before .before .before .before .pre .0 .1)) ((c .before .before .fill16 .ensures)))
+
+slice-aggregate-search-row : tie.Need-slice-aggregate-search-row Inv-loop μ-loop
+slice-aggregate-search-row c = sym ((c .before .before .before .before .before .before .before .before .insert-below .kept .0) ∙ length-replicate {A = ℕ} 16 0)
+
+mul-search-row : tie.Need-mul-search-row Inv-loop μ-loop
+mul-search-row c = search needs
+
+shared-slice-read-search-row : tie.Need-shared-slice-read-search-row Inv-loop μ-loop
+shared-slice-read-search-row c = search needs
+
+cast-search-row : tie.Need-cast-search-row Inv-loop μ-loop
+cast-search-row c = omega (arith, (c .shared-slice-known4 .given) ((c .before .before .before .loop .i)))
+
+search-row-requires : tie.Need-search-row-requires Inv-loop μ-loop
+search-row-requires c κs = (((c .before .before .before .before .before .before .before .before .before .before .before .before .before .before .before .before .pre .0 .0), ((c .before .before .before .before .before .before .before .before .before .before .insert-below .kept .0)) ∙ length-replicate {A = ℕ} 16 0), (((c .before .before .before .before .before .before .before .before .before .before .before .before .before .before .before .before .pre .1) (getD ((c .before .before .before .before .before .before .before .before .before .before .before .before .before .before .before .before .args .hubs .now)) ((c .before .before .before .before .loop .i)) 0) (getD-has ((c .before .before .before .before .before .before .before .before .before .before .before .before .before .before .before .before .args .hubs .now)) ((c .before .before .before .before .loop .i)) ((c .before .before .before .loop-test .taken)))), subst T (sym (ap (λ (f : ℕ → Bool). f (getD ((c .before .before .before .before .before .before .before .before .before .before .before .before .before .before .before .before .args .hubs .now)) ((c .before .before .before .before .loop .i)) 0)) ((c .before .before .before .before .before .before .before .before .before .before .insert-below .ensures)))) (lt→ltb (getD ((c .before .before .before .before .before .before .before .before .before .before .before .before .before .before .before .before .args .hubs .now)) ((c .before .before .before .before .loop .i)) 0) ((c .before .before .before .before .before .before .before .before .before .before .before .before .before .before .before .before .args .n)) ((c .before .before .before .before .before .before .before .before .before .before .before .before .before .before .before .before .pre .1) (getD ((c .before .before .before .before .before .before .before .before .before .before .before .before .before .before .before .before .args .hubs .now)) ((c .before .before .before .before .loop .i)) 0) (getD-has ((c .before .before .before .before .before .before .before .before .before .before .before .before .before .before .before .before .args .hubs .now)) ((c .before .before .before .before .loop .i)) ((c .before .before .before .loop-test .taken))))), omega (arith, ((ap length ((c .before .before .before .before .loop .inv .1))) ∙ full-length ((c .before .before .before .before .before .before .before .before .before .before .before .before .before .before .before .before .args .n)) (neighboursOf ((c .before .before .before .before .before .before .before .before .before .before .before .before .before .before .before .before .args .starts .now)) ((c .before .before .before .before .before .before .before .before .before .before .before .before .before .before .before .before .args .neighbours .now))) ((c .before .before .before .before .before .before .before .before .before .before .before .before .before .before .before .before .args .hubs .now)) ((c .before .before .before .before .loop .i)) (((c .before .before .before .before .before .before .before .fill16 .last .0)) ++ drop (((c .before .before .before .before .before .before .before .before .before .before .before .before .before .before .before .before .args .n)) * ((c .before .before .before .before .before .before .before .before .before .before .before .before .before .before .before .before .args .n))) ((c .before .before .before .before .before .before .before .before .before .before .before .before .before .before .before .before .args .full .now))) (omega (arith, full-room ((c .before .before .before .before .before .before .before .before .before .before .before .before .before .before .before .before .args .n)) (neighboursOf ((c .before .before .before .before .before .before .before .before .before .before .before .before .before .before .before .before .args .starts .now)) ((c .before .before .before .before .before .before .before .before .before .before .before .before .before .before .before .before .args .neighbours .now))) ((c .before .before .before .before .before .before .before .before .before .before .before .before .before .before .before .before .args .hubs .now)) ((c .before .before .before .before .before .before .before .before .before .before .before .before .before .before .before .before .args .full .now)) ((c .before .before .before .before .before .before .before .fill16 .last .0)) ((c .before .before .before .before .before .before .before .before .before .before .before .before .before .before .before .before .pre .0 .1)) ((c .before .before .before .before .before .before .before .fill16 .ensures)), (c .before .before .before .before .before .before .before .before .before .before .before .before .before .before .before .before .pre .0 .1)))), full-room ((c .before .before .before .before .before .before .before .before .before .before .before .before .before .before .before .before .args .n)) (neighboursOf ((c .before .before .before .before .before .before .before .before .before .before .before .before .before .before .before .before .args .starts .now)) ((c .before .before .before .before .before .before .before .before .before .before .before .before .before .before .before .before .args .neighbours .now))) ((c .before .before .before .before .before .before .before .before .before .before .before .before .before .before .before .before .args .hubs .now)) ((c .before .before .before .before .before .before .before .before .before .before .before .before .before .before .before .before .args .full .now)) ((c .before .before .before .before .before .before .before .fill16 .last .0)) ((c .before .before .before .before .before .before .before .before .before .before .before .before .before .before .before .before .pre .0 .1)) ((c .before .before .before .before .before .before .before .fill16 .ensures)), (c .before .before .before .before .before .before .before .before .before .before .before .before .before .before .before .before .pre .0 .1))))
+
+add-i : tie.Need-add-i Inv-loop μ-loop
+add-i c = search needs
+
+loop-less : tie.Need-loop-less Inv-loop μ-loop
+loop-less c = search needs
+
+loop-again : tie.Need-loop-again Inv-loop μ-loop
+loop-again c = (omega arith, ((c .before .before .search-row .ensures)) ∙ ap (λ (l : List ℕ). written l (getD ((c .before .before .before .before .before .before .before .before .before .before .before .before .before .before .before .before .before .before .before .args .hubs .now)) ((c .before .before .before .before .before .before .before .loop .i)) 0 * ((c .before .before .before .before .before .before .before .before .before .before .before .before .before .before .before .before .before .before .before .args .n))) (map (fewest (between (member ((c .before .before .before .before .before .before .before .before .before .before .before .before .before .insert-below .last .0))) (linked ((c .before .before .before .before .before .before .before .before .before .before .before .before .before .before .before .before .before .before .before .args .n)) (neighboursOf ((c .before .before .before .before .before .before .before .before .before .before .before .before .before .before .before .before .before .before .before .args .starts .now)) ((c .before .before .before .before .before .before .before .before .before .before .before .before .before .before .before .before .before .before .before .args .neighbours .now))))) ((c .before .before .before .before .before .before .before .before .before .before .before .before .before .before .before .before .before .before .before .args .n)) (getD ((c .before .before .before .before .before .before .before .before .before .before .before .before .before .before .before .before .before .before .before .args .hubs .now)) ((c .before .before .before .before .before .before .before .loop .i)) 0)) (upTo ((c .before .before .before .before .before .before .before .before .before .before .before .before .before .before .before .before .before .before .before .args .n))))) ((c .before .before .before .before .before .before .before .loop .inv .1)) ∙ full-next ((c .before .before .before .before .before .before .before .before .before .before .before .before .before .before .before .before .before .before .before .args .n)) (neighboursOf ((c .before .before .before .before .before .before .before .before .before .before .before .before .before .before .before .before .before .before .before .args .starts .now)) ((c .before .before .before .before .before .before .before .before .before .before .before .before .before .before .before .before .before .before .before .args .neighbours .now))) ((c .before .before .before .before .before .before .before .before .before .before .before .before .before .before .before .before .before .before .before .args .hubs .now)) ((c .before .before .before .before .before .before .before .loop .i)) ((c .before .before .before .before .before .before .loop-test .taken)) (((c .before .before .before .before .before .before .before .before .before .before .fill16 .last .0)) ++ drop (((c .before .before .before .before .before .before .before .before .before .before .before .before .before .before .before .before .before .before .before .args .n)) * ((c .before .before .before .before .before .before .before .before .before .before .before .before .before .before .before .before .before .before .before .args .n))) ((c .before .before .before .before .before .before .before .before .before .before .before .before .before .before .before .before .before .before .before .args .full .now))) ((c .before .before .before .before .before .before .before .before .before .before .before .before .before .before .before .before .before .before .before .pre .1) (getD ((c .before .before .before .before .before .before .before .before .before .before .before .before .before .before .before .before .before .before .before .args .hubs .now)) ((c .before .before .before .before .before .before .before .loop .i)) 0) (getD-has ((c .before .before .before .before .before .before .before .before .before .before .before .before .before .before .before .before .before .before .before .args .hubs .now)) ((c .before .before .before .before .before .before .before .loop .i)) ((c .before .before .before .before .before .before .loop-test .taken)))) (member ((c .before .before .before .before .before .before .before .before .before .before .before .before .before .insert-below .last .0))) ((c .before .before .before .before .before .before .before .before .before .before .before .before .before .insert-below .ensures)))
+
+same-length : tie.Need-same-length Inv-loop μ-loop
+same-length c = ((ap length ((c .before .loop .inv .1))) ∙ full-length ((c .before .before .before .before .before .before .before .before .before .before .before .before .before .args .n)) (neighboursOf ((c .before .before .before .before .before .before .before .before .before .before .before .before .before .args .starts .now)) ((c .before .before .before .before .before .before .before .before .before .before .before .before .before .args .neighbours .now))) ((c .before .before .before .before .before .before .before .before .before .before .before .before .before .args .hubs .now)) ((c .before .loop .i)) (((c .before .before .before .before .fill16 .last .0)) ++ drop (((c .before .before .before .before .before .before .before .before .before .before .before .before .before .args .n)) * ((c .before .before .before .before .before .before .before .before .before .before .before .before .before .args .n))) ((c .before .before .before .before .before .before .before .before .before .before .before .before .before .args .full .now))) (omega (arith, full-room ((c .before .before .before .before .before .before .before .before .before .before .before .before .before .args .n)) (neighboursOf ((c .before .before .before .before .before .before .before .before .before .before .before .before .before .args .starts .now)) ((c .before .before .before .before .before .before .before .before .before .before .before .before .before .args .neighbours .now))) ((c .before .before .before .before .before .before .before .before .before .before .before .before .before .args .hubs .now)) ((c .before .before .before .before .before .before .before .before .before .before .before .before .before .args .full .now)) ((c .before .before .before .before .fill16 .last .0)) ((c .before .before .before .before .before .before .before .before .before .before .before .before .before .pre .0 .1)) ((c .before .before .before .before .fill16 .ensures)), (c .before .before .before .before .before .before .before .before .before .before .before .before .before .pre .0 .1)))) ∙ full-room ((c .before .before .before .before .before .before .before .before .before .before .before .before .before .args .n)) (neighboursOf ((c .before .before .before .before .before .before .before .before .before .before .before .before .before .args .starts .now)) ((c .before .before .before .before .before .before .before .before .before .before .before .before .before .args .neighbours .now))) ((c .before .before .before .before .before .before .before .before .before .before .before .before .before .args .hubs .now)) ((c .before .before .before .before .before .before .before .before .before .before .before .before .before .args .full .now)) ((c .before .before .before .before .fill16 .last .0)) ((c .before .before .before .before .before .before .before .before .before .before .before .before .before .pre .0 .1)) ((c .before .before .before .before .fill16 .ensures))
+
+returns : tie.Need-returns Inv-loop μ-loop
+returns c = ((c .before .loop .inv .1)) ∙ full-done ((c .before .before .before .before .before .before .before .before .before .before .before .before .before .args .n)) (neighboursOf ((c .before .before .before .before .before .before .before .before .before .before .before .before .before .args .starts .now)) ((c .before .before .before .before .before .before .before .before .before .before .before .before .before .args .neighbours .now))) ((c .before .before .before .before .before .before .before .before .before .before .before .before .before .args .hubs .now)) ((c .before .loop .i)) (((c .before .before .before .before .fill16 .last .0)) ++ drop (((c .before .before .before .before .before .before .before .before .before .before .before .before .before .args .n)) * ((c .before .before .before .before .before .before .before .before .before .before .before .before .before .args .n))) ((c .before .before .before .before .before .before .before .before .before .before .before .before .before .args .full .now))) ((c .loop-test .left)) ∙ full-all ((c .before .before .before .before .before .before .before .before .before .before .before .before .before .args .n)) (neighboursOf ((c .before .before .before .before .before .before .before .before .before .before .before .before .before .args .starts .now)) ((c .before .before .before .before .before .before .before .before .before .before .before .before .before .args .neighbours .now))) ((c .before .before .before .before .before .before .before .before .before .before .before .before .before .args .hubs .now)) ((c .before .before .before .before .before .before .before .before .before .before .before .before .before .args .full .now)) ((c .before .before .before .before .fill16 .last .0)) ((c .before .before .before .before .before .before .before .before .before .before .before .before .before .pre .0 .1)) ((c .before .before .before .before .fill16 .ensures))
+
+pub fill-full-spec : {M : Type 1} → statement M
+fill-full-spec =
+    tie.close
+    (tie.spec
+    Inv-loop
+    μ-loop
+    slice-aggregate-insert-below
+    insert-below-requires
+    mul-size
+    slice-relend-prefix-fill16
+    slice-aggregate-fill16
+    fill16-requires
+    loop-holds
+    slice-aggregate-search-row
+    mul-search-row
+    shared-slice-read-search-row
+    cast-search-row
+    search-row-requires
+    add-i
+    loop-less
+    loop-again
+    same-length
+    returns)

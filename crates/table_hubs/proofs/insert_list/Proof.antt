@@ -1,0 +1,63 @@
+-- `table_hubs::insert_list` meets its contract: the first i nodes of the list are in the set.
+-- Assumes nothing.
+use Prim.Native.Nat.{_-_, _≤_}
+use native.Mathlib.Omega.{arith}
+use lib.ListN.{length}
+use Rattle.model.proofs.Ascending.{getD-has}
+use Rattle.table_hubs.proofs.Sets.{Inserted, inserted-none, inserted-more, inserted-all}
+use borrow.Author.Needs.{needs}
+use Rattle.table_hubs.proofs.insert_list.Statement.{statement}
+use Rattle.table_hubs.proofs.insert_list.Tie as tie
+
+abbrev Inv-loop : tie.InvT-loop
+Inv-loop list set₀ i₀ set i = (i ≤ length list) × Inserted list set₀ set i
+
+abbrev μ-loop : tie.MeasureT-loop
+μ-loop list set₀ i₀ set i = length list - i
+
+loop-holds : tie.Need-loop-holds Inv-loop μ-loop
+loop-holds c = (omega arith, inserted-none _ _)
+
+mul-insert : tie.Need-mul-insert Inv-loop μ-loop
+mul-insert c = search needs
+
+shared-slice-read-insert : tie.Need-shared-slice-read-insert Inv-loop μ-loop
+shared-slice-read-insert c = search needs
+
+cast-insert : tie.Need-cast-insert Inv-loop μ-loop
+cast-insert c = omega (arith, (c .shared-slice-known2 .given) (c .before .before .before .loop .i))
+
+insert-requires : tie.Need-insert-requires Inv-loop μ-loop
+insert-requires c κs = rw ((c .before .before .before .loop .inv .1) .same) ((c .before .before .before .before .before .before .pre) _ (getD-has (c .before .before .before .before .before .before .args .list .now) (c .before .before .before .loop .i) (c .before .before .loop-test .taken)))
+
+add-i : tie.Need-add-i Inv-loop μ-loop
+add-i c = search needs
+
+loop-less : tie.Need-loop-less Inv-loop μ-loop
+loop-less c = search needs
+
+loop-again : tie.Need-loop-again Inv-loop μ-loop
+loop-again c = (omega arith, inserted-more _ _ _ _ (c .before .before .before .before .before .before .loop .inv .1) _ (c .before .before .before .before .before .loop-test .taken) (c .before .before .insert .kept .0) (c .before .before .insert .ensures))
+
+same-length : tie.Need-same-length Inv-loop μ-loop
+same-length c = (c .before .loop .inv .1) .same
+
+returns : tie.Need-returns Inv-loop μ-loop
+returns c = inserted-all _ _ _ _ (c .before .loop .inv .1) (c .loop-test .left)
+
+pub insert-list-spec : {M : Type 1} → statement M
+insert-list-spec =
+    tie.close
+    (tie.spec
+    Inv-loop
+    μ-loop
+    loop-holds
+    mul-insert
+    shared-slice-read-insert
+    cast-insert
+    insert-requires
+    add-i
+    loop-less
+    loop-again
+    same-length
+    returns)

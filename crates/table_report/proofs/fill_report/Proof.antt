@@ -1,0 +1,80 @@
+-- `table_report::fill_report` meets its contract: after a rows the others are as they were.
+-- Assumes nothing.
+use mathlib.Core.Path.{_≡_, ap, _∙_}
+use mathlib.Core.List.{List, map}
+use Prim.Native.Nat.{ℕ, _-_, _*_, _≤_}
+use native.Mathlib.Omega.{arith}
+use lib.ListN.{length}
+use Rattle.base_lists.specs.Written.{written}
+use Rattle.model.specs.Basics.{upTo}
+use Rattle.model.specs.Tables.{reportEntry}
+use Rattle.model.proofs.Entries.{square-small}
+use Rattle.base_lists.proofs.TableRows.{row-ends, part-length, row-put, row-within, rowsTo, rows-none, rows-next, rows-done, rows-length}
+use borrow.Author.Needs.{needs}
+use Rattle.table_report.proofs.fill_report.Statement.{statement}
+use Rattle.table_report.proofs.fill_report.Tie as tie
+
+abbrev Inv-loop : tie.InvT-loop
+Inv-loop n full low hubs report₀ a₀ report a = (a ≤ n) × (report ≡ rowsTo n (reportEntry n full low hubs) report₀ a)
+
+abbrev μ-loop : tie.MeasureT-loop
+μ-loop n full low hubs report₀ a₀ report a = n - a
+
+loop-holds : tie.Need-loop-holds Inv-loop μ-loop
+loop-holds c = (omega arith, rows-none ((c .before .before .before .before .args .n)) (reportEntry ((c .before .before .before .before .args .n)) ((c .before .before .before .before .args .full .now)) ((c .before .before .before .before .args .low .now)) ((c .before .before .before .before .args .hubs .now))) ((c .before .before .before .before .args .report .now)) ((c .before .before .before .before .pre .0 .3)))
+
+mul-start : tie.Need-mul-start Inv-loop μ-loop
+mul-start c = omega (arith, row-within ((c .before .before .before .before .before .before .args .n)) ((c .before .loop .a)) ((c .loop-test .taken)), square-small ((c .before .before .before .before .before .before .args .n)) ((c .before .before .before .before .before .before .pre .0 .0)))
+
+add-end : tie.Need-add-end Inv-loop μ-loop
+add-end c = omega (arith, row-within ((c .before .before .before .before .before .before .args .n)) ((c .before .loop .a)) ((c .loop-test .taken)), square-small ((c .before .before .before .before .before .before .args .n)) ((c .before .before .before .before .before .before .pre .0 .0)))
+
+mul-report-row : tie.Need-mul-report-row Inv-loop μ-loop
+mul-report-row c = omega (arith, row-within ((c .before .before .before .before .before .before .args .n)) ((c .before .loop .a)) ((c .loop-test .taken)), square-small ((c .before .before .before .before .before .before .args .n)) ((c .before .before .before .before .before .before .pre .0 .0)))
+
+sub-report-row : tie.Need-sub-report-row Inv-loop μ-loop
+sub-report-row c = search needs
+
+part-report-row-start : tie.Need-part-report-row-start Inv-loop μ-loop
+part-report-row-start c = search needs
+
+part-report-row-end : tie.Need-part-report-row-end Inv-loop μ-loop
+part-report-row-end c = row-ends ((c .before .before .before .before .before .before .args .n)) ((c .before .loop .a)) ((c .before .loop .report)) ((c .loop-test .taken)) (omega (arith, (ap length ((c .before .loop .inv .1)) ∙ rows-length ((c .before .before .before .before .before .before .args .n)) (reportEntry ((c .before .before .before .before .before .before .args .n)) ((c .before .before .before .before .before .before .args .full .now)) ((c .before .before .before .before .before .before .args .low .now)) ((c .before .before .before .before .before .before .args .hubs .now))) ((c .before .before .before .before .before .before .args .report .now)) ((c .before .loop .a)) ((c .before .before .before .before .before .before .pre .0 .3))), (c .before .before .before .before .before .before .pre .0 .3)))
+
+report-row-requires : tie.Need-report-row-requires Inv-loop μ-loop
+report-row-requires c κs = (((c .before .before .before .before .before .before .before .pre .0 .0), (c .before .before .before .before .before .before .before .pre .0 .1), (c .before .before .before .before .before .before .before .pre .0 .2), (c .before .loop-test .taken), part-length ((c .before .before .before .before .before .before .before .args .n)) ((c .before .before .loop .a)) ((c .before .before .loop .report)) ((c .before .loop-test .taken)) (omega (arith, (ap length ((c .before .before .loop .inv .1)) ∙ rows-length ((c .before .before .before .before .before .before .before .args .n)) (reportEntry ((c .before .before .before .before .before .before .before .args .n)) ((c .before .before .before .before .before .before .before .args .full .now)) ((c .before .before .before .before .before .before .before .args .low .now)) ((c .before .before .before .before .before .before .before .args .hubs .now))) ((c .before .before .before .before .before .before .before .args .report .now)) ((c .before .before .loop .a)) ((c .before .before .before .before .before .before .before .pre .0 .3))), (c .before .before .before .before .before .before .before .pre .0 .3)))), (c .before .before .before .before .before .before .before .pre .1))
+
+add-a : tie.Need-add-a Inv-loop μ-loop
+add-a c = omega (arith, (c .before .before .before .before .before .before .before .before .before .before .pre .0 .0))
+
+loop-less : tie.Need-loop-less Inv-loop μ-loop
+loop-less c = search needs
+
+loop-again : tie.Need-loop-again Inv-loop μ-loop
+loop-again c = (omega arith, row-put (((c .before .before .before .before .before .loop .a)) * ((c .before .before .before .before .before .before .before .before .before .before .args .n))) ((c .before .before .before .before .before .before .before .before .before .before .args .n)) ((c .before .before .before .before .before .loop .report)) _ _ (((c .before .before .report-row .kept .1 .1 .1 .1 .1 .0)) ∙ part-length ((c .before .before .before .before .before .before .before .before .before .before .args .n)) ((c .before .before .before .before .before .loop .a)) ((c .before .before .before .before .before .loop .report)) ((c .before .before .before .before .loop-test .taken)) (omega (arith, (ap length ((c .before .before .before .before .before .loop .inv .1)) ∙ rows-length ((c .before .before .before .before .before .before .before .before .before .before .args .n)) (reportEntry ((c .before .before .before .before .before .before .before .before .before .before .args .n)) ((c .before .before .before .before .before .before .before .before .before .before .args .full .now)) ((c .before .before .before .before .before .before .before .before .before .before .args .low .now)) ((c .before .before .before .before .before .before .before .before .before .before .args .hubs .now))) ((c .before .before .before .before .before .before .before .before .before .before .args .report .now)) ((c .before .before .before .before .before .loop .a)) ((c .before .before .before .before .before .before .before .before .before .before .pre .0 .3))), (c .before .before .before .before .before .before .before .before .before .before .pre .0 .3)))) ((c .before .before .report-row .ensures)) ∙ ap (λ (t : List ℕ). written t (((c .before .before .before .before .before .loop .a)) * ((c .before .before .before .before .before .before .before .before .before .before .args .n))) (map ((reportEntry ((c .before .before .before .before .before .before .before .before .before .before .args .n)) ((c .before .before .before .before .before .before .before .before .before .before .args .full .now)) ((c .before .before .before .before .before .before .before .before .before .before .args .low .now)) ((c .before .before .before .before .before .before .before .before .before .before .args .hubs .now))) ((c .before .before .before .before .before .loop .a))) (upTo ((c .before .before .before .before .before .before .before .before .before .before .args .n))))) ((c .before .before .before .before .before .loop .inv .1)) ∙ rows-next ((c .before .before .before .before .before .before .before .before .before .before .args .n)) (reportEntry ((c .before .before .before .before .before .before .before .before .before .before .args .n)) ((c .before .before .before .before .before .before .before .before .before .before .args .full .now)) ((c .before .before .before .before .before .before .before .before .before .before .args .low .now)) ((c .before .before .before .before .before .before .before .before .before .before .args .hubs .now))) ((c .before .before .before .before .before .before .before .before .before .before .args .report .now)) ((c .before .before .before .before .before .loop .a)) ((c .before .before .before .before .loop-test .taken)))
+
+same-length : tie.Need-same-length Inv-loop μ-loop
+same-length c = (ap length ((c .before .loop .inv .1)) ∙ rows-length ((c .before .before .before .before .before .before .args .n)) (reportEntry ((c .before .before .before .before .before .before .args .n)) ((c .before .before .before .before .before .before .args .full .now)) ((c .before .before .before .before .before .before .args .low .now)) ((c .before .before .before .before .before .before .args .hubs .now))) ((c .before .before .before .before .before .before .args .report .now)) ((c .before .loop .a)) ((c .before .before .before .before .before .before .pre .0 .3)))
+
+returns : tie.Need-returns Inv-loop μ-loop
+returns c = ((c .before .loop .inv .1)) ∙ rows-done ((c .before .before .before .before .before .before .args .n)) (reportEntry ((c .before .before .before .before .before .before .args .n)) ((c .before .before .before .before .before .before .args .full .now)) ((c .before .before .before .before .before .before .args .low .now)) ((c .before .before .before .before .before .before .args .hubs .now))) ((c .before .before .before .before .before .before .args .report .now)) ((c .before .loop .a)) ((c .loop-test .left))
+
+pub fill-report-spec : {M : Type 1} → statement M
+fill-report-spec =
+    tie.close
+    (tie.spec
+    Inv-loop
+    μ-loop
+    loop-holds
+    mul-start
+    add-end
+    mul-report-row
+    sub-report-row
+    part-report-row-start
+    part-report-row-end
+    report-row-requires
+    add-a
+    loop-less
+    loop-again
+    same-length
+    returns)

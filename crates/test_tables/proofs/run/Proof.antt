@@ -1,0 +1,36 @@
+-- `test_tables::run` ends: each turn leaves fewer.
+-- Assumes nothing.
+use borrow.Author.Needs.{needs}
+use Rattle.test_tables.proofs.run.Statement.{statement}
+use Rattle.test_tables.proofs.run.Tie as tie
+
+abbrev Inv-loop : tie.InvT-loop
+Inv-loop script numbers₀ starts₀ neighbours₀ full₀ low₀ report₀ hubs₀ walk₀ at₀ turns₀ numbers starts neighbours full low report hubs walk at turns =
+    Unit {0}
+
+abbrev μ-loop : tie.MeasureT-loop
+μ-loop script numbers₀ starts₀ neighbours₀ full₀ low₀ report₀ hubs₀ walk₀ at₀ turns₀ numbers starts neighbours full low report hubs walk at turns =
+    turns
+
+loop-holds : tie.Need-loop-holds Inv-loop μ-loop
+loop-holds c = tt
+
+step-requires : tie.Need-step-requires Inv-loop μ-loop
+step-requires c κs = search needs
+
+sub-turns : tie.Need-sub-turns Inv-loop μ-loop
+sub-turns c = search needs
+
+loop-less : tie.Need-loop-less Inv-loop μ-loop
+loop-less c = search needs
+
+loop-again : tie.Need-loop-again Inv-loop μ-loop
+loop-again c = tt
+
+returns : tie.Need-returns Inv-loop μ-loop
+returns c = tt
+
+pub run-spec : {M : Type 1} → statement M
+run-spec =
+    tie.close
+    (tie.spec Inv-loop μ-loop loop-holds step-requires sub-turns loop-less loop-again returns)

@@ -1,0 +1,28 @@
+-- `text_writing::line_length` meets its contract: two numbers of at most ten digits and four bytes.
+-- Assumes nothing.
+use native.Mathlib.Omega.{arith}
+use Rattle.model.proofs.Lines.{length-line}
+use Rattle.text_writing.proofs.Digits.{digits-few}
+use borrow.Author.Needs.{needs}
+use Rattle.text_writing.proofs.line_length.Statement.{statement}
+use Rattle.text_writing.proofs.line_length.Tie as tie
+
+digit-count-requires : tie.Need-digit-count-requires
+digit-count-requires c κs = search needs
+
+digit-count-requires-2 : tie.Need-digit-count-requires-2
+digit-count-requires-2 c κs = search needs
+
+add-result : tie.Need-add-result
+add-result c = omega (arith, digits-few ((c .before .before .args .a)) ((c .before .before .fits .a .fits)), digits-few ((c .before .before .args .b)) ((c .before .before .fits .b .fits)), (c .before .digit-count .ensures), (c .digit-count2 .ensures))
+
+add-result-2 : tie.Need-add-result-2
+add-result-2 c = omega (arith, digits-few ((c .before .before .args .a)) ((c .before .before .fits .a .fits)), digits-few ((c .before .before .args .b)) ((c .before .before .fits .b .fits)), (c .before .digit-count .ensures), (c .digit-count2 .ensures))
+
+returns : tie.Need-returns
+returns c = (λ letter. omega (arith, digits-few ((c .before .before .args .a)) ((c .before .before .fits .a .fits)), digits-few ((c .before .before .args .b)) ((c .before .before .fits .b .fits)), (c .before .digit-count .ensures), (c .digit-count2 .ensures), length-line letter ((c .before .before .args .a)) ((c .before .before .args .b))), omega (arith, digits-few ((c .before .before .args .a)) ((c .before .before .fits .a .fits)), digits-few ((c .before .before .args .b)) ((c .before .before .fits .b .fits)), (c .before .digit-count .ensures), (c .digit-count2 .ensures)))
+
+pub line-length-spec : {M : Type 1} → statement M
+line-length-spec =
+    tie.close
+    (tie.spec digit-count-requires digit-count-requires-2 add-result add-result-2 returns)

@@ -1,0 +1,116 @@
+// Writing a walk: the nodes of a pair's route, each step chosen by the tables.
+use model::Answer;
+use model::Asking;
+use model::Refusal;
+use model::Route;
+ghost use mathlib.Core.Path.{_≡_};
+ghost use Prim.Native.Nat.{ℕ};
+ghost use lib.ListN.{length, replicate};
+ghost use Rattle.model.specs.Basics.{none};
+ghost use Rattle.model.specs.Answers.{pairAnswer, answered};
+ghost use Rattle.model.specs.Survey.{neighboursOf};
+ghost use Rattle.model.specs.Graph.{linked};
+ghost use Rattle.model.specs.Threshold.{threshold};
+ghost use Rattle.model.specs.Walk.{walkNodes};
+ghost use Rattle.model.specs.Walking.{walkReturned, fit, walkOf, walking};
+ghost use Rattle.model.specs.Demand.{WalkSound, WalkRight};
+ghost use Rattle.walk_writing.specs.Ready.{Ready};
+
+// Writes the walk of an answer into a list that is all none.
+fn write_route(
+    n: usize,
+    starts: &[u32],
+    neighbours: &[u16],
+    full: &[u16],
+    low: &[u16],
+    a: usize,
+    b: usize,
+    answer: Answer,
+    walk: &mut [u16],
+) -> Asking
+    requires { ⌜ Ready n (now starts) (now neighbours) (now full) (now low) a b answer ⌝ }
+    requires { ⌜ now walk ≡ replicate (length (now walk)) none ⌝ }
+    ensures { λ r. ⌜ walkReturned r (now (walk .exit)) ≡ fit (length (now (walk .entry))) answer
+        (walkNodes n (threshold n) (neighboursOf (now (starts .entry)) (now (neighbours .entry))) (now (full .entry)) (now (low .entry)) a b (answer .route)) ⌝ }
+{
+    let route = answer.route;
+    match route {
+        Route::Itself => {
+            if walk.len() < 1 {
+                return Asking::Refused(Refusal::ShortList);
+            }
+            walk[0] = a as u16;
+            Asking::Answered(answer)
+        }
+        Route::Low => walk_routes::write_low(n, starts, neighbours, low, a, b, answer, walk),
+        Route::Through(h) => {
+            walk_routes::write_through(n, starts, neighbours, full, a, b, h as usize, answer, walk)
+        }
+        Route::NoRoute => Asking::Answered(answer),
+    }
+}
+
+// The answer of which a walk is wanted, or the refusal that comes before any step.
+fn judge(
+    n: usize,
+    starts: &[u32],
+    neighbours: &[u16],
+    full: &[u16],
+    low: &[u16],
+    report: &[u16],
+    a: usize,
+    b: usize,
+) -> Asking
+    ensures { λ r. ⌜ ((w : ℕ) → walking n (now (starts .entry)) (now (neighbours .entry)) (now (full .entry)) (now (low .entry)) (now (report .entry)) a b w
+        ≡ walkOf w n (threshold n) (neighboursOf (now (starts .entry)) (now (neighbours .entry))) (now (full .entry)) (now (low .entry)) a b (pairAnswer r)) ⌝ }
+    ensures { λ r. ⌜ ((x : Answer) → pairAnswer r ≡ answered x → Ready n (now (starts .entry)) (now (neighbours .entry)) (now (full .entry)) (now (low .entry)) a b x) ⌝ }
+{
+    if n < 1 {
+        return Asking::Refused(Refusal::NodeCount);
+    }
+    if 1024 < n {
+        return Asking::Refused(Refusal::NodeCount);
+    }
+    if starts.len() < n + 1 {
+        return Asking::Refused(Refusal::ShortList);
+    }
+    if answer_pairs::tables_short(n, full, low, report) {
+        return Asking::Refused(Refusal::ShortList);
+    }
+    if !survey_acceptance::is_survey(n, starts, neighbours) {
+        return Asking::Refused(Refusal::NotSurvey);
+    }
+    if n <= a {
+        return Asking::Refused(Refusal::NoNode);
+    }
+    if n <= b {
+        return Asking::Refused(Refusal::NoNode);
+    }
+    answer_pairs::pair_answer(n, full, low, report, a, b)
+}
+
+// Writing a walk: the answer to a pair, and its walk in the list, none behind it. A walk that is given out is a chain of the survey's
+// links, whatever the tables hold; with the tables built from the survey one is given out in every list that is long enough.
+pub fn write_walk(
+    n: usize,
+    starts: &[u32],
+    neighbours: &[u16],
+    full: &[u16],
+    low: &[u16],
+    report: &[u16],
+    a: usize,
+    b: usize,
+    walk: &mut [u16],
+) -> Asking
+    ensures { λ r. ⌜ walkReturned r (now (walk .exit))
+        ≡ walking n (now (starts .entry)) (now (neighbours .entry)) (now (full .entry)) (now (low .entry)) (now (report .entry)) a b (length (now (walk .entry))) ⌝ }
+    ensures { λ r. ⌜ WalkSound (linked n (neighboursOf (now (starts .entry)) (now (neighbours .entry)))) a b (walkReturned r (now (walk .exit))) ⌝ }
+    ensures { λ r. ⌜ WalkRight n (threshold n) (now (starts .entry)) (now (neighbours .entry)) (now (full .entry)) (now (low .entry)) (now (report .entry)) a b
+        (length (now (walk .entry))) (walkReturned r (now (walk .exit))) ⌝ }
+{
+    base_lists::fill16(walk, model::NONE);
+    match judge(n, starts, neighbours, full, low, report, a, b) {
+        Asking::Refused(k) => Asking::Refused(k),
+        Asking::Answered(x) => write_route(n, starts, neighbours, full, low, a, b, x, walk),
+    }
+}
