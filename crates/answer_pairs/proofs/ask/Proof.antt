@@ -11,28 +11,53 @@ use Rattle.answer_pairs.proofs.ask.Statement.{statement}
 use Rattle.answer_pairs.proofs.ask.Tie as tie
 
 returns : tie.Need-returns
-returns c = bad-size (c .before .before .before .before .args .n) (c .before .before .before .before .args .full .now) (c .before .before .before .before .args .low .now) (c .before .before .before .before .args .report .now) (c .before .before .before .before .args .a) (c .before .before .before .before .args .b) (small-size (c .before .before .before .before .args .n) (c .if1 .taken))
+returns c =
+    let start = c .before .before .before .before in
+    bad-size (start .args .n) (start .args .full .now) (start .args .low .now) (start .args .report .now) (start .args .a) (start .args .b)
+    (small-size (start .args .n) (c .if1 .taken))
 
 returns-2 : tie.Need-returns-2
-returns-2 c = bad-size (c .before .before .before .before .before .args .n) (c .before .before .before .before .before .args .full .now) (c .before .before .before .before .before .args .low .now) (c .before .before .before .before .before .args .report .now) (c .before .before .before .before .before .args .a) (c .before .before .before .before .before .args .b) (large-size (c .before .before .before .before .before .args .n) (c .if2 .taken))
+returns-2 c =
+    let start = c .before .before .before .before .before in
+    bad-size (start .args .n) (start .args .full .now) (start .args .low .now) (start .args .report .now) (start .args .a) (start .args .b)
+    (large-size (start .args .n) (c .if2 .taken))
 
 tables-short-requires : tie.Need-tables-short-requires
 tables-short-requires c κs = search needs
 
 returns-3 : tie.Need-returns-3
-returns-3 c = too-short (c .before .before .before .before .before .before .before .args .n) (c .before .before .before .before .before .before .before .args .full .now) (c .before .before .before .before .before .before .before .args .low .now) (c .before .before .before .before .before .before .before .args .report .now) (c .before .before .before .before .before .before .before .args .a) (c .before .before .before .before .before .before .before .args .b) (good-size (c .before .before .before .before .before .before .before .args .n) (omega arith) (omega arith)) (sym (c .before .tables-short .ensures) ∙ (c .if3 .taken))
+returns-3 c =
+    let start = c .before .before .before .before .before .before .before in
+    too-short (start .args .n) (start .args .full .now) (start .args .low .now) (start .args .report .now) (start .args .a)
+    (start .args .b) (good-size (start .args .n) (omega arith) (omega arith)) (sym (c .before .tables-short .ensures) ∙ (c .if3 .taken))
 
 returns-4 : tie.Need-returns-4
-returns-4 c = no-node (c .before .before .before .before .before .before .before .before .args .n) (c .before .before .before .before .before .before .before .before .args .full .now) (c .before .before .before .before .before .before .before .before .args .low .now) (c .before .before .before .before .before .before .before .before .args .report .now) (c .before .before .before .before .before .before .before .before .args .a) (c .before .before .before .before .before .before .before .before .args .b) (good-size (c .before .before .before .before .before .before .before .before .args .n) (omega arith) (omega arith)) (sym (c .before .before .tables-short .ensures) ∙ (c .before .if3 .left)) (rw (le-leb (c .before .before .before .before .before .before .before .before .args .n) (c .before .before .before .before .before .before .before .before .args .a) (omega arith)))
+returns-4 c =
+    let start = c .before .before .before .before .before .before .before .before in
+    no-node (start .args .n) (start .args .full .now) (start .args .low .now) (start .args .report .now) (start .args .a) (start .args .b)
+    (good-size (start .args .n) (omega arith) (omega arith)) (sym (c .before .before .tables-short .ensures) ∙ (c .before .if3 .left))
+    (rw (le-leb (start .args .n) (start .args .a) (omega arith)))
 
 returns-5 : tie.Need-returns-5
-returns-5 c = no-node (c .before .before .before .before .before .before .before .before .before .args .n) (c .before .before .before .before .before .before .before .before .before .args .full .now) (c .before .before .before .before .before .before .before .before .before .args .low .now) (c .before .before .before .before .before .before .before .before .before .args .report .now) (c .before .before .before .before .before .before .before .before .before .args .a) (c .before .before .before .before .before .before .before .before .before .args .b) (good-size (c .before .before .before .before .before .before .before .before .before .args .n) (omega arith) (omega arith)) (sym (c .before .before .before .tables-short .ensures) ∙ (c .before .before .if3 .left)) (rw (lt-leb _ _ (c .before .if4 .left), le-leb (c .before .before .before .before .before .before .before .before .before .args .n) (c .before .before .before .before .before .before .before .before .before .args .b) (omega arith)))
+returns-5 c =
+    let start = c .before .before .before .before .before .before .before .before .before in
+    no-node (start .args .n) (start .args .full .now) (start .args .low .now) (start .args .report .now) (start .args .a) (start .args .b)
+    (good-size (start .args .n) (omega arith) (omega arith))
+    (sym (c .before .before .before .tables-short .ensures) ∙ (c .before .before .if3 .left))
+    (rw (lt-leb _ _ (c .before .if4 .left), le-leb (start .args .n) (start .args .b) (omega arith)))
 
 pair-answer-requires : tie.Need-pair-answer-requires
-pair-answer-requires c κs = let r = of-long-tables _ _ _ _ (sym (c .before .before .before .tables-short .ensures) ∙ (c .before .before .if3 .left)) in ((c .before .before .before .before .if2 .left), r .0, r .1, r .2, (c .before .if4 .left), (c .if5 .left))
+pair-answer-requires c κs = let r = of-long-tables _ _ _ _
+    (sym (c .before .before .before .tables-short .ensures) ∙ (c .before .before .if3 .left))
+    in ((c .before .before .before .before .if2 .left), r .0, r .1, r .2, (c .before .if4 .left), (c .if5 .left))
 
 returns-6 : tie.Need-returns-6
-returns-6 c = pair-asked (c .before .before .before .before .before .before .before .before .before .before .args .n) (c .before .before .before .before .before .before .before .before .before .before .args .full .now) (c .before .before .before .before .before .before .before .before .before .before .args .low .now) (c .before .before .before .before .before .before .before .before .before .before .args .report .now) (c .before .before .before .before .before .before .before .before .before .before .args .a) (c .before .before .before .before .before .before .before .before .before .before .args .b) (good-size (c .before .before .before .before .before .before .before .before .before .before .args .n) (omega arith) (omega arith)) (sym (c .before .before .before .before .tables-short .ensures) ∙ (c .before .before .before .if3 .left)) (rw (lt-leb _ _ (c .before .before .if4 .left), lt-leb _ _ (c .before .if5 .left))) (c .pair-answer .ensures)
+returns-6 c =
+    let start = c .before .before .before .before .before .before .before .before .before .before in
+    pair-asked (start .args .n) (start .args .full .now) (start .args .low .now) (start .args .report .now) (start .args .a)
+    (start .args .b) (good-size (start .args .n) (omega arith) (omega arith))
+    (sym (c .before .before .before .before .tables-short .ensures) ∙ (c .before .before .before .if3 .left))
+    (rw (lt-leb _ _ (c .before .before .if4 .left), lt-leb _ _ (c .before .if5 .left))) (c .pair-answer .ensures)
 
 pub ask-spec : {M : Type 1} → statement M
 ask-spec =

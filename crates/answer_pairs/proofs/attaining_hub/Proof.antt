@@ -15,7 +15,9 @@ abbrev μ-loop : tie.MeasureT-loop
 μ-loop n full a b r h₀ h = n - h
 
 loop-holds : tie.Need-loop-holds Inv-loop μ-loop
-loop-holds c = tried-none (c .before .args .n) (c .before .args .full .now) (c .before .args .a) (c .before .args .b) (c .before .args .r)
+loop-holds c =
+    let start = c .before in
+    tried-none (start .args .n) (start .args .full .now) (start .args .a) (start .args .b) (start .args .r)
 
 hub-attains-requires : tie.Need-hub-attains-requires Inv-loop μ-loop
 hub-attains-requires c κs = search needs
@@ -24,7 +26,11 @@ cast-result : tie.Need-cast-result Inv-loop μ-loop
 cast-result c = omega arith
 
 returns : tie.Need-returns Inv-loop μ-loop
-returns c = tried-found (c .before .before .before .before .before .args .n) (c .before .before .before .before .before .args .full .now) (c .before .before .before .before .before .args .a) (c .before .before .before .before .before .args .b) (c .before .before .before .before .before .args .r) (c .before .before .before .loop .h) (c .before .before .before .loop .inv) (c .before .before .loop-test .taken) (sym (c .before .hub-attains .ensures) ∙ (c .if1 .taken))
+returns c =
+    let start = c .before .before .before .before .before in
+    let at-loop = c .before .before .before in
+    tried-found (start .args .n) (start .args .full .now) (start .args .a) (start .args .b) (start .args .r) (at-loop .loop .h)
+    (at-loop .loop .inv) (c .before .before .loop-test .taken) (sym (c .before .hub-attains .ensures) ∙ (c .if1 .taken))
 
 add-h : tie.Need-add-h Inv-loop μ-loop
 add-h c = omega arith
@@ -33,10 +39,18 @@ loop-less : tie.Need-loop-less Inv-loop μ-loop
 loop-less c = omega arith
 
 loop-again : tie.Need-loop-again Inv-loop μ-loop
-loop-again c = tried-more (c .before .before .before .before .before .args .n) (c .before .before .before .before .before .args .full .now) (c .before .before .before .before .before .args .a) (c .before .before .before .before .before .args .b) (c .before .before .before .before .before .args .r) (c .before .before .before .loop .h) (c .before .before .before .loop .inv) (c .before .before .loop-test .taken) (sym (c .before .hub-attains .ensures) ∙ (c .if1 .left))
+loop-again c =
+    let start = c .before .before .before .before .before in
+    let at-loop = c .before .before .before in
+    tried-more (start .args .n) (start .args .full .now) (start .args .a) (start .args .b) (start .args .r) (at-loop .loop .h)
+    (at-loop .loop .inv) (c .before .before .loop-test .taken) (sym (c .before .hub-attains .ensures) ∙ (c .if1 .left))
 
 returns-2 : tie.Need-returns-2 Inv-loop μ-loop
-returns-2 c = tried-all (c .before .before .before .args .n) (c .before .before .before .args .full .now) (c .before .before .before .args .a) (c .before .before .before .args .b) (c .before .before .before .args .r) (c .before .loop .h) (c .before .loop .inv) (c .loop-test .left)
+returns-2 c =
+    let start = c .before .before .before in
+    let at-loop = c .before in
+    tried-all (start .args .n) (start .args .full .now) (start .args .a) (start .args .b) (start .args .r) (at-loop .loop .h)
+    (at-loop .loop .inv) (c .loop-test .left)
 
 pub attaining-hub-spec : {M : Type 1} → statement M
 attaining-hub-spec =

@@ -8,16 +8,33 @@ use Rattle.answer_pairs.proofs.entry_at.Statement.{statement}
 use Rattle.answer_pairs.proofs.entry_at.Tie as tie
 
 mul-at : tie.Need-mul-at
-mul-at c = omega (arith, place-inside ((c .args .n)) ((c .args .row)) ((c .args .column)) ((c .pre .2)) ((c .pre .3)), square-small ((c .args .n)) ((c .pre .0)))
+mul-at c = omega (
+  arith,
+  place-inside (c .args .n) (c .args .row) (c .args .column) (c .pre .2) (c .pre .3),
+  square-small (c .args .n)
+      (c .pre .0),
+)
 
 add-at : tie.Need-add-at
-add-at c = omega (arith, place-inside ((c .args .n)) ((c .args .row)) ((c .args .column)) ((c .pre .2)) ((c .pre .3)), square-small ((c .args .n)) ((c .pre .0)))
+add-at c = omega (
+  arith,
+  place-inside (c .args .n) (c .args .row) (c .args .column) (c .pre .2) (c .pre .3),
+  square-small (c .args .n)
+      (c .pre .0),
+)
 
 mul-result : tie.Need-mul-result
-mul-result c = omega (arith, place-inside ((c .args .n)) ((c .args .row)) ((c .args .column)) ((c .pre .2)) ((c .pre .3)), square-small ((c .args .n)) ((c .pre .0)))
+mul-result c = omega (
+  arith,
+  place-inside (c .args .n) (c .args .row) (c .args .column) (c .pre .2) (c .pre .3),
+  square-small (c .args .n)
+      (c .pre .0),
+)
 
 shared-slice-read-result : tie.Need-shared-slice-read-result
-shared-slice-read-result c = omega (arith, place-inside ((c .before .args .n)) ((c .before .args .row)) ((c .before .args .column)) ((c .before .pre .2)) ((c .before .pre .3)))
+shared-slice-read-result c =
+    let start = c .before in
+    omega (arith, place-inside (start .args .n) (start .args .row) (start .args .column) (start .pre .2) (start .pre .3))
 
 returns : tie.Need-returns
 unfolding entryAt

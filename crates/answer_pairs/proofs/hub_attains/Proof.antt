@@ -10,13 +10,20 @@ entry-at-requires : tie.Need-entry-at-requires
 entry-at-requires c κs = search needs
 
 returns : tie.Need-returns
-returns c = first-none (c .before .before .before .args .n) (c .before .before .before .args .full .now) (c .before .before .before .args .a) (c .before .before .before .args .b) (c .before .before .before .args .r) (c .before .before .before .args .h) (sym (c .before .entry-at .ensures) ∙ (c .if1 .taken))
+returns c =
+    let start = c .before .before .before in
+    first-none (start .args .n) (start .args .full .now) (start .args .a) (start .args .b) (start .args .r) (start .args .h)
+    (sym (c .before .entry-at .ensures) ∙ (c .if1 .taken))
 
 entry-at-requires-2 : tie.Need-entry-at-requires-2
 entry-at-requires-2 c κs = search needs
 
 returns-2 : tie.Need-returns-2
-returns-2 c = second-none (c .before .before .before .before .before .args .n) (c .before .before .before .before .before .args .full .now) (c .before .before .before .before .before .args .a) (c .before .before .before .before .before .args .b) (c .before .before .before .before .before .args .r) (c .before .before .before .before .before .args .h) (λ e. (c .before .before .if1 .left) ((c .before .before .before .entry-at .ensures) ∙ e)) (sym (c .before .entry-at2 .ensures) ∙ (c .if2 .taken))
+returns-2 c =
+    let start = c .before .before .before .before .before in
+    second-none (start .args .n) (start .args .full .now) (start .args .a) (start .args .b) (start .args .r) (start .args .h)
+    (λ e. (c .before .before .if1 .left) ((c .before .before .before .entry-at .ensures) ∙ e))
+    (sym (c .before .entry-at2 .ensures) ∙ (c .if2 .taken))
 
 cast-result : tie.Need-cast-result
 cast-result c = search needs
@@ -28,7 +35,14 @@ add-result : tie.Need-add-result
 add-result c = search needs
 
 returns-3 : tie.Need-returns-3
-returns-3 c = rw ((c .before .before .before .entry-at .ensures), (c .before .entry-at2 .ensures)) (neither-none (c .before .before .before .before .before .args .n) (c .before .before .before .before .before .args .full .now) (c .before .before .before .before .before .args .a) (c .before .before .before .before .before .args .b) (c .before .before .before .before .before .args .r) (c .before .before .before .before .before .args .h) (λ e. (c .before .before .if1 .left) ((c .before .before .before .entry-at .ensures) ∙ e)) (λ e. (c .if2 .left) ((c .before .entry-at2 .ensures) ∙ e)))
+returns-3 c =
+    let start = c .before .before .before .before .before in
+    let at-entry-at = c .before .before .before in
+    let at-entry-at2 = c .before in
+    rw ((at-entry-at .entry-at .ensures), (at-entry-at2 .entry-at2 .ensures))
+    (neither-none (start .args .n) (start .args .full .now) (start .args .a) (start .args .b) (start .args .r) (start .args .h)
+    (λ e. (c .before .before .if1 .left) ((at-entry-at .entry-at .ensures) ∙ e))
+    (λ e. (c .if2 .left) ((at-entry-at2 .entry-at2 .ensures) ∙ e)))
 
 pub hub-attains-spec : {M : Type 1} → statement M
 hub-attains-spec =

@@ -15,18 +15,26 @@ answer-by-requires c κs = search needs
 
 returns : tie.Need-returns
 unfolding pair pairBy choose
-returns c = (c .answer-by .ensures) ∙ rw (eq-eqb _ _ (c .before .before .if1 .taken), ← ((c .before .before .before .entry-at .ensures)), eq-eqb _ _ (c .before .if2 .taken))
+returns c = (c .answer-by .ensures) ∙ rw (
+  eq-eqb _ _ (c .before .before .if1 .taken),
+  ← (c .before .before .before .entry-at .ensures),
+  eq-eqb _ _ (c .before .if2 .taken),
+)
 
 returns-2 : tie.Need-returns-2
 unfolding pair pairBy choose
-returns-2 c = rw (eq-eqb _ _ (c .before .if1 .taken), ← ((c .before .before .entry-at .ensures)), ne-eqb _ _ (c .if2 .left))
+returns-2 c = rw (eq-eqb _ _ (c .before .if1 .taken), ← (c .before .before .entry-at .ensures), ne-eqb _ _ (c .if2 .left))
 
 answer-by-requires-2 : tie.Need-answer-by-requires-2
 answer-by-requires-2 c κs = search needs
 
 returns-3 : tie.Need-returns-3
 unfolding pair pairBy choose
-returns-3 c = (c .answer-by2 .ensures) ∙ rw (ne-eqb _ _ (c .before .before .if1 .left), ← ((c .before .before .before .entry-at .ensures)), eq-eqb _ _ (c .before .if3 .taken))
+returns-3 c = (c .answer-by2 .ensures) ∙ rw (
+  ne-eqb _ _ (c .before .before .if1 .left),
+  ← (c .before .before .before .entry-at .ensures),
+  eq-eqb _ _ (c .before .if3 .taken),
+)
 
 entry-at-requires-2 : tie.Need-entry-at-requires-2
 entry-at-requires-2 c κs = search needs
@@ -36,21 +44,54 @@ answer-by-requires-3 c κs = search needs
 
 returns-4 : tie.Need-returns-4
 unfolding pair pairBy choose
-returns-4 c = (c .answer-by3 .ensures) ∙ rw (ne-eqb _ _ (c .before .before .before .before .if1 .left), ← ((c .before .before .before .before .before .entry-at .ensures)), ne-eqb _ _ (c .before .before .before .if3 .left), ← ((c .before .before .entry-at2 .ensures)), eq-eqb _ _ (c .before .if4 .taken))
+returns-4 c = (c .answer-by3 .ensures) ∙ rw (
+  ne-eqb _ _ (c .before .before .before .before .if1 .left),
+  ←
+      (c .before .before .before .before .before .entry-at .ensures),
+  ne-eqb _ _ (c .before .before .before .if3 .left),
+  ←
+      (c .before .before .entry-at2 .ensures),
+  eq-eqb _ _ (c .before .if4 .taken),
+)
 
 attaining-hub-requires : tie.Need-attaining-hub-requires
 attaining-hub-requires c κs = search needs
 
 returns-5 : tie.Need-returns-5
 unfolding pair pairBy choose
-returns-5 c = rw (ne-eqb _ _ (c .before .before .before .before .before .if1 .left), ← ((c .before .before .before .before .before .before .entry-at .ensures)), ne-eqb _ _ (c .before .before .before .before .if3 .left), ← ((c .before .before .before .entry-at2 .ensures)), ne-eqb _ _ (c .before .before .if4 .left), ← ((c .before .attaining-hub .ensures)), eq-eqb _ _ (c .if5 .taken))
+returns-5 c =
+    let at-entry-at = c .before .before .before .before .before .before in
+    rw (
+      ne-eqb _ _ (c .before .before .before .before .before .if1 .left),
+      ← (at-entry-at .entry-at .ensures),
+      ne-eqb _ _
+          (c .before .before .before .before .if3 .left),
+      ← (c .before .before .before .entry-at2 .ensures),
+      ne-eqb _ _
+          (c .before .before .if4 .left),
+      ← (c .before .attaining-hub .ensures),
+      eq-eqb _ _ (c .if5 .taken),
+    )
 
 answer-by-requires-4 : tie.Need-answer-by-requires-4
 answer-by-requires-4 c κs = search needs
 
 returns-6 : tie.Need-returns-6
 unfolding pair pairBy choose
-returns-6 c = (c .answer-by4 .ensures) ∙ rw (ne-eqb _ _ (c .before .before .before .before .before .before .if1 .left), ← ((c .before .before .before .before .before .before .before .entry-at .ensures)), ne-eqb _ _ (c .before .before .before .before .before .if3 .left), ← ((c .before .before .before .before .entry-at2 .ensures)), ne-eqb _ _ (c .before .before .before .if4 .left), ← ((c .before .before .attaining-hub .ensures)), ne-eqb _ _ (c .before .if5 .left))
+returns-6 c =
+    let at-entry-at = c .before .before .before .before .before .before .before in
+    let at-if1 = c .before .before .before .before .before .before in
+    (c .answer-by4 .ensures) ∙ rw (
+      ne-eqb _ _ (at-if1 .if1 .left),
+      ← (at-entry-at .entry-at .ensures),
+      ne-eqb _ _
+          (c .before .before .before .before .before .if3 .left),
+      ← (c .before .before .before .before .entry-at2 .ensures),
+      ne-eqb _ _
+          (c .before .before .before .if4 .left),
+      ← (c .before .before .attaining-hub .ensures),
+      ne-eqb _ _ (c .before .if5 .left),
+    )
 
 pub pair-answer-spec : {M : Type 1} → statement M
 pair-answer-spec =

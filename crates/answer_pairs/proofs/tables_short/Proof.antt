@@ -7,7 +7,7 @@ use Rattle.answer_pairs.proofs.tables_short.Statement.{statement}
 use Rattle.answer_pairs.proofs.tables_short.Tie as tie
 
 mul-size : tie.Need-mul-size
-mul-size c = omega (arith, square-small ((c .args .n)) ((c .pre)))
+mul-size c = omega (arith, square-small (c .args .n) (c .pre))
 
 returns : tie.Need-returns
 returns c = rw (lt-ltb _ _ (c .if1 .taken))

@@ -22,10 +22,10 @@ low-nodes-requires : tie.Need-low-nodes-requires
 low-nodes-requires c κs = search needs
 
 slice-aggregate-smallest : tie.Need-slice-aggregate-smallest
-slice-aggregate-smallest c = sym (((c .before .before .low-nodes .kept .1 .1 .1 .1 .0)) ∙ length-replicate {A = ℕ} 16 0)
+slice-aggregate-smallest c = sym ((c .before .before .low-nodes .kept .1 .1 .1 .1 .0) ∙ length-replicate {A = ℕ} 16 0)
 
 smallest-requires : tie.Need-smallest-requires
-smallest-requires c κs = omega (arith, (((c .before .before .low-nodes .kept .1 .1 .1 .1 .0)) ∙ length-replicate {A = ℕ} 16 0))
+smallest-requires c κs = omega (arith, ((c .before .before .low-nodes .kept .1 .1 .1 .1 .0) ∙ length-replicate {A = ℕ} 16 0))
 
 choose-hubs-requires : tie.Need-choose-hubs-requires
 choose-hubs-requires c κs = search needs
@@ -34,7 +34,27 @@ same-length : tie.Need-same-length
 same-length c = search needs
 
 returns : tie.Need-returns
-returns c = ((c .before .before .choose-hubs .ensures .0) ∙ ap length (sym (sources-hubs ((c .before .before .before .before .before .before .before .before .before .before .before .before .before .args .n)) ((c .before .before .before .before .before .before .before .before .before .before .before .before .before .args .s)) (neighboursOf ((c .before .before .before .before .before .before .before .before .before .before .before .before .before .args .starts .now)) ((c .before .before .before .before .before .before .before .before .before .before .before .before .before .args .neighbours .now))) ((c .before .before .before .before .before .before .before .before .before .before .before .before .before .pre .0 .size)) (member ((c .before .before .before .before .before .before .before .before .low-nodes .last .1 .1 .1 .1 .0))) ((c .before .before .before .before .before .before .before .before .low-nodes .ensures)) (64 * length ((c .before .before .before .before .before .before .before .before .low-nodes .last .1 .1 .1 .1 .0))) ((c .before .before .before .before .before .smallest .result)) (omega (arith, (((c .before .before .before .before .before .before .before .before .low-nodes .kept .1 .1 .1 .1 .0)) ∙ length-replicate {A = ℕ} 16 0), (c .before .before .before .before .before .before .before .before .before .before .before .before .before .pre .0 .size))) ((c .before .before .before .before .before .smallest .ensures)) ((c .before .before .before .before .if1 .taken)))), hubs-front ((c .before .before .before .before .before .before .before .before .before .before .before .before .before .args .n)) ((c .before .before .before .before .before .before .before .before .before .before .before .before .before .args .s)) (neighboursOf ((c .before .before .before .before .before .before .before .before .before .before .before .before .before .args .starts .now)) ((c .before .before .before .before .before .before .before .before .before .before .before .before .before .args .neighbours .now))) ((c .before .before .before .before .before .before .before .before .before .before .before .before .before .args .list .now)) _ _ ((c .before .before .choose-hubs .ensures .0)) ((c .before .before .choose-hubs .ensures .1)) ∙ sym (sources-hubs ((c .before .before .before .before .before .before .before .before .before .before .before .before .before .args .n)) ((c .before .before .before .before .before .before .before .before .before .before .before .before .before .args .s)) (neighboursOf ((c .before .before .before .before .before .before .before .before .before .before .before .before .before .args .starts .now)) ((c .before .before .before .before .before .before .before .before .before .before .before .before .before .args .neighbours .now))) ((c .before .before .before .before .before .before .before .before .before .before .before .before .before .pre .0 .size)) (member ((c .before .before .before .before .before .before .before .before .low-nodes .last .1 .1 .1 .1 .0))) ((c .before .before .before .before .before .before .before .before .low-nodes .ensures)) (64 * length ((c .before .before .before .before .before .before .before .before .low-nodes .last .1 .1 .1 .1 .0))) ((c .before .before .before .before .before .smallest .result)) (omega (arith, (((c .before .before .before .before .before .before .before .before .low-nodes .kept .1 .1 .1 .1 .0)) ∙ length-replicate {A = ℕ} 16 0), (c .before .before .before .before .before .before .before .before .before .before .before .before .before .pre .0 .size))) ((c .before .before .before .before .before .smallest .ensures)) ((c .before .before .before .before .if1 .taken))))
+returns c =
+    let start = c .before .before .before .before .before .before .before .before .before .before .before .before .before in
+    let at-low-nodes = c .before .before .before .before .before .before .before .before in
+    let at-smallest = c .before .before .before .before .before in
+    let at-if1 = c .before .before .before .before in
+    let at-choose-hubs = c .before .before in (
+      (at-choose-hubs .choose-hubs .ensures .0) ∙ ap length
+          (sym (sources-hubs (start .args .n) (start .args .s) (neighboursOf (start .args .starts .now) (start .args .neighbours .now))
+          (start .pre .0 .size) (member (at-low-nodes .low-nodes .last .1 .1 .1 .1 .0)) (at-low-nodes .low-nodes .ensures)
+          (64 * length (at-low-nodes .low-nodes .last .1 .1 .1 .1 .0)) (at-smallest .smallest .result)
+          (omega (arith, ((at-low-nodes .low-nodes .kept .1 .1 .1 .1 .0) ∙ length-replicate {A = ℕ} 16 0), (start .pre .0 .size)))
+          (at-smallest .smallest .ensures) (at-if1 .if1 .taken))),
+      hubs-front (start .args .n) (start .args .s)
+          (neighboursOf (start .args .starts .now) (start .args .neighbours .now)) (start .args .list .now) _ _
+          (at-choose-hubs .choose-hubs .ensures .0) (at-choose-hubs .choose-hubs .ensures .1) ∙ sym
+          (sources-hubs (start .args .n) (start .args .s) (neighboursOf (start .args .starts .now) (start .args .neighbours .now))
+          (start .pre .0 .size) (member (at-low-nodes .low-nodes .last .1 .1 .1 .1 .0)) (at-low-nodes .low-nodes .ensures)
+          (64 * length (at-low-nodes .low-nodes .last .1 .1 .1 .1 .0)) (at-smallest .smallest .result)
+          (omega (arith, ((at-low-nodes .low-nodes .kept .1 .1 .1 .1 .0) ∙ length-replicate {A = ℕ} 16 0), (start .pre .0 .size)))
+          (at-smallest .smallest .ensures) (at-if1 .if1 .taken)),
+    )
 
 cast-list : tie.Need-cast-list
 cast-list c = search needs
@@ -43,19 +63,64 @@ slice-write-list : tie.Need-slice-write-list
 slice-write-list c = search needs
 
 own-requires : tie.Need-own-requires
-own-requires c κs = (rows-of ((c .before .before .before .before .before .before .before .before .before .pre .0)), (c .if1 .left))
+own-requires c κs =
+    let start = c .before .before .before .before .before .before .before .before .before in
+    (rows-of (start .pre .0), (c .if1 .left))
 
 copy16-requires : tie.Need-copy16-requires
-copy16-requires c κs = omega (arith, ap length ((c .before .own .ensures)), few-neighbours ((c .before .before .before .before .before .before .before .before .before .before .before .args .n)) ((c .before .before .before .before .before .before .before .before .before .before .before .args .starts .now)) ((c .before .before .before .before .before .before .before .before .before .before .before .args .neighbours .now)) ((c .before .before .before .before .before .before .before .before .before .before .before .pre .0)) ((c .before .before .before .smallest .result)) ((c .before .before .if1 .left)), (c .before .before .before .before .before .before .before .before .before .before .before .pre .1), length-set ((c .before .before .before .before .before .before .before .before .before .before .before .args .list .now)) 0 ((c .before .before .before .smallest .result)))
+copy16-requires c κs =
+    let start = c .before .before .before .before .before .before .before .before .before .before .before in
+    let at-smallest = c .before .before .before in
+    omega (
+      arith,
+      ap length (c .before .own .ensures),
+      few-neighbours (start .args .n) (start .args .starts .now)
+          (start .args .neighbours .now) (start .pre .0) (at-smallest .smallest .result) (c .before .before .if1 .left),
+      (start .pre .1),
+      length-set (start .args .list .now) 0 (at-smallest .smallest .result),
+    )
 
 add-result : tie.Need-add-result
 add-result c = search needs
 
 same-length-2 : tie.Need-same-length-2
-same-length-2 c = ((c .before .before .copy16 .kept .1 .0)) ∙ length-set ((c .before .before .before .before .before .before .before .before .before .before .before .before .before .before .args .list .now)) 0 ((c .before .before .before .before .before .before .smallest .result))
+same-length-2 c =
+    let start = c .before .before .before .before .before .before .before .before .before .before .before .before .before .before in
+    let at-smallest = c .before .before .before .before .before .before in
+    (c .before .before .copy16 .kept .1 .0) ∙ length-set (start .args .list .now) 0 (at-smallest .smallest .result)
 
 returns-2 : tie.Need-returns-2
-returns-2 c = (omega (arith, ap length ((c .before .before .before .before .own .ensures)), ap length (sources-low ((c .before .before .before .before .before .before .before .before .before .before .before .before .before .before .args .n)) ((c .before .before .before .before .before .before .before .before .before .before .before .before .before .before .args .s)) (neighboursOf ((c .before .before .before .before .before .before .before .before .before .before .before .before .before .before .args .starts .now)) ((c .before .before .before .before .before .before .before .before .before .before .before .before .before .before .args .neighbours .now))) ((c .before .before .before .before .before .before .before .before .before .before .before .before .before .before .pre .0 .size)) (member ((c .before .before .before .before .before .before .before .before .before .low-nodes .last .1 .1 .1 .1 .0))) ((c .before .before .before .before .before .before .before .before .before .low-nodes .ensures)) (64 * length ((c .before .before .before .before .before .before .before .before .before .low-nodes .last .1 .1 .1 .1 .0))) ((c .before .before .before .before .before .before .smallest .result)) (omega (arith, (((c .before .before .before .before .before .before .before .before .before .low-nodes .kept .1 .1 .1 .1 .0)) ∙ length-replicate {A = ℕ} 16 0), (c .before .before .before .before .before .before .before .before .before .before .before .before .before .before .pre .0 .size))) ((c .before .before .before .before .before .before .smallest .ensures)) ((c .before .before .before .before .before .if1 .left)))), two-written ((c .before .before .before .before .before .before .before .before .before .before .before .before .before .before .args .list .now)) _ _ ((c .before .before .before .before .before .before .smallest .result)) _ (omega (arith, ap length ((c .before .before .before .before .own .ensures)), few-neighbours ((c .before .before .before .before .before .before .before .before .before .before .before .before .before .before .args .n)) ((c .before .before .before .before .before .before .before .before .before .before .before .before .before .before .args .starts .now)) ((c .before .before .before .before .before .before .before .before .before .before .before .before .before .before .args .neighbours .now)) ((c .before .before .before .before .before .before .before .before .before .before .before .before .before .before .pre .0)) ((c .before .before .before .before .before .before .smallest .result)) ((c .before .before .before .before .before .if1 .left)), (c .before .before .before .before .before .before .before .before .before .before .before .before .before .before .pre .1))) ((c .before .before .copy16 .ensures)) ∙ ap (λ (l : List ℕ). ((c .before .before .before .before .before .before .smallest .result)) ∷ l) ((c .before .before .before .before .own .ensures)) ∙ sym (sources-low ((c .before .before .before .before .before .before .before .before .before .before .before .before .before .before .args .n)) ((c .before .before .before .before .before .before .before .before .before .before .before .before .before .before .args .s)) (neighboursOf ((c .before .before .before .before .before .before .before .before .before .before .before .before .before .before .args .starts .now)) ((c .before .before .before .before .before .before .before .before .before .before .before .before .before .before .args .neighbours .now))) ((c .before .before .before .before .before .before .before .before .before .before .before .before .before .before .pre .0 .size)) (member ((c .before .before .before .before .before .before .before .before .before .low-nodes .last .1 .1 .1 .1 .0))) ((c .before .before .before .before .before .before .before .before .before .low-nodes .ensures)) (64 * length ((c .before .before .before .before .before .before .before .before .before .low-nodes .last .1 .1 .1 .1 .0))) ((c .before .before .before .before .before .before .smallest .result)) (omega (arith, (((c .before .before .before .before .before .before .before .before .before .low-nodes .kept .1 .1 .1 .1 .0)) ∙ length-replicate {A = ℕ} 16 0), (c .before .before .before .before .before .before .before .before .before .before .before .before .before .before .pre .0 .size))) ((c .before .before .before .before .before .before .smallest .ensures)) ((c .before .before .before .before .before .if1 .left))))
+returns-2 c =
+    let start = c .before .before .before .before .before .before .before .before .before .before .before .before .before .before in
+    let at-low-nodes = c .before .before .before .before .before .before .before .before .before in
+    let at-smallest = c .before .before .before .before .before .before in
+    let at-if1 = c .before .before .before .before .before in
+    let at-own = c .before .before .before .before in (
+      omega (
+        arith,
+        ap length (at-own .own .ensures),
+        ap length
+            (sources-low (start .args .n) (start .args .s) (neighboursOf (start .args .starts .now) (start .args .neighbours .now))
+            (start .pre .0 .size) (member (at-low-nodes .low-nodes .last .1 .1 .1 .1 .0)) (at-low-nodes .low-nodes .ensures)
+            (64 * length (at-low-nodes .low-nodes .last .1 .1 .1 .1 .0)) (at-smallest .smallest .result)
+            (omega (arith, ((at-low-nodes .low-nodes .kept .1 .1 .1 .1 .0) ∙ length-replicate {A = ℕ} 16 0), (start .pre .0 .size)))
+            (at-smallest .smallest .ensures) (at-if1 .if1 .left)),
+      ),
+      two-written (start .args .list .now) _ _ (at-smallest .smallest .result) _
+          (omega (
+            arith,
+            ap length (at-own .own .ensures),
+            few-neighbours (start .args .n) (start .args .starts .now)
+                (start .args .neighbours .now) (start .pre .0) (at-smallest .smallest .result) (at-if1 .if1 .left),
+            (start .pre .1),
+          ))
+          (c .before .before .copy16 .ensures) ∙ ap (λ (l : List ℕ). (at-smallest .smallest .result) ∷ l) (at-own .own .ensures) ∙ sym
+          (sources-low (start .args .n) (start .args .s) (neighboursOf (start .args .starts .now) (start .args .neighbours .now))
+          (start .pre .0 .size) (member (at-low-nodes .low-nodes .last .1 .1 .1 .1 .0)) (at-low-nodes .low-nodes .ensures)
+          (64 * length (at-low-nodes .low-nodes .last .1 .1 .1 .1 .0)) (at-smallest .smallest .result)
+          (omega (arith, ((at-low-nodes .low-nodes .kept .1 .1 .1 .1 .0) ∙ length-replicate {A = ℕ} 16 0), (start .pre .0 .size)))
+          (at-smallest .smallest .ensures) (at-if1 .if1 .left)),
+    )
 
 pub find-sources-spec : {M : Type 1} → statement M
 find-sources-spec =

@@ -17,22 +17,46 @@ slice-aggregate-find-sources : tie.Need-slice-aggregate-find-sources
 slice-aggregate-find-sources c = search needs
 
 find-sources-requires : tie.Need-find-sources-requires
-find-sources-requires c κs = ((c .before .before .before .pre), omega (arith, (c .before .before .before .pre .size)))
+find-sources-requires c κs =
+    let start = c .before .before .before in
+    ((start .pre), omega (arith, (start .pre .size)))
 
 array-share-prefix-list : tie.Need-array-share-prefix-list
-array-share-prefix-list c = sources-fit ((c .before .before .before .before .before .args .n)) ((c .before .before .before .before .before .args .s)) (neighboursOf ((c .before .before .before .before .before .args .starts .now)) ((c .before .before .before .before .before .args .neighbours .now))) ((c .before .find-sources .last .1 .1 .1 .1 .0)) ((c .before .find-sources .result)) ((c .before .find-sources .ensures .0)) ((c .before .find-sources .ensures .1))
+array-share-prefix-list c =
+    let start = c .before .before .before .before .before in
+    let at-find-sources = c .before in
+    sources-fit (start .args .n) (start .args .s) (neighboursOf (start .args .starts .now) (start .args .neighbours .now))
+    (at-find-sources .find-sources .last .1 .1 .1 .1 .0) (at-find-sources .find-sources .result)
+    (at-find-sources .find-sources .ensures .0) (at-find-sources .find-sources .ensures .1)
 
 slice-aggregate-search-depth : tie.Need-slice-aggregate-search-depth
-slice-aggregate-search-depth c = sources-long ((c .before .before .before .before .before .before .args .n)) ((c .before .before .before .before .before .before .args .s)) (neighboursOf ((c .before .before .before .before .before .before .args .starts .now)) ((c .before .before .before .before .before .before .args .neighbours .now))) ((c .before .before .find-sources .last .1 .1 .1 .1 .0)) ((c .before .before .find-sources .result)) ((c .before .before .find-sources .ensures .0)) ((c .before .before .find-sources .ensures .1))
+slice-aggregate-search-depth c =
+    let start = c .before .before .before .before .before .before in
+    let at-find-sources = c .before .before in
+    sources-long (start .args .n) (start .args .s) (neighboursOf (start .args .starts .now) (start .args .neighbours .now))
+    (at-find-sources .find-sources .last .1 .1 .1 .1 .0) (at-find-sources .find-sources .result)
+    (at-find-sources .find-sources .ensures .0) (at-find-sources .find-sources .ensures .1)
 
 search-depth-requires : tie.Need-search-depth-requires
-search-depth-requires c κs = ((c .before .before .before .before .before .before .pre), subst (λ (l : List ℕ). (h : ℕ) → T (has h l) → h < ((c .before .before .before .before .before .before .args .n))) (sym ((c .before .before .find-sources .ensures .1))) (source-below _ _ _ _ _ (source-cases ((c .before .before .before .before .before .before .args .n)) ((c .before .before .before .before .before .before .args .s)) (neighboursOf ((c .before .before .before .before .before .before .args .starts .now)) ((c .before .before .before .before .before .before .args .neighbours .now))) ((c .before .before .before .before .before .before .pre .lists .graph)) ((c .before .before .before .before .before .before .pre .size)))))
+search-depth-requires c κs =
+    let start = c .before .before .before .before .before .before in (
+      (start .pre),
+      subst (λ (l : List ℕ). (h : ℕ) → T (has h l) → h < (start .args .n)) (sym (c .before .before .find-sources .ensures .1))
+          (source-below _ _ _ _ _ (source-cases (start .args .n) (start .args .s)
+          (neighboursOf (start .args .starts .now) (start .args .neighbours .now)) (start .pre .lists .graph) (start .pre .size))),
+    )
 
 verdict-on-requires : tie.Need-verdict-on-requires
 verdict-on-requires c κs = search needs
 
 returns : tie.Need-returns
-returns c = result-is ((c .before .before .before .before .before .before .before .before .args .n)) ((c .before .before .before .before .before .before .before .before .args .s)) (neighboursOf ((c .before .before .before .before .before .before .before .before .args .starts .now)) ((c .before .before .before .before .before .before .before .before .args .neighbours .now))) ((c .before .before .before .before .find-sources .last .1 .1 .1 .1 .0)) ((c .before .before .before .before .find-sources .result)) ((c .before .before .before .before .find-sources .ensures .0)) ((c .before .before .before .before .find-sources .ensures .1)) ((c .before .before .before .before .before .before .before .before .pre .size)) _ _ ((c .verdict-on .ensures)) ((c .before .search-depth .ensures))
+returns c =
+    let start = c .before .before .before .before .before .before .before .before in
+    let at-find-sources = c .before .before .before .before in
+    result-is (start .args .n) (start .args .s) (neighboursOf (start .args .starts .now) (start .args .neighbours .now))
+    (at-find-sources .find-sources .last .1 .1 .1 .1 .0) (at-find-sources .find-sources .result)
+    (at-find-sources .find-sources .ensures .0) (at-find-sources .find-sources .ensures .1) (start .pre .size) _ _
+    (c .verdict-on .ensures) (c .before .search-depth .ensures)
 
 pub run-test-spec : {M : Type 1} → statement M
 run-test-spec =

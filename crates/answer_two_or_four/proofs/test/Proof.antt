@@ -18,16 +18,34 @@ enum-told : tie.Need-enum-told
 enum-told c = search needs
 
 threshold-at-requires : tie.Need-threshold-at-requires
-threshold-at-requires c κs = ((accepting-facts ((c .before .before .before .before .before .args .n)) ((c .before .before .before .before .before .args .starts .now)) ((c .before .before .before .before .before .args .neighbours .now)) tt (sym (sym (ap acceptAnswer ((c .enum-told .given .1))) ∙ ((c .before .before .accept .ensures))))) .some-node, (accepting-facts ((c .before .before .before .before .before .args .n)) ((c .before .before .before .before .before .args .starts .now)) ((c .before .before .before .before .before .args .neighbours .now)) tt (sym (sym (ap acceptAnswer ((c .enum-told .given .1))) ∙ ((c .before .before .accept .ensures))))) .size)
+threshold-at-requires c κs =
+    let start = c .before .before .before .before .before in
+    let at-accept = c .before .before in (
+      (accepting-facts (start .args .n) (start .args .starts .now) (start .args .neighbours .now) tt
+          (sym (sym (ap acceptAnswer (c .enum-told .given .1)) ∙ (at-accept .accept .ensures)))) .some-node,
+      (accepting-facts (start .args .n) (start .args .starts .now) (start .args .neighbours .now) tt
+          (sym (sym (ap acceptAnswer (c .enum-told .given .1)) ∙ (at-accept .accept .ensures)))) .size,
+    )
 
 run-test-requires : tie.Need-run-test-requires
-run-test-requires c κs = (accepting-facts ((c .before .before .before .before .before .before .args .n)) ((c .before .before .before .before .before .before .args .starts .now)) ((c .before .before .before .before .before .before .args .neighbours .now)) tt (sym (sym (ap acceptAnswer ((c .before .enum-told .given .1))) ∙ ((c .before .before .before .accept .ensures)))))
+run-test-requires c κs =
+    let start = c .before .before .before .before .before .before in
+    (accepting-facts (start .args .n) (start .args .starts .now) (start .args .neighbours .now) tt
+    (sym (sym (ap acceptAnswer (c .before .enum-told .given .1)) ∙ (c .before .before .before .accept .ensures))))
 
 returns : tie.Need-returns
-returns c = test-refused ((c .before .before .before .before .before .before .args .n)) ((c .before .before .before .before .before .before .args .starts .now)) ((c .before .before .before .before .before .before .args .neighbours .now)) ((c .before .r .given .0 .0)) (sym (ap acceptAnswer ((c .before .r .given .1))) ∙ ((c .before .before .before .accept .ensures)))
+returns c =
+    let start = c .before .before .before .before .before .before in
+    let at-r = c .before in
+    test-refused (start .args .n) (start .args .starts .now) (start .args .neighbours .now) (at-r .r .given .0 .0)
+    (sym (ap acceptAnswer (at-r .r .given .1)) ∙ (c .before .before .before .accept .ensures))
 
 returns-2 : tie.Need-returns-2
-returns-2 c = test-done ((c .before .before .before .before .before .before .before .args .n)) ((c .before .before .before .before .before .before .before .args .starts .now)) ((c .before .before .before .before .before .before .before .args .neighbours .now)) (sym (ap acceptAnswer ((c .before .before .enum-told .given .1))) ∙ ((c .before .before .before .before .accept .ensures))) _ _ ((c .before .threshold-at .ensures)) ((c .run-test .ensures))
+returns-2 c =
+    let start = c .before .before .before .before .before .before .before in
+    test-done (start .args .n) (start .args .starts .now) (start .args .neighbours .now)
+    (sym (ap acceptAnswer (c .before .before .enum-told .given .1)) ∙ (c .before .before .before .before .accept .ensures)) _ _
+    (c .before .threshold-at .ensures) (c .run-test .ensures)
 
 pub test-spec : {M : Type 1} → statement M
 test-spec =

@@ -43,13 +43,24 @@ loop-less : tie.Need-loop-less Inv-loop μ-loop
 loop-less c = omega arith
 
 loop-again : tie.Need-loop-again Inv-loop μ-loop
-loop-again c = copied-more (reverse (c .before .before .before .args .from .now)) _ 0 (omega (arith, length-reverse (c .before .before .before .args .from .now), (c .before .before .before .pre))) _ (c .before .before .loop .i) (c .before .before .loop .inv) (omega (arith, length-reverse (c .before .before .before .args .from .now))) _ _ (omega arith) (sym (getD-reverse (c .before .before .before .args .from .now) (c .before .before .loop .i) 0 (c .before .loop-test .taken)))
+loop-again c =
+    let start = c .before .before .before in
+    let at-loop = c .before .before in
+    copied-more (reverse (start .args .from .now)) _ 0 (omega (arith, length-reverse (start .args .from .now), (start .pre))) _
+    (at-loop .loop .i) (at-loop .loop .inv) (omega (arith, length-reverse (start .args .from .now))) _ _ (omega arith)
+    (sym (getD-reverse (start .args .from .now) (at-loop .loop .i) 0 (c .before .loop-test .taken)))
 
 same-length : tie.Need-same-length Inv-loop μ-loop
 same-length c = (c .before .loop .inv .same)
 
 returns : tie.Need-returns Inv-loop μ-loop
-returns c = let e : 0 + length (reverse (c .before .before .args .from .now)) ≡ length (c .before .before .args .from .now) = omega (arith, length-reverse (c .before .before .args .from .now)) in rw e at (copied-all (reverse (c .before .before .args .from .now)) _ 0 _ (c .before .loop .i) (c .before .loop .inv) (omega (arith, length-reverse (c .before .before .args .from .now))))
+returns c =
+    let start = c .before .before in
+    let at-loop = c .before in
+    let e : 0 + length (reverse (start .args .from .now)) ≡ length (start .args .from .now) = omega
+    (arith, length-reverse (start .args .from .now)) in rw e at
+    (copied-all (reverse (start .args .from .now)) _ 0 _ (at-loop .loop .i) (at-loop .loop .inv)
+    (omega (arith, length-reverse (start .args .from .now))))
 
 pub copy16-reversed-spec : {M : Type 1} → statement M
 copy16-reversed-spec =

@@ -30,10 +30,20 @@ shared-slice-read-total-2 : tie.Need-shared-slice-read-total-2 Inv-loop μ-loop
 shared-slice-read-total-2 c = omega (arith, (c .before .before .before .before .pre .0))
 
 cast-total : tie.Need-cast-total Inv-loop μ-loop
-cast-total c = omega (arith, counted-ones _ _ _ _ (c .before .before .before .loop .inv) ((c .before .shared-slice-known .given) (c .before .before .before .loop .i) .fits))
+cast-total c =
+    let at-loop = c .before .before .before in
+    omega (arith, counted-ones _ _ _ _ (at-loop .loop .inv) ((c .before .shared-slice-known .given) (at-loop .loop .i) .fits))
 
 add-total : tie.Need-add-total Inv-loop μ-loop
-add-total c = omega (arith, counted-ones _ _ _ _ (c .before .before .before .loop .inv) ((c .before .shared-slice-known .given) (c .before .before .before .loop .i) .fits), counted-few _ _ _ _ (c .before .before .before .loop .inv), (c .before .before .before .before .pre .1))
+add-total c =
+    let at-loop = c .before .before .before in
+    omega (
+      arith,
+      counted-ones _ _ _ _ (at-loop .loop .inv) ((c .before .shared-slice-known .given) (at-loop .loop .i) .fits),
+      counted-few
+          _ _ _ _ (at-loop .loop .inv),
+      (c .before .before .before .before .pre .1),
+    )
 
 add-i : tie.Need-add-i Inv-loop μ-loop
 add-i c = search needs
@@ -42,7 +52,10 @@ loop-less : tie.Need-loop-less Inv-loop μ-loop
 loop-less c = search needs
 
 loop-again : tie.Need-loop-again Inv-loop μ-loop
-loop-again c = counted-more _ _ _ _ (c .before .before .before .loop .inv) (c .before .before .loop-test .taken) ((c .before .shared-slice-known .given) (c .before .before .before .loop .i) .fits)
+loop-again c =
+    let at-loop = c .before .before .before in
+    counted-more _ _ _ _ (at-loop .loop .inv) (c .before .before .loop-test .taken)
+    ((c .before .shared-slice-known .given) (at-loop .loop .i) .fits)
 
 returns : tie.Need-returns Inv-loop μ-loop
 returns c = counted-all _ _ _ _ (c .before .loop .inv) (c .loop-test .left)

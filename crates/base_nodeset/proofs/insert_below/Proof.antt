@@ -39,7 +39,9 @@ shl-words : tie.Need-shl-words Inv-loop μ-loop
 shl-words c = search needs
 
 sub-words : tie.Need-sub-words Inv-loop μ-loop
-sub-words c = rw (shifted ((c .before .before .before .args .n) % 64) (omega arith)) (pow-pos ((c .before .before .before .args .n) % 64))
+sub-words c =
+    let start = c .before .before .before in
+    rw (shifted ((start .args .n) % 64) (omega arith)) (pow-pos ((start .args .n) % 64))
 
 mul-words-2 : tie.Need-mul-words-2 Inv-loop μ-loop
 mul-words-2 c = omega (arith, (c .before .before .before .pre .1))
@@ -48,16 +50,26 @@ slice-write-words-2 : tie.Need-slice-write-words-2 Inv-loop μ-loop
 slice-write-words-2 c = omega (arith, (c .before .before .before .pre .1), (c .if1 .taken), (c .before .before .loop .inv .1) .long)
 
 same-length : tie.Need-same-length Inv-loop μ-loop
-same-length c = below-last _ _ _ (c .before .before .before .pre .1) (c .before .before .loop .inv .0) (c .before .loop-test .left) (c .before .before .loop .inv .1) (c .if1 .taken) .long ∙ sym (ap length (c .before .before .before .pre .0))
+same-length c =
+    let start = c .before .before .before in
+    let at-loop = c .before .before in
+    below-last _ _ _ (start .pre .1) (at-loop .loop .inv .0) (c .before .loop-test .left) (at-loop .loop .inv .1) (c .if1 .taken) .long ∙
+    sym (ap length (start .pre .0))
 
 returns : tie.Need-returns Inv-loop μ-loop
-returns c = below-last _ _ _ (c .before .before .before .pre .1) (c .before .before .loop .inv .0) (c .before .loop-test .left) (c .before .before .loop .inv .1) (c .if1 .taken) .says
+returns c =
+    let at-loop = c .before .before in
+    below-last _ _ _ (c .before .before .before .pre .1) (at-loop .loop .inv .0) (c .before .loop-test .left) (at-loop .loop .inv .1)
+    (c .if1 .taken) .says
 
 same-length-2 : tie.Need-same-length-2 Inv-loop μ-loop
 same-length-2 c = (c .before .before .loop .inv .1) .long ∙ sym (ap length (c .before .before .before .pre .0))
 
 returns-2 : tie.Need-returns-2 Inv-loop μ-loop
-returns-2 c = below-all _ _ _ (c .before .before .before .pre .1) (c .before .before .loop .inv .0) (c .before .loop-test .left) (c .before .before .loop .inv .1) (c .if1 .left) .says
+returns-2 c =
+    let at-loop = c .before .before in
+    below-all _ _ _ (c .before .before .before .pre .1) (at-loop .loop .inv .0) (c .before .loop-test .left) (at-loop .loop .inv .1)
+    (c .if1 .left) .says
 
 pub insert-below-spec : {M : Type 1} → statement M
 insert-below-spec =

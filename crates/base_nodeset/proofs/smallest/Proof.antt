@@ -27,13 +27,29 @@ mul-result : tie.Need-mul-result Inv-loop μ-loop
 mul-result c = omega (arith, (c .before .before .before .before .pre))
 
 cast-result : tie.Need-cast-result Inv-loop μ-loop
-cast-result c = omega (arith, clear-below _ _ (c .before .before .before .loop .inv) (c .before .before .loop-test .taken) (c .if1 .taken) ((c .before .shared-slice-known .given) (c .before .before .before .loop .i) .fits))
+cast-result c =
+    let at-loop = c .before .before .before in
+    omega (
+      arith,
+      clear-below _ _ (at-loop .loop .inv) (c .before .before .loop-test .taken) (c .if1 .taken)
+          ((c .before .shared-slice-known .given) (at-loop .loop .i) .fits),
+    )
 
 add-result : tie.Need-add-result Inv-loop μ-loop
-add-result c = omega (arith, clear-below _ _ (c .before .before .before .loop .inv) (c .before .before .loop-test .taken) (c .if1 .taken) ((c .before .shared-slice-known .given) (c .before .before .before .loop .i) .fits), (c .before .before .before .before .pre))
+add-result c =
+    let at-loop = c .before .before .before in
+    omega (
+      arith,
+      clear-below _ _ (at-loop .loop .inv) (c .before .before .loop-test .taken) (c .if1 .taken)
+          ((c .before .shared-slice-known .given) (at-loop .loop .i) .fits),
+      (c .before .before .before .before .pre),
+    )
 
 returns : tie.Need-returns Inv-loop μ-loop
-returns c = clear-first _ _ (c .before .before .before .loop .inv) (c .before .before .loop-test .taken) (c .if1 .taken) ((c .before .shared-slice-known .given) (c .before .before .before .loop .i) .fits)
+returns c =
+    let at-loop = c .before .before .before in
+    clear-first _ _ (at-loop .loop .inv) (c .before .before .loop-test .taken) (c .if1 .taken)
+    ((c .before .shared-slice-known .given) (at-loop .loop .i) .fits)
 
 add-i : tie.Need-add-i Inv-loop μ-loop
 add-i c = search needs

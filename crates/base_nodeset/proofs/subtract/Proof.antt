@@ -42,7 +42,10 @@ loop-less : tie.Need-loop-less Inv-loop μ-loop
 loop-less c = omega (arith, (c .before .before .before .loop .inv) .same)
 
 loop-again : tie.Need-loop-again Inv-loop μ-loop
-loop-again c = removed-more _ _ _ _ (c .before .before .before .loop .inv) (c .before .before .loop-test .taken) ((c .shared-slice-known .given) (c .before .before .before .loop .i) .fits)
+loop-again c =
+    let at-loop = c .before .before .before in
+    removed-more _ _ _ _ (at-loop .loop .inv) (c .before .before .loop-test .taken)
+    ((c .shared-slice-known .given) (at-loop .loop .i) .fits)
 
 same-length : tie.Need-same-length Inv-loop μ-loop
 same-length c = (c .before .loop .inv) .same

@@ -28,17 +28,33 @@ cast-write-pair-2 : tie.Need-cast-write-pair-2
 cast-write-pair-2 c = search needs
 
 write-pair-requires : tie.Need-write-pair-requires
-write-pair-requires c κs = subst (λ (o : Outcome Answer). (c .before .before .before .before .before .before .before .before .before .args .at) + length (pairLine ((c .before .before .before .before .before .before .before .before .before .args .a), (c .before .before .before .before .before .before .before .before .before .args .b)) o) ≤ length (c .before .before .before .before .before .before .before .before .before .args .buffer .now)) (sym (sym (ap pairAnswer (c .before .before .x .given .1)) ∙ (c .before .before .before .before .pair-answer .ensures))) (c .before .before .before .before .before .before .before .before .before .pre .1)
+write-pair-requires c κs =
+    let start = c .before .before .before .before .before .before .before .before .before in
+    subst (λ (o : Outcome Answer). (start .args .at) + length (pairLine ((start .args .a), (start .args .b)) o) ≤ length
+    (start .args .buffer .now)) (sym (sym (ap pairAnswer (c .before .before .x .given .1)) ∙
+    (c .before .before .before .before .pair-answer .ensures))) (start .pre .1)
 
 returns : tie.Need-returns
 unfolding pairLine
-returns c = subst (λ (o : Outcome Answer). Wrote (c .before .before .before .before .before .before .before .args .buffer .now) (c .before .before .before .before .before .before .before .args .buffer .now) (c .before .before .before .before .before .before .before .args .at) (c .before .before .before .before .before .before .before .args .at) (pairLine ((c .before .before .before .before .before .before .before .args .a), (c .before .before .before .before .before .before .before .args .b)) o)) (sym (ap pairAnswer (c .enum-told .given .1)) ∙ (c .before .before .pair-answer .ensures)) (wrote-none (c .before .before .before .before .before .before .before .args .buffer .now) (c .before .before .before .before .before .before .before .args .at))
+returns c =
+    let start = c .before .before .before .before .before .before .before in
+    subst (λ (o : Outcome Answer). Wrote (start .args .buffer .now) (start .args .buffer .now) (start .args .at) (start .args .at)
+    (pairLine ((start .args .a), (start .args .b)) o))
+    (sym (ap pairAnswer (c .enum-told .given .1)) ∙ (c .before .before .pair-answer .ensures))
+    (wrote-none (start .args .buffer .now) (start .args .at))
 
 same-length : tie.Need-same-length
 same-length c = search needs
 
 returns-2 : tie.Need-returns-2
-returns-2 c = subst (λ (o : Outcome Answer). Wrote (c .before .before .before .before .before .before .before .before .before .before .before .before .args .buffer .now) (c .before .before .write-pair .last .0) (c .before .before .before .before .before .before .before .before .before .before .before .before .args .at) (c .before .before .write-pair .result) (pairLine ((c .before .before .before .before .before .before .before .before .before .before .before .before .args .a), (c .before .before .before .before .before .before .before .before .before .before .before .before .args .b)) o)) (sym (ap pairAnswer (c .before .before .before .before .before .x .given .1)) ∙ (c .before .before .before .before .before .before .before .pair-answer .ensures)) (c .before .before .write-pair .ensures)
+returns-2 c =
+    let start = c .before .before .before .before .before .before .before .before .before .before .before .before in
+    let at-pair-answer = c .before .before .before .before .before .before .before in
+    let at-write-pair = c .before .before in
+    subst (λ (o : Outcome Answer). Wrote (start .args .buffer .now) (at-write-pair .write-pair .last .0) (start .args .at)
+    (at-write-pair .write-pair .result) (pairLine ((start .args .a), (start .args .b)) o))
+    (sym (ap pairAnswer (c .before .before .before .before .before .x .given .1)) ∙ (at-pair-answer .pair-answer .ensures))
+    (at-write-pair .write-pair .ensures)
 
 pub write-answer-spec : {M : Type 1} → statement M
 write-answer-spec =

@@ -10,34 +10,131 @@ use Rattle.listing_lines.proofs.write_pair.Tie as tie
 
 write-byte-requires : tie.Need-write-byte-requires
 unfolding pairLine
-write-byte-requires c κs = left-fits (c .before .before .args .buffer .now) (c .before .before .args .at) _ (c .before .before .pre) _ _ (80 ∷ []) ((44 ∷ digits (c .before .before .args .a)) ++ ((44 ∷ digits (c .before .before .args .b)) ++ ((44 ∷ reportText (c .before .before .args .answer .report)) ++ ((44 ∷ routeText (c .before .before .args .answer .route)) ++ ((10 ∷ []) ++ []))))) (left-all _ _ _)
+write-byte-requires c κs =
+    let start = c .before .before in
+    left-fits (start .args .buffer .now) (start .args .at) _ (start .pre) _ _ (80 ∷ [])
+    ((44 ∷ digits (start .args .a)) ++ ((44 ∷ digits (start .args .b)) ++
+    ((44 ∷ reportText (start .args .answer .report)) ++ ((44 ∷ routeText (start .args .answer .route)) ++ ((10 ∷ []) ++ [])))))
+    (left-all _ _ _)
 
 write-field-requires : tie.Need-write-field-requires
 unfolding pairLine
-write-field-requires c κs = left-fits _ _ _ (c .before .before .before .before .before .before .pre) _ _ (44 ∷ digits (c .before .before .before .before .before .before .args .a)) ((44 ∷ digits (c .before .before .before .before .before .before .args .b)) ++ ((44 ∷ reportText (c .before .before .before .before .before .before .args .answer .report)) ++ ((44 ∷ routeText (c .before .before .before .before .before .before .args .answer .route)) ++ ((10 ∷ []) ++ [])))) (left-more _ _ _ (c .before .before .before .before .before .before .pre) _ _ (80 ∷ []) ((44 ∷ digits (c .before .before .before .before .before .before .args .a)) ++ ((44 ∷ digits (c .before .before .before .before .before .before .args .b)) ++ ((44 ∷ reportText (c .before .before .before .before .before .before .args .answer .report)) ++ ((44 ∷ routeText (c .before .before .before .before .before .before .args .answer .route)) ++ ((10 ∷ []) ++ []))))) (left-all _ _ _) _ _ (c .before .before .before .write-byte .ensures))
+write-field-requires c κs =
+    let start = c .before .before .before .before .before .before in
+    left-fits _ _ _ (start .pre) _ _ (44 ∷ digits (start .args .a))
+    ((44 ∷ digits (start .args .b)) ++ ((44 ∷ reportText (start .args .answer .report)) ++
+    ((44 ∷ routeText (start .args .answer .route)) ++ ((10 ∷ []) ++ []))))
+    (left-more _ _ _ (start .pre) _ _ (80 ∷ [])
+    ((44 ∷ digits (start .args .a)) ++ ((44 ∷ digits (start .args .b)) ++
+    ((44 ∷ reportText (start .args .answer .report)) ++ ((44 ∷ routeText (start .args .answer .route)) ++ ((10 ∷ []) ++ [])))))
+    (left-all _ _ _) _ _ (c .before .before .before .write-byte .ensures))
 
 write-field-requires-2 : tie.Need-write-field-requires-2
 unfolding pairLine
-write-field-requires-2 c κs = left-fits _ _ _ (c .before .before .before .before .before .before .before .before .before .before .pre) _ _ (44 ∷ digits (c .before .before .before .before .before .before .before .before .before .before .args .b)) ((44 ∷ reportText (c .before .before .before .before .before .before .before .before .before .before .args .answer .report)) ++ ((44 ∷ routeText (c .before .before .before .before .before .before .before .before .before .before .args .answer .route)) ++ ((10 ∷ []) ++ []))) (left-more _ _ _ (c .before .before .before .before .before .before .before .before .before .before .pre) _ _ (44 ∷ digits (c .before .before .before .before .before .before .before .before .before .before .args .a)) ((44 ∷ digits (c .before .before .before .before .before .before .before .before .before .before .args .b)) ++ ((44 ∷ reportText (c .before .before .before .before .before .before .before .before .before .before .args .answer .report)) ++ ((44 ∷ routeText (c .before .before .before .before .before .before .before .before .before .before .args .answer .route)) ++ ((10 ∷ []) ++ [])))) (left-more _ _ _ (c .before .before .before .before .before .before .before .before .before .before .pre) _ _ (80 ∷ []) ((44 ∷ digits (c .before .before .before .before .before .before .before .before .before .before .args .a)) ++ ((44 ∷ digits (c .before .before .before .before .before .before .before .before .before .before .args .b)) ++ ((44 ∷ reportText (c .before .before .before .before .before .before .before .before .before .before .args .answer .report)) ++ ((44 ∷ routeText (c .before .before .before .before .before .before .before .before .before .before .args .answer .route)) ++ ((10 ∷ []) ++ []))))) (left-all _ _ _) _ _ (c .before .before .before .before .before .before .before .write-byte .ensures)) _ _ (c .before .before .before .write-field .ensures))
+write-field-requires-2 c κs =
+    let start = c .before .before .before .before .before .before .before .before .before .before in
+    let at-write-byte = c .before .before .before .before .before .before .before in
+    left-fits _ _ _ (start .pre) _ _ (44 ∷ digits (start .args .b))
+    ((44 ∷ reportText (start .args .answer .report)) ++ ((44 ∷ routeText (start .args .answer .route)) ++ ((10 ∷ []) ++ [])))
+    (left-more _ _ _ (start .pre) _ _ (44 ∷ digits (start .args .a))
+    ((44 ∷ digits (start .args .b)) ++ ((44 ∷ reportText (start .args .answer .report)) ++
+    ((44 ∷ routeText (start .args .answer .route)) ++ ((10 ∷ []) ++ []))))
+    (left-more _ _ _ (start .pre) _ _ (80 ∷ [])
+    ((44 ∷ digits (start .args .a)) ++ ((44 ∷ digits (start .args .b)) ++
+    ((44 ∷ reportText (start .args .answer .report)) ++ ((44 ∷ routeText (start .args .answer .route)) ++ ((10 ∷ []) ++ [])))))
+    (left-all _ _ _) _ _ (at-write-byte .write-byte .ensures)) _ _ (c .before .before .before .write-field .ensures))
 
 write-report-requires : tie.Need-write-report-requires
 unfolding pairLine
-write-report-requires c κs = left-fits _ _ _ (c .before .before .before .before .before .before .before .before .before .before .before .before .before .before .pre) _ _ (44 ∷ reportText (c .before .before .before .before .before .before .before .before .before .before .before .before .before .before .args .answer .report)) ((44 ∷ routeText (c .before .before .before .before .before .before .before .before .before .before .before .before .before .before .args .answer .route)) ++ ((10 ∷ []) ++ [])) (left-more _ _ _ (c .before .before .before .before .before .before .before .before .before .before .before .before .before .before .pre) _ _ (44 ∷ digits (c .before .before .before .before .before .before .before .before .before .before .before .before .before .before .args .b)) ((44 ∷ reportText (c .before .before .before .before .before .before .before .before .before .before .before .before .before .before .args .answer .report)) ++ ((44 ∷ routeText (c .before .before .before .before .before .before .before .before .before .before .before .before .before .before .args .answer .route)) ++ ((10 ∷ []) ++ []))) (left-more _ _ _ (c .before .before .before .before .before .before .before .before .before .before .before .before .before .before .pre) _ _ (44 ∷ digits (c .before .before .before .before .before .before .before .before .before .before .before .before .before .before .args .a)) ((44 ∷ digits (c .before .before .before .before .before .before .before .before .before .before .before .before .before .before .args .b)) ++ ((44 ∷ reportText (c .before .before .before .before .before .before .before .before .before .before .before .before .before .before .args .answer .report)) ++ ((44 ∷ routeText (c .before .before .before .before .before .before .before .before .before .before .before .before .before .before .args .answer .route)) ++ ((10 ∷ []) ++ [])))) (left-more _ _ _ (c .before .before .before .before .before .before .before .before .before .before .before .before .before .before .pre) _ _ (80 ∷ []) ((44 ∷ digits (c .before .before .before .before .before .before .before .before .before .before .before .before .before .before .args .a)) ++ ((44 ∷ digits (c .before .before .before .before .before .before .before .before .before .before .before .before .before .before .args .b)) ++ ((44 ∷ reportText (c .before .before .before .before .before .before .before .before .before .before .before .before .before .before .args .answer .report)) ++ ((44 ∷ routeText (c .before .before .before .before .before .before .before .before .before .before .before .before .before .before .args .answer .route)) ++ ((10 ∷ []) ++ []))))) (left-all _ _ _) _ _ (c .before .before .before .before .before .before .before .before .before .before .before .write-byte .ensures)) _ _ (c .before .before .before .before .before .before .before .write-field .ensures)) _ _ (c .before .before .before .write-field2 .ensures))
+write-report-requires c κs =
+    let start = c .before .before .before .before .before .before .before .before .before .before .before .before .before .before in
+    let at-write-byte = c .before .before .before .before .before .before .before .before .before .before .before in
+    let at-write-field = c .before .before .before .before .before .before .before in
+    left-fits _ _ _ (start .pre) _ _ (44 ∷ reportText (start .args .answer .report))
+    ((44 ∷ routeText (start .args .answer .route)) ++ ((10 ∷ []) ++ []))
+    (left-more _ _ _ (start .pre) _ _ (44 ∷ digits (start .args .b))
+    ((44 ∷ reportText (start .args .answer .report)) ++ ((44 ∷ routeText (start .args .answer .route)) ++ ((10 ∷ []) ++ [])))
+    (left-more _ _ _ (start .pre) _ _ (44 ∷ digits (start .args .a))
+    ((44 ∷ digits (start .args .b)) ++ ((44 ∷ reportText (start .args .answer .report)) ++
+    ((44 ∷ routeText (start .args .answer .route)) ++ ((10 ∷ []) ++ []))))
+    (left-more _ _ _ (start .pre) _ _ (80 ∷ [])
+    ((44 ∷ digits (start .args .a)) ++ ((44 ∷ digits (start .args .b)) ++
+    ((44 ∷ reportText (start .args .answer .report)) ++ ((44 ∷ routeText (start .args .answer .route)) ++ ((10 ∷ []) ++ [])))))
+    (left-all _ _ _) _ _ (at-write-byte .write-byte .ensures)) _ _ (at-write-field .write-field .ensures)) _ _
+    (c .before .before .before .write-field2 .ensures))
 
 write-route-requires : tie.Need-write-route-requires
 unfolding pairLine
-write-route-requires c κs = left-fits _ _ _ (c .before .before .before .before .before .before .before .before .before .before .before .before .before .before .before .before .before .before .pre) _ _ (44 ∷ routeText (c .before .before .before .before .before .before .before .before .before .before .before .before .before .before .before .before .before .before .args .answer .route)) ((10 ∷ []) ++ []) (left-more _ _ _ (c .before .before .before .before .before .before .before .before .before .before .before .before .before .before .before .before .before .before .pre) _ _ (44 ∷ reportText (c .before .before .before .before .before .before .before .before .before .before .before .before .before .before .before .before .before .before .args .answer .report)) ((44 ∷ routeText (c .before .before .before .before .before .before .before .before .before .before .before .before .before .before .before .before .before .before .args .answer .route)) ++ ((10 ∷ []) ++ [])) (left-more _ _ _ (c .before .before .before .before .before .before .before .before .before .before .before .before .before .before .before .before .before .before .pre) _ _ (44 ∷ digits (c .before .before .before .before .before .before .before .before .before .before .before .before .before .before .before .before .before .before .args .b)) ((44 ∷ reportText (c .before .before .before .before .before .before .before .before .before .before .before .before .before .before .before .before .before .before .args .answer .report)) ++ ((44 ∷ routeText (c .before .before .before .before .before .before .before .before .before .before .before .before .before .before .before .before .before .before .args .answer .route)) ++ ((10 ∷ []) ++ []))) (left-more _ _ _ (c .before .before .before .before .before .before .before .before .before .before .before .before .before .before .before .before .before .before .pre) _ _ (44 ∷ digits (c .before .before .before .before .before .before .before .before .before .before .before .before .before .before .before .before .before .before .args .a)) ((44 ∷ digits (c .before .before .before .before .before .before .before .before .before .before .before .before .before .before .before .before .before .before .args .b)) ++ ((44 ∷ reportText (c .before .before .before .before .before .before .before .before .before .before .before .before .before .before .before .before .before .before .args .answer .report)) ++ ((44 ∷ routeText (c .before .before .before .before .before .before .before .before .before .before .before .before .before .before .before .before .before .before .args .answer .route)) ++ ((10 ∷ []) ++ [])))) (left-more _ _ _ (c .before .before .before .before .before .before .before .before .before .before .before .before .before .before .before .before .before .before .pre) _ _ (80 ∷ []) ((44 ∷ digits (c .before .before .before .before .before .before .before .before .before .before .before .before .before .before .before .before .before .before .args .a)) ++ ((44 ∷ digits (c .before .before .before .before .before .before .before .before .before .before .before .before .before .before .before .before .before .before .args .b)) ++ ((44 ∷ reportText (c .before .before .before .before .before .before .before .before .before .before .before .before .before .before .before .before .before .before .args .answer .report)) ++ ((44 ∷ routeText (c .before .before .before .before .before .before .before .before .before .before .before .before .before .before .before .before .before .before .args .answer .route)) ++ ((10 ∷ []) ++ []))))) (left-all _ _ _) _ _ (c .before .before .before .before .before .before .before .before .before .before .before .before .before .before .before .write-byte .ensures)) _ _ (c .before .before .before .before .before .before .before .before .before .before .before .write-field .ensures)) _ _ (c .before .before .before .before .before .before .before .write-field2 .ensures)) _ _ (c .before .before .before .write-report .ensures))
+write-route-requires c κs =
+    let start = c .before .before .before .before .before .before .before .before .before .before .before .before .before .before .before .before .before .before in
+    let at-write-byte = c .before .before .before .before .before .before .before .before .before .before .before .before .before .before .before in
+    let at-write-field = c .before .before .before .before .before .before .before .before .before .before .before in
+    let at-write-field2 = c .before .before .before .before .before .before .before in
+    left-fits _ _ _ (start .pre) _ _ (44 ∷ routeText (start .args .answer .route)) ((10 ∷ []) ++ [])
+    (left-more _ _ _ (start .pre) _ _ (44 ∷ reportText (start .args .answer .report))
+    ((44 ∷ routeText (start .args .answer .route)) ++ ((10 ∷ []) ++ []))
+    (left-more _ _ _ (start .pre) _ _ (44 ∷ digits (start .args .b))
+    ((44 ∷ reportText (start .args .answer .report)) ++ ((44 ∷ routeText (start .args .answer .route)) ++ ((10 ∷ []) ++ [])))
+    (left-more _ _ _ (start .pre) _ _ (44 ∷ digits (start .args .a))
+    ((44 ∷ digits (start .args .b)) ++ ((44 ∷ reportText (start .args .answer .report)) ++
+    ((44 ∷ routeText (start .args .answer .route)) ++ ((10 ∷ []) ++ []))))
+    (left-more _ _ _ (start .pre) _ _ (80 ∷ [])
+    ((44 ∷ digits (start .args .a)) ++ ((44 ∷ digits (start .args .b)) ++
+    ((44 ∷ reportText (start .args .answer .report)) ++ ((44 ∷ routeText (start .args .answer .route)) ++ ((10 ∷ []) ++ [])))))
+    (left-all _ _ _) _ _ (at-write-byte .write-byte .ensures)) _ _ (at-write-field .write-field .ensures)) _ _
+    (at-write-field2 .write-field2 .ensures)) _ _ (c .before .before .before .write-report .ensures))
 
 write-byte-requires-2 : tie.Need-write-byte-requires-2
 unfolding pairLine
-write-byte-requires-2 c κs = left-fits _ _ _ (c .before .before .before .before .before .before .before .before .before .before .before .before .before .before .before .before .before .before .before .before .before .before .pre) _ _ (10 ∷ []) [] (left-more _ _ _ (c .before .before .before .before .before .before .before .before .before .before .before .before .before .before .before .before .before .before .before .before .before .before .pre) _ _ (44 ∷ routeText (c .before .before .before .before .before .before .before .before .before .before .before .before .before .before .before .before .before .before .before .before .before .before .args .answer .route)) ((10 ∷ []) ++ []) (left-more _ _ _ (c .before .before .before .before .before .before .before .before .before .before .before .before .before .before .before .before .before .before .before .before .before .before .pre) _ _ (44 ∷ reportText (c .before .before .before .before .before .before .before .before .before .before .before .before .before .before .before .before .before .before .before .before .before .before .args .answer .report)) ((44 ∷ routeText (c .before .before .before .before .before .before .before .before .before .before .before .before .before .before .before .before .before .before .before .before .before .before .args .answer .route)) ++ ((10 ∷ []) ++ [])) (left-more _ _ _ (c .before .before .before .before .before .before .before .before .before .before .before .before .before .before .before .before .before .before .before .before .before .before .pre) _ _ (44 ∷ digits (c .before .before .before .before .before .before .before .before .before .before .before .before .before .before .before .before .before .before .before .before .before .before .args .b)) ((44 ∷ reportText (c .before .before .before .before .before .before .before .before .before .before .before .before .before .before .before .before .before .before .before .before .before .before .args .answer .report)) ++ ((44 ∷ routeText (c .before .before .before .before .before .before .before .before .before .before .before .before .before .before .before .before .before .before .before .before .before .before .args .answer .route)) ++ ((10 ∷ []) ++ []))) (left-more _ _ _ (c .before .before .before .before .before .before .before .before .before .before .before .before .before .before .before .before .before .before .before .before .before .before .pre) _ _ (44 ∷ digits (c .before .before .before .before .before .before .before .before .before .before .before .before .before .before .before .before .before .before .before .before .before .before .args .a)) ((44 ∷ digits (c .before .before .before .before .before .before .before .before .before .before .before .before .before .before .before .before .before .before .before .before .before .before .args .b)) ++ ((44 ∷ reportText (c .before .before .before .before .before .before .before .before .before .before .before .before .before .before .before .before .before .before .before .before .before .before .args .answer .report)) ++ ((44 ∷ routeText (c .before .before .before .before .before .before .before .before .before .before .before .before .before .before .before .before .before .before .before .before .before .before .args .answer .route)) ++ ((10 ∷ []) ++ [])))) (left-more _ _ _ (c .before .before .before .before .before .before .before .before .before .before .before .before .before .before .before .before .before .before .before .before .before .before .pre) _ _ (80 ∷ []) ((44 ∷ digits (c .before .before .before .before .before .before .before .before .before .before .before .before .before .before .before .before .before .before .before .before .before .before .args .a)) ++ ((44 ∷ digits (c .before .before .before .before .before .before .before .before .before .before .before .before .before .before .before .before .before .before .before .before .before .before .args .b)) ++ ((44 ∷ reportText (c .before .before .before .before .before .before .before .before .before .before .before .before .before .before .before .before .before .before .before .before .before .before .args .answer .report)) ++ ((44 ∷ routeText (c .before .before .before .before .before .before .before .before .before .before .before .before .before .before .before .before .before .before .before .before .before .before .args .answer .route)) ++ ((10 ∷ []) ++ []))))) (left-all _ _ _) _ _ (c .before .before .before .before .before .before .before .before .before .before .before .before .before .before .before .before .before .before .before .write-byte .ensures)) _ _ (c .before .before .before .before .before .before .before .before .before .before .before .before .before .before .before .write-field .ensures)) _ _ (c .before .before .before .before .before .before .before .before .before .before .before .write-field2 .ensures)) _ _ (c .before .before .before .before .before .before .before .write-report .ensures)) _ _ (c .before .before .before .write-route .ensures))
+write-byte-requires-2 c κs =
+    let start = c .before .before .before .before .before .before .before .before .before .before .before .before .before .before .before .before .before .before .before .before .before .before in
+    let at-write-byte = c .before .before .before .before .before .before .before .before .before .before .before .before .before .before .before .before .before .before .before in
+    let at-write-field = c .before .before .before .before .before .before .before .before .before .before .before .before .before .before .before in
+    let at-write-field2 = c .before .before .before .before .before .before .before .before .before .before .before in
+    let at-write-report = c .before .before .before .before .before .before .before in
+    left-fits _ _ _ (start .pre) _ _ (10 ∷ []) []
+    (left-more _ _ _ (start .pre) _ _ (44 ∷ routeText (start .args .answer .route)) ((10 ∷ []) ++ [])
+    (left-more _ _ _ (start .pre) _ _ (44 ∷ reportText (start .args .answer .report))
+    ((44 ∷ routeText (start .args .answer .route)) ++ ((10 ∷ []) ++ []))
+    (left-more _ _ _ (start .pre) _ _ (44 ∷ digits (start .args .b))
+    ((44 ∷ reportText (start .args .answer .report)) ++ ((44 ∷ routeText (start .args .answer .route)) ++ ((10 ∷ []) ++ [])))
+    (left-more _ _ _ (start .pre) _ _ (44 ∷ digits (start .args .a))
+    ((44 ∷ digits (start .args .b)) ++ ((44 ∷ reportText (start .args .answer .report)) ++
+    ((44 ∷ routeText (start .args .answer .route)) ++ ((10 ∷ []) ++ []))))
+    (left-more _ _ _ (start .pre) _ _ (80 ∷ [])
+    ((44 ∷ digits (start .args .a)) ++ ((44 ∷ digits (start .args .b)) ++
+    ((44 ∷ reportText (start .args .answer .report)) ++ ((44 ∷ routeText (start .args .answer .route)) ++ ((10 ∷ []) ++ [])))))
+    (left-all _ _ _) _ _ (at-write-byte .write-byte .ensures)) _ _ (at-write-field .write-field .ensures)) _ _
+    (at-write-field2 .write-field2 .ensures)) _ _ (at-write-report .write-report .ensures)) _ _
+    (c .before .before .before .write-route .ensures))
 
 same-length : tie.Need-same-length
 same-length c = search needs
 
 returns : tie.Need-returns
 unfolding pairLine
-returns c = left-none _ _ _ (c .before .before .before .before .before .before .before .before .before .before .before .before .before .before .before .before .before .before .before .before .before .before .before .before .before .pre) _ _ (left-more _ _ _ (c .before .before .before .before .before .before .before .before .before .before .before .before .before .before .before .before .before .before .before .before .before .before .before .before .before .pre) _ _ (10 ∷ []) [] (left-more _ _ _ (c .before .before .before .before .before .before .before .before .before .before .before .before .before .before .before .before .before .before .before .before .before .before .before .before .before .pre) _ _ (44 ∷ routeText (c .before .before .before .before .before .before .before .before .before .before .before .before .before .before .before .before .before .before .before .before .before .before .before .before .before .args .answer .route)) ((10 ∷ []) ++ []) (left-more _ _ _ (c .before .before .before .before .before .before .before .before .before .before .before .before .before .before .before .before .before .before .before .before .before .before .before .before .before .pre) _ _ (44 ∷ reportText (c .before .before .before .before .before .before .before .before .before .before .before .before .before .before .before .before .before .before .before .before .before .before .before .before .before .args .answer .report)) ((44 ∷ routeText (c .before .before .before .before .before .before .before .before .before .before .before .before .before .before .before .before .before .before .before .before .before .before .before .before .before .args .answer .route)) ++ ((10 ∷ []) ++ [])) (left-more _ _ _ (c .before .before .before .before .before .before .before .before .before .before .before .before .before .before .before .before .before .before .before .before .before .before .before .before .before .pre) _ _ (44 ∷ digits (c .before .before .before .before .before .before .before .before .before .before .before .before .before .before .before .before .before .before .before .before .before .before .before .before .before .args .b)) ((44 ∷ reportText (c .before .before .before .before .before .before .before .before .before .before .before .before .before .before .before .before .before .before .before .before .before .before .before .before .before .args .answer .report)) ++ ((44 ∷ routeText (c .before .before .before .before .before .before .before .before .before .before .before .before .before .before .before .before .before .before .before .before .before .before .before .before .before .args .answer .route)) ++ ((10 ∷ []) ++ []))) (left-more _ _ _ (c .before .before .before .before .before .before .before .before .before .before .before .before .before .before .before .before .before .before .before .before .before .before .before .before .before .pre) _ _ (44 ∷ digits (c .before .before .before .before .before .before .before .before .before .before .before .before .before .before .before .before .before .before .before .before .before .before .before .before .before .args .a)) ((44 ∷ digits (c .before .before .before .before .before .before .before .before .before .before .before .before .before .before .before .before .before .before .before .before .before .before .before .before .before .args .b)) ++ ((44 ∷ reportText (c .before .before .before .before .before .before .before .before .before .before .before .before .before .before .before .before .before .before .before .before .before .before .before .before .before .args .answer .report)) ++ ((44 ∷ routeText (c .before .before .before .before .before .before .before .before .before .before .before .before .before .before .before .before .before .before .before .before .before .before .before .before .before .args .answer .route)) ++ ((10 ∷ []) ++ [])))) (left-more _ _ _ (c .before .before .before .before .before .before .before .before .before .before .before .before .before .before .before .before .before .before .before .before .before .before .before .before .before .pre) _ _ (80 ∷ []) ((44 ∷ digits (c .before .before .before .before .before .before .before .before .before .before .before .before .before .before .before .before .before .before .before .before .before .before .before .before .before .args .a)) ++ ((44 ∷ digits (c .before .before .before .before .before .before .before .before .before .before .before .before .before .before .before .before .before .before .before .before .before .before .before .before .before .args .b)) ++ ((44 ∷ reportText (c .before .before .before .before .before .before .before .before .before .before .before .before .before .before .before .before .before .before .before .before .before .before .before .before .before .args .answer .report)) ++ ((44 ∷ routeText (c .before .before .before .before .before .before .before .before .before .before .before .before .before .before .before .before .before .before .before .before .before .before .before .before .before .args .answer .route)) ++ ((10 ∷ []) ++ []))))) (left-all _ _ _) _ _ (c .before .before .before .before .before .before .before .before .before .before .before .before .before .before .before .before .before .before .before .before .before .before .write-byte .ensures)) _ _ (c .before .before .before .before .before .before .before .before .before .before .before .before .before .before .before .before .before .before .write-field .ensures)) _ _ (c .before .before .before .before .before .before .before .before .before .before .before .before .before .before .write-field2 .ensures)) _ _ (c .before .before .before .before .before .before .before .before .before .before .write-report .ensures)) _ _ (c .before .before .before .before .before .before .write-route .ensures)) _ _ (c .before .before .write-byte2 .ensures))
+returns c =
+    let start = c .before .before .before .before .before .before .before .before .before .before .before .before .before .before .before .before .before .before .before .before .before .before .before .before .before in
+    let at-write-byte = c .before .before .before .before .before .before .before .before .before .before .before .before .before .before .before .before .before .before .before .before .before .before in
+    let at-write-field = c .before .before .before .before .before .before .before .before .before .before .before .before .before .before .before .before .before .before in
+    let at-write-field2 = c .before .before .before .before .before .before .before .before .before .before .before .before .before .before in
+    let at-write-report = c .before .before .before .before .before .before .before .before .before .before in
+    let at-write-route = c .before .before .before .before .before .before in
+    left-none _ _ _ (start .pre) _ _ (left-more _ _ _ (start .pre) _ _ (10 ∷ []) []
+    (left-more _ _ _ (start .pre) _ _ (44 ∷ routeText (start .args .answer .route)) ((10 ∷ []) ++ [])
+    (left-more _ _ _ (start .pre) _ _ (44 ∷ reportText (start .args .answer .report))
+    ((44 ∷ routeText (start .args .answer .route)) ++ ((10 ∷ []) ++ []))
+    (left-more _ _ _ (start .pre) _ _ (44 ∷ digits (start .args .b))
+    ((44 ∷ reportText (start .args .answer .report)) ++ ((44 ∷ routeText (start .args .answer .route)) ++ ((10 ∷ []) ++ [])))
+    (left-more _ _ _ (start .pre) _ _ (44 ∷ digits (start .args .a))
+    ((44 ∷ digits (start .args .b)) ++ ((44 ∷ reportText (start .args .answer .report)) ++
+    ((44 ∷ routeText (start .args .answer .route)) ++ ((10 ∷ []) ++ []))))
+    (left-more _ _ _ (start .pre) _ _ (80 ∷ [])
+    ((44 ∷ digits (start .args .a)) ++ ((44 ∷ digits (start .args .b)) ++
+    ((44 ∷ reportText (start .args .answer .report)) ++ ((44 ∷ routeText (start .args .answer .route)) ++ ((10 ∷ []) ++ [])))))
+    (left-all _ _ _) _ _ (at-write-byte .write-byte .ensures)) _ _ (at-write-field .write-field .ensures)) _ _
+    (at-write-field2 .write-field2 .ensures)) _ _ (at-write-report .write-report .ensures)) _ _ (at-write-route .write-route .ensures))
+    _ _ (c .before .before .write-byte2 .ensures))
 
 pub write-pair-spec : {M : Type 1} → statement M
 write-pair-spec =

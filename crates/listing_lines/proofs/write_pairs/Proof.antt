@@ -22,22 +22,66 @@ loop-holds : tie.Need-loop-holds Inv-loop μ-loop
 loop-holds c = (omega arith, left-all _ _ _)
 
 write-row-requires : tie.Need-write-row-requires Inv-loop μ-loop
-write-row-requires c κs = (((c .before .before .before .before .before .before .before .pre .0 .0), (c .before .before .before .before .before .before .before .pre .0 .1), (c .before .before .before .before .before .before .before .pre .0 .2), (c .before .before .before .before .before .before .before .pre .0 .3), (c .before .loop-test .taken)), left-fits _ _ _ (subst (λ (t : List ℕ). (c .before .before .before .before .before .before .before .args .at) + length t ≤ length (c .before .before .before .before .before .before .before .args .buffer .now)) (pairs-rows (c .before .before .before .before .before .before .before .args .n) (c .before .before .before .before .before .before .before .args .full .now) (c .before .before .before .before .before .before .before .args .low .now) (c .before .before .before .before .before .before .before .args .report .now)) (c .before .before .before .before .before .before .before .pre .1)) _ _ (rowText (c .before .before .before .before .before .before .before .args .n) (c .before .before .before .before .before .before .before .args .full .now) (c .before .before .before .before .before .before .before .args .low .now) (c .before .before .before .before .before .before .before .args .report .now) (c .before .before .loop .a) ((c .before .before .loop .a) + 1)) (rowsFrom (c .before .before .before .before .before .before .before .args .n) (c .before .before .before .before .before .before .before .args .full .now) (c .before .before .before .before .before .before .before .args .low .now) (c .before .before .before .before .before .before .before .args .report .now) ((c .before .before .loop .a) + 1)) (subst (λ (t : List ℕ). Left (c .before .before .before .before .before .before .before .args .buffer .now) (c .before .before .loop .buffer) (c .before .before .before .before .before .before .before .args .at) (c .before .before .loop .i) (rowsFrom (c .before .before .before .before .before .before .before .args .n) (c .before .before .before .before .before .before .before .args .full .now) (c .before .before .before .before .before .before .before .args .low .now) (c .before .before .before .before .before .before .before .args .report .now) 0) t) (rows-next (c .before .before .before .before .before .before .before .args .n) (c .before .before .before .before .before .before .before .args .full .now) (c .before .before .before .before .before .before .before .args .low .now) (c .before .before .before .before .before .before .before .args .report .now) (c .before .before .loop .a) (c .before .loop-test .taken)) (c .before .before .loop .inv .1)))
+write-row-requires c κs =
+    let start = c .before .before .before .before .before .before .before in
+    let at-loop = c .before .before in
+    let at-loop-test = c .before in (
+      ((start .pre .0 .0), (start .pre .0 .1), (start .pre .0 .2), (start .pre .0 .3), (at-loop-test .loop-test .taken)),
+      left-fits _ _ _
+          (subst (λ (t : List ℕ). (start .args .at) + length t ≤ length (start .args .buffer .now))
+          (pairs-rows (start .args .n) (start .args .full .now) (start .args .low .now) (start .args .report .now)) (start .pre .1)) _ _
+          (rowText (start .args .n) (start .args .full .now) (start .args .low .now) (start .args .report .now) (at-loop .loop .a)
+          ((at-loop .loop .a) + 1)) (rowsFrom (start .args .n) (start .args .full .now) (start .args .low .now) (start .args .report .now)
+          ((at-loop .loop .a) + 1)) (subst (λ (t : List ℕ). Left (start .args .buffer .now) (at-loop .loop .buffer) (start .args .at)
+          (at-loop .loop .i) (rowsFrom (start .args .n) (start .args .full .now) (start .args .low .now) (start .args .report .now) 0) t)
+          (rows-next (start .args .n) (start .args .full .now) (start .args .low .now) (start .args .report .now) (at-loop .loop .a)
+          (at-loop-test .loop-test .taken)) (at-loop .loop .inv .1)),
+    )
 
 add-a : tie.Need-add-a Inv-loop μ-loop
-add-a c = omega (arith, (c .before .before .before .before .before .before .before .before .before .before .pre .0), (c .before .before .before .before .loop-test .taken))
+add-a c =
+    let start = c .before .before .before .before .before .before .before .before .before .before in
+    omega (arith, (start .pre .0), (c .before .before .before .before .loop-test .taken))
 
 loop-less : tie.Need-loop-less Inv-loop μ-loop
 loop-less c = omega (arith, (c .before .before .before .before .loop-test .taken))
 
 loop-again : tie.Need-loop-again Inv-loop μ-loop
-loop-again c = (omega (arith, (c .before .before .before .before .loop-test .taken)), left-more _ _ _ (subst (λ (t : List ℕ). (c .before .before .before .before .before .before .before .before .before .before .args .at) + length t ≤ length (c .before .before .before .before .before .before .before .before .before .before .args .buffer .now)) (pairs-rows (c .before .before .before .before .before .before .before .before .before .before .args .n) (c .before .before .before .before .before .before .before .before .before .before .args .full .now) (c .before .before .before .before .before .before .before .before .before .before .args .low .now) (c .before .before .before .before .before .before .before .before .before .before .args .report .now)) (c .before .before .before .before .before .before .before .before .before .before .pre .1)) _ _ (rowText (c .before .before .before .before .before .before .before .before .before .before .args .n) (c .before .before .before .before .before .before .before .before .before .before .args .full .now) (c .before .before .before .before .before .before .before .before .before .before .args .low .now) (c .before .before .before .before .before .before .before .before .before .before .args .report .now) (c .before .before .before .before .before .loop .a) ((c .before .before .before .before .before .loop .a) + 1)) (rowsFrom (c .before .before .before .before .before .before .before .before .before .before .args .n) (c .before .before .before .before .before .before .before .before .before .before .args .full .now) (c .before .before .before .before .before .before .before .before .before .before .args .low .now) (c .before .before .before .before .before .before .before .before .before .before .args .report .now) ((c .before .before .before .before .before .loop .a) + 1)) (subst (λ (t : List ℕ). Left (c .before .before .before .before .before .before .before .before .before .before .args .buffer .now) (c .before .before .before .before .before .loop .buffer) (c .before .before .before .before .before .before .before .before .before .before .args .at) (c .before .before .before .before .before .loop .i) (rowsFrom (c .before .before .before .before .before .before .before .before .before .before .args .n) (c .before .before .before .before .before .before .before .before .before .before .args .full .now) (c .before .before .before .before .before .before .before .before .before .before .args .low .now) (c .before .before .before .before .before .before .before .before .before .before .args .report .now) 0) t) (rows-next (c .before .before .before .before .before .before .before .before .before .before .args .n) (c .before .before .before .before .before .before .before .before .before .before .args .full .now) (c .before .before .before .before .before .before .before .before .before .before .args .low .now) (c .before .before .before .before .before .before .before .before .before .before .args .report .now) (c .before .before .before .before .before .loop .a) (c .before .before .before .before .loop-test .taken)) (c .before .before .before .before .before .loop .inv .1)) _ _ (c .before .before .write-row .ensures))
+loop-again c =
+    let start = c .before .before .before .before .before .before .before .before .before .before in
+    let at-loop = c .before .before .before .before .before in
+    let at-loop-test = c .before .before .before .before in (
+      omega (arith, (at-loop-test .loop-test .taken)),
+      left-more _ _ _
+          (subst (λ (t : List ℕ). (start .args .at) + length t ≤ length (start .args .buffer .now))
+          (pairs-rows (start .args .n) (start .args .full .now) (start .args .low .now) (start .args .report .now)) (start .pre .1)) _ _
+          (rowText (start .args .n) (start .args .full .now) (start .args .low .now) (start .args .report .now) (at-loop .loop .a)
+          ((at-loop .loop .a) + 1)) (rowsFrom (start .args .n) (start .args .full .now) (start .args .low .now) (start .args .report .now)
+          ((at-loop .loop .a) + 1)) (subst (λ (t : List ℕ). Left (start .args .buffer .now) (at-loop .loop .buffer) (start .args .at)
+          (at-loop .loop .i) (rowsFrom (start .args .n) (start .args .full .now) (start .args .low .now) (start .args .report .now) 0) t)
+          (rows-next (start .args .n) (start .args .full .now) (start .args .low .now) (start .args .report .now) (at-loop .loop .a)
+          (at-loop-test .loop-test .taken)) (at-loop .loop .inv .1)) _ _ (c .before .before .write-row .ensures),
+    )
 
 same-length : tie.Need-same-length Inv-loop μ-loop
-same-length c = left-length _ _ _ (subst (λ (t : List ℕ). (c .before .before .before .before .before .before .args .at) + length t ≤ length (c .before .before .before .before .before .before .args .buffer .now)) (pairs-rows (c .before .before .before .before .before .before .args .n) (c .before .before .before .before .before .before .args .full .now) (c .before .before .before .before .before .before .args .low .now) (c .before .before .before .before .before .before .args .report .now)) (c .before .before .before .before .before .before .pre .1)) _ _ _ (c .before .loop .inv .1)
+same-length c =
+    let start = c .before .before .before .before .before .before in
+    left-length _ _ _ (subst (λ (t : List ℕ). (start .args .at) + length t ≤ length (start .args .buffer .now))
+    (pairs-rows (start .args .n) (start .args .full .now) (start .args .low .now) (start .args .report .now)) (start .pre .1)) _ _ _
+    (c .before .loop .inv .1)
 
 returns : tie.Need-returns Inv-loop μ-loop
-returns c = subst (λ (t : List ℕ). Wrote (c .before .before .before .before .before .before .args .buffer .now) (c .before .loop .buffer) (c .before .before .before .before .before .before .args .at) (c .before .loop .i) t) (sym (pairs-rows (c .before .before .before .before .before .before .args .n) (c .before .before .before .before .before .before .args .full .now) (c .before .before .before .before .before .before .args .low .now) (c .before .before .before .before .before .before .args .report .now))) (left-none _ _ _ (subst (λ (t : List ℕ). (c .before .before .before .before .before .before .args .at) + length t ≤ length (c .before .before .before .before .before .before .args .buffer .now)) (pairs-rows (c .before .before .before .before .before .before .args .n) (c .before .before .before .before .before .before .args .full .now) (c .before .before .before .before .before .before .args .low .now) (c .before .before .before .before .before .before .args .report .now)) (c .before .before .before .before .before .before .pre .1)) _ _ (subst (λ (t : List ℕ). Left (c .before .before .before .before .before .before .args .buffer .now) (c .before .loop .buffer) (c .before .before .before .before .before .before .args .at) (c .before .loop .i) (rowsFrom (c .before .before .before .before .before .before .args .n) (c .before .before .before .before .before .before .args .full .now) (c .before .before .before .before .before .before .args .low .now) (c .before .before .before .before .before .before .args .report .now) 0) t) (rows-end (c .before .before .before .before .before .before .args .n) (c .before .before .before .before .before .before .args .full .now) (c .before .before .before .before .before .before .args .low .now) (c .before .before .before .before .before .before .args .report .now) (c .before .loop .a) (c .loop-test .left)) (c .before .loop .inv .1)))
+returns c =
+    let start = c .before .before .before .before .before .before in
+    let at-loop = c .before in
+    subst (λ (t : List ℕ). Wrote (start .args .buffer .now) (at-loop .loop .buffer) (start .args .at) (at-loop .loop .i) t)
+    (sym (pairs-rows (start .args .n) (start .args .full .now) (start .args .low .now) (start .args .report .now)))
+    (left-none _ _ _ (subst (λ (t : List ℕ). (start .args .at) + length t ≤ length (start .args .buffer .now))
+    (pairs-rows (start .args .n) (start .args .full .now) (start .args .low .now) (start .args .report .now)) (start .pre .1)) _ _
+    (subst (λ (t : List ℕ). Left (start .args .buffer .now) (at-loop .loop .buffer) (start .args .at) (at-loop .loop .i)
+    (rowsFrom (start .args .n) (start .args .full .now) (start .args .low .now) (start .args .report .now) 0) t)
+    (rows-end (start .args .n) (start .args .full .now) (start .args .low .now) (start .args .report .now) (at-loop .loop .a)
+    (c .loop-test .left)) (at-loop .loop .inv .1)))
 
 pub write-pairs-spec : {M : Type 1} → statement M
 write-pairs-spec =

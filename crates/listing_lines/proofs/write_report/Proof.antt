@@ -11,22 +11,38 @@ use Rattle.listing_lines.proofs.write_report.Statement.{statement}
 use Rattle.listing_lines.proofs.write_report.Tie as tie
 
 write-two-requires : tie.Need-write-two-requires
-write-two-requires c κs = subst (λ (t : List ℕ). (c .before .before .before .args .at) + length (44 ∷ t) ≤ length (c .before .before .before .args .buffer .now)) (report-none (c .before .before .before .args .report) (c .before .if1 .taken)) (c .before .before .before .pre)
+write-two-requires c κs =
+    let start = c .before .before .before in
+    subst (λ (t : List ℕ). (start .args .at) + length (44 ∷ t) ≤ length (start .args .buffer .now))
+    (report-none (start .args .report) (c .before .if1 .taken)) (start .pre)
 
 same-length : tie.Need-same-length
 same-length c = search needs
 
 returns : tie.Need-returns
-returns c = subst (λ (t : List ℕ). Wrote (c .before .before .before .before .before .before .args .buffer .now) (c .before .before .write-two .last .0) (c .before .before .before .before .before .before .args .at) (c .before .before .write-two .result) (44 ∷ t)) (sym (report-none (c .before .before .before .before .before .before .args .report) (c .before .before .before .before .if1 .taken))) (c .before .before .write-two .ensures)
+returns c =
+    let start = c .before .before .before .before .before .before in
+    let at-write-two = c .before .before in
+    subst (λ (t : List ℕ). Wrote (start .args .buffer .now) (at-write-two .write-two .last .0) (start .args .at)
+    (at-write-two .write-two .result) (44 ∷ t))
+    (sym (report-none (start .args .report) (c .before .before .before .before .if1 .taken))) (at-write-two .write-two .ensures)
 
 write-field-requires : tie.Need-write-field-requires
-write-field-requires c κs = subst (λ (t : List ℕ). (c .before .before .before .args .at) + length (44 ∷ t) ≤ length (c .before .before .before .args .buffer .now)) (report-some (c .before .before .before .args .report) (c .before .if1 .left)) (c .before .before .before .pre)
+write-field-requires c κs =
+    let start = c .before .before .before in
+    subst (λ (t : List ℕ). (start .args .at) + length (44 ∷ t) ≤ length (start .args .buffer .now))
+    (report-some (start .args .report) (c .before .if1 .left)) (start .pre)
 
 same-length-2 : tie.Need-same-length-2
 same-length-2 c = search needs
 
 returns-2 : tie.Need-returns-2
-returns-2 c = subst (λ (t : List ℕ). Wrote (c .before .before .before .before .before .before .args .buffer .now) (c .before .before .write-field .last .0) (c .before .before .before .before .before .before .args .at) (c .before .before .write-field .result) (44 ∷ t)) (sym (report-some (c .before .before .before .before .before .before .args .report) (c .before .before .before .before .if1 .left))) (c .before .before .write-field .ensures)
+returns-2 c =
+    let start = c .before .before .before .before .before .before in
+    let at-write-field = c .before .before in
+    subst (λ (t : List ℕ). Wrote (start .args .buffer .now) (at-write-field .write-field .last .0) (start .args .at)
+    (at-write-field .write-field .result) (44 ∷ t))
+    (sym (report-some (start .args .report) (c .before .before .before .before .if1 .left))) (at-write-field .write-field .ensures)
 
 pub write-report-spec : {M : Type 1} → statement M
 write-report-spec =

@@ -24,11 +24,24 @@ enum-told-2 c = search needs
 
 write-two-requires : tie.Need-write-two-requires
 unfolding routeText
-write-two-requires c κs = omega (arith, subst (λ (t : Route). (c .before .before .before .before .args .at) + length (44 ∷ routeText t) ≤ length (c .before .before .before .before .args .buffer .now)) (c .before .enum-told2 .given .1) (c .before .before .before .before .pre))
+write-two-requires c κs =
+    let start = c .before .before .before .before in
+    omega (
+      arith,
+      subst (λ (t : Route). (start .args .at) + length (44 ∷ routeText t) ≤ length (start .args .buffer .now))
+          (c .before .enum-told2 .given .1) (start .pre),
+    )
 
 write-two-requires-2 : tie.Need-write-two-requires-2
 unfolding routeText
-write-two-requires-2 c κs = wrote-room (111 ∷ 119 ∷ []) (omega (arith, subst (λ (t : Route). (c .before .before .before .before .before .before .before .before .args .at) + length (44 ∷ routeText t) ≤ length (c .before .before .before .before .before .before .before .before .args .buffer .now)) (c .before .before .before .before .before .enum-told2 .given .1) (c .before .before .before .before .before .before .before .before .pre))) (c .before .before .before .write-two .ensures)
+write-two-requires-2 c κs =
+    let start = c .before .before .before .before .before .before .before .before in
+    wrote-room (111 ∷ 119 ∷ []) (omega (
+      arith,
+      subst
+          (λ (t : Route). (start .args .at) + length (44 ∷ routeText t) ≤ length (start .args .buffer .now))
+          (c .before .before .before .before .before .enum-told2 .given .1) (start .pre),
+    )) (c .before .before .before .write-two .ensures)
 
 enum-known-route : tie.Need-enum-known-route
 enum-known-route c = search needs
@@ -38,42 +51,74 @@ cast-write-field c = search needs
 
 write-field-requires : tie.Need-write-field-requires
 unfolding routeText
-write-field-requires c κs = subst (λ (t : Route). (c .before .before .before .before .before .args .at) + length (44 ∷ routeText t) ≤ length (c .before .before .before .before .before .args .buffer .now)) (c .before .before .route .given .1) (c .before .before .before .before .before .pre)
+write-field-requires c κs =
+    let start = c .before .before .before .before .before in
+    subst (λ (t : Route). (start .args .at) + length (44 ∷ routeText t) ≤ length (start .args .buffer .now))
+    (c .before .before .route .given .1) (start .pre)
 
 enum-told-3 : tie.Need-enum-told-3
 enum-told-3 c = search needs
 
 write-two-requires-3 : tie.Need-write-two-requires-3
 unfolding routeText
-write-two-requires-3 c κs = subst (λ (t : Route). (c .before .before .before .before .args .at) + length (44 ∷ routeText t) ≤ length (c .before .before .before .before .args .buffer .now)) (c .before .enum-told3 .given .1) (c .before .before .before .before .pre)
+write-two-requires-3 c κs =
+    let start = c .before .before .before .before in
+    subst (λ (t : Route). (start .args .at) + length (44 ∷ routeText t) ≤ length (start .args .buffer .now))
+    (c .before .enum-told3 .given .1) (start .pre)
 
 same-length : tie.Need-same-length
 same-length c = search needs
 
 returns : tie.Need-returns
 unfolding routeText
-returns c = subst (λ (t : Route). Wrote (c .before .before .before .before .before .before .before .args .buffer .now) (c .before .before .write-byte .last .0) (c .before .before .before .before .before .before .before .args .at) (c .before .before .write-byte .result) (44 ∷ routeText t)) (sym (c .before .before .before .before .enum-told .given .1)) (c .before .before .write-byte .ensures)
+returns c =
+    let start = c .before .before .before .before .before .before .before in
+    let at-write-byte = c .before .before in
+    subst (λ (t : Route). Wrote (start .args .buffer .now) (at-write-byte .write-byte .last .0) (start .args .at)
+    (at-write-byte .write-byte .result) (44 ∷ routeText t)) (sym (c .before .before .before .before .enum-told .given .1))
+    (at-write-byte .write-byte .ensures)
 
 same-length-2 : tie.Need-same-length-2
 same-length-2 c = search needs
 
 returns-2 : tie.Need-returns-2
 unfolding routeText
-returns-2 c = subst (λ (t : Route). Wrote (c .before .before .before .before .before .before .before .before .before .before .before .args .buffer .now) (c .before .before .write-two2 .last .0) (c .before .before .before .before .before .before .before .before .before .before .before .args .at) (c .before .before .write-two2 .result) (44 ∷ routeText t)) (sym (c .before .before .before .before .before .before .before .before .enum-told2 .given .1)) (wrote-then (omega (arith, subst (λ (t : Route). (c .before .before .before .before .before .before .before .before .before .before .before .args .at) + length (44 ∷ routeText t) ≤ length (c .before .before .before .before .before .before .before .before .before .before .before .args .buffer .now)) (c .before .before .before .before .before .before .before .before .enum-told2 .given .1) (c .before .before .before .before .before .before .before .before .before .before .before .pre))) (c .before .before .before .before .before .before .write-two .ensures) (c .before .before .write-two2 .ensures))
+returns-2 c =
+    let start = c .before .before .before .before .before .before .before .before .before .before .before in
+    let at-enum-told2 = c .before .before .before .before .before .before .before .before in
+    let at-write-two = c .before .before .before .before .before .before in
+    let at-write-two2 = c .before .before in
+    subst (λ (t : Route). Wrote (start .args .buffer .now) (at-write-two2 .write-two2 .last .0) (start .args .at)
+    (at-write-two2 .write-two2 .result) (44 ∷ routeText t)) (sym (at-enum-told2 .enum-told2 .given .1))
+    (wrote-then (omega (
+      arith,
+      subst (λ (t : Route). (start .args .at) + length (44 ∷ routeText t) ≤ length (start .args .buffer .now))
+          (at-enum-told2 .enum-told2 .given .1) (start .pre),
+    )) (at-write-two .write-two .ensures) (at-write-two2 .write-two2 .ensures))
 
 same-length-3 : tie.Need-same-length-3
 same-length-3 c = search needs
 
 returns-3 : tie.Need-returns-3
 unfolding routeText
-returns-3 c = subst (λ (t : Route). Wrote (c .before .before .before .before .before .before .before .before .args .buffer .now) (c .before .before .write-field .last .0) (c .before .before .before .before .before .before .before .before .args .at) (c .before .before .write-field .result) (44 ∷ routeText t)) (sym (c .before .before .before .before .before .route .given .1)) (c .before .before .write-field .ensures)
+returns-3 c =
+    let start = c .before .before .before .before .before .before .before .before in
+    let at-write-field = c .before .before in
+    subst (λ (t : Route). Wrote (start .args .buffer .now) (at-write-field .write-field .last .0) (start .args .at)
+    (at-write-field .write-field .result) (44 ∷ routeText t)) (sym (c .before .before .before .before .before .route .given .1))
+    (at-write-field .write-field .ensures)
 
 same-length-4 : tie.Need-same-length-4
 same-length-4 c = search needs
 
 returns-4 : tie.Need-returns-4
 unfolding routeText
-returns-4 c = subst (λ (t : Route). Wrote (c .before .before .before .before .before .before .before .args .buffer .now) (c .before .before .write-two3 .last .0) (c .before .before .before .before .before .before .before .args .at) (c .before .before .write-two3 .result) (44 ∷ routeText t)) (sym (c .before .before .before .before .enum-told3 .given .1)) (c .before .before .write-two3 .ensures)
+returns-4 c =
+    let start = c .before .before .before .before .before .before .before in
+    let at-write-two3 = c .before .before in
+    subst (λ (t : Route). Wrote (start .args .buffer .now) (at-write-two3 .write-two3 .last .0) (start .args .at)
+    (at-write-two3 .write-two3 .result) (44 ∷ routeText t)) (sym (c .before .before .before .before .enum-told3 .given .1))
+    (at-write-two3 .write-two3 .ensures)
 
 pub write-route-spec : {M : Type 1} → statement M
 write-route-spec =

@@ -23,22 +23,67 @@ loop-holds : tie.Need-loop-holds Inv-loop μ-loop
 loop-holds c = (omega (arith, (c .before .before .before .before .pre .0)), left-all _ _ _)
 
 write-answer-requires : tie.Need-write-answer-requires Inv-loop μ-loop
-write-answer-requires c κs = (((c .before .before .before .before .before .before .before .pre .0 .0), (c .before .before .before .before .before .before .before .pre .0 .1), (c .before .before .before .before .before .before .before .pre .0 .2), (c .before .before .before .before .before .before .before .pre .0 .3), (c .before .before .before .before .before .before .before .pre .0 .4), (c .before .loop-test .taken)), left-fits _ _ _ (c .before .before .before .before .before .before .before .pre .1) _ _ (answerText (c .before .before .before .before .before .before .before .args .n) (c .before .before .before .before .before .before .before .args .full .now) (c .before .before .before .before .before .before .before .args .low .now) (c .before .before .before .before .before .before .before .args .report .now) (c .before .before .before .before .before .before .before .args .a) (c .before .before .loop .b)) (rowText (c .before .before .before .before .before .before .before .args .n) (c .before .before .before .before .before .before .before .args .full .now) (c .before .before .before .before .before .before .before .args .low .now) (c .before .before .before .before .before .before .before .args .report .now) (c .before .before .before .before .before .before .before .args .a) ((c .before .before .loop .b) + 1)) (subst (λ (t : List ℕ). Left (c .before .before .before .before .before .before .before .args .buffer .now) (c .before .before .loop .buffer) (c .before .before .before .before .before .before .before .args .at) (c .before .before .loop .i) (rowText (c .before .before .before .before .before .before .before .args .n) (c .before .before .before .before .before .before .before .args .full .now) (c .before .before .before .before .before .before .before .args .low .now) (c .before .before .before .before .before .before .before .args .report .now) (c .before .before .before .before .before .before .before .args .a) ((c .before .before .before .before .before .before .before .args .a) + 1)) t) (row-next (c .before .before .before .before .before .before .before .args .n) (c .before .before .before .before .before .before .before .args .full .now) (c .before .before .before .before .before .before .before .args .low .now) (c .before .before .before .before .before .before .before .args .report .now) (c .before .before .before .before .before .before .before .args .a) (c .before .before .loop .b) (c .before .loop-test .taken)) (c .before .before .loop .inv .1)))
+write-answer-requires c κs =
+    let start = c .before .before .before .before .before .before .before in
+    let at-loop = c .before .before in
+    let at-loop-test = c .before in (
+      (
+        (start .pre .0 .0),
+        (start .pre .0 .1),
+        (start .pre .0 .2),
+        (start .pre .0 .3),
+        (start .pre .0 .4),
+        (at-loop-test .loop-test .taken),
+      ),
+      left-fits _ _ _ (start .pre .1) _ _
+          (answerText (start .args .n) (start .args .full .now) (start .args .low .now) (start .args .report .now) (start .args .a)
+          (at-loop .loop .b)) (rowText (start .args .n) (start .args .full .now) (start .args .low .now) (start .args .report .now)
+          (start .args .a) ((at-loop .loop .b) + 1))
+          (subst (λ (t : List ℕ). Left (start .args .buffer .now) (at-loop .loop .buffer) (start .args .at) (at-loop .loop .i)
+          (rowText (start .args .n) (start .args .full .now) (start .args .low .now) (start .args .report .now) (start .args .a)
+          ((start .args .a) + 1)) t) (row-next (start .args .n) (start .args .full .now) (start .args .low .now) (start .args .report .now)
+          (start .args .a) (at-loop .loop .b) (at-loop-test .loop-test .taken)) (at-loop .loop .inv .1)),
+    )
 
 add-b-2 : tie.Need-add-b-2 Inv-loop μ-loop
-add-b-2 c = omega (arith, (c .before .before .before .before .before .before .before .before .before .before .pre .0), (c .before .before .before .before .loop-test .taken))
+add-b-2 c =
+    let start = c .before .before .before .before .before .before .before .before .before .before in
+    omega (arith, (start .pre .0), (c .before .before .before .before .loop-test .taken))
 
 loop-less : tie.Need-loop-less Inv-loop μ-loop
 loop-less c = omega (arith, (c .before .before .before .before .loop-test .taken))
 
 loop-again : tie.Need-loop-again Inv-loop μ-loop
-loop-again c = (omega (arith, (c .before .before .before .before .loop-test .taken)), left-more _ _ _ (c .before .before .before .before .before .before .before .before .before .before .pre .1) _ _ (answerText (c .before .before .before .before .before .before .before .before .before .before .args .n) (c .before .before .before .before .before .before .before .before .before .before .args .full .now) (c .before .before .before .before .before .before .before .before .before .before .args .low .now) (c .before .before .before .before .before .before .before .before .before .before .args .report .now) (c .before .before .before .before .before .before .before .before .before .before .args .a) (c .before .before .before .before .before .loop .b)) (rowText (c .before .before .before .before .before .before .before .before .before .before .args .n) (c .before .before .before .before .before .before .before .before .before .before .args .full .now) (c .before .before .before .before .before .before .before .before .before .before .args .low .now) (c .before .before .before .before .before .before .before .before .before .before .args .report .now) (c .before .before .before .before .before .before .before .before .before .before .args .a) ((c .before .before .before .before .before .loop .b) + 1)) (subst (λ (t : List ℕ). Left (c .before .before .before .before .before .before .before .before .before .before .args .buffer .now) (c .before .before .before .before .before .loop .buffer) (c .before .before .before .before .before .before .before .before .before .before .args .at) (c .before .before .before .before .before .loop .i) (rowText (c .before .before .before .before .before .before .before .before .before .before .args .n) (c .before .before .before .before .before .before .before .before .before .before .args .full .now) (c .before .before .before .before .before .before .before .before .before .before .args .low .now) (c .before .before .before .before .before .before .before .before .before .before .args .report .now) (c .before .before .before .before .before .before .before .before .before .before .args .a) ((c .before .before .before .before .before .before .before .before .before .before .args .a) + 1)) t) (row-next (c .before .before .before .before .before .before .before .before .before .before .args .n) (c .before .before .before .before .before .before .before .before .before .before .args .full .now) (c .before .before .before .before .before .before .before .before .before .before .args .low .now) (c .before .before .before .before .before .before .before .before .before .before .args .report .now) (c .before .before .before .before .before .before .before .before .before .before .args .a) (c .before .before .before .before .before .loop .b) (c .before .before .before .before .loop-test .taken)) (c .before .before .before .before .before .loop .inv .1)) _ _ (c .before .before .write-answer .ensures))
+loop-again c =
+    let start = c .before .before .before .before .before .before .before .before .before .before in
+    let at-loop = c .before .before .before .before .before in
+    let at-loop-test = c .before .before .before .before in (
+      omega (arith, (at-loop-test .loop-test .taken)),
+      left-more _ _ _ (start .pre .1) _ _
+          (answerText (start .args .n) (start .args .full .now) (start .args .low .now) (start .args .report .now) (start .args .a)
+          (at-loop .loop .b)) (rowText (start .args .n) (start .args .full .now) (start .args .low .now) (start .args .report .now)
+          (start .args .a) ((at-loop .loop .b) + 1))
+          (subst (λ (t : List ℕ). Left (start .args .buffer .now) (at-loop .loop .buffer) (start .args .at) (at-loop .loop .i)
+          (rowText (start .args .n) (start .args .full .now) (start .args .low .now) (start .args .report .now) (start .args .a)
+          ((start .args .a) + 1)) t) (row-next (start .args .n) (start .args .full .now) (start .args .low .now) (start .args .report .now)
+          (start .args .a) (at-loop .loop .b) (at-loop-test .loop-test .taken)) (at-loop .loop .inv .1)) _ _
+          (c .before .before .write-answer .ensures),
+    )
 
 same-length : tie.Need-same-length Inv-loop μ-loop
-same-length c = left-length _ _ _ (c .before .before .before .before .before .before .pre .1) _ _ _ (c .before .loop .inv .1)
+same-length c =
+    let start = c .before .before .before .before .before .before in
+    left-length _ _ _ (start .pre .1) _ _ _ (c .before .loop .inv .1)
 
 returns : tie.Need-returns Inv-loop μ-loop
-returns c = left-none _ _ _ (c .before .before .before .before .before .before .pre .1) _ _ (subst (λ (t : List ℕ). Left (c .before .before .before .before .before .before .args .buffer .now) (c .before .loop .buffer) (c .before .before .before .before .before .before .args .at) (c .before .loop .i) (rowText (c .before .before .before .before .before .before .args .n) (c .before .before .before .before .before .before .args .full .now) (c .before .before .before .before .before .before .args .low .now) (c .before .before .before .before .before .before .args .report .now) (c .before .before .before .before .before .before .args .a) ((c .before .before .before .before .before .before .args .a) + 1)) t) (row-end (c .before .before .before .before .before .before .args .n) (c .before .before .before .before .before .before .args .full .now) (c .before .before .before .before .before .before .args .low .now) (c .before .before .before .before .before .before .args .report .now) (c .before .before .before .before .before .before .args .a) (c .before .loop .b) (c .loop-test .left)) (c .before .loop .inv .1))
+returns c =
+    let start = c .before .before .before .before .before .before in
+    let at-loop = c .before in
+    left-none _ _ _ (start .pre .1) _ _ (subst (λ (t : List ℕ). Left (start .args .buffer .now) (at-loop .loop .buffer) (start .args .at)
+    (at-loop .loop .i) (rowText (start .args .n) (start .args .full .now) (start .args .low .now) (start .args .report .now)
+    (start .args .a) ((start .args .a) + 1)) t)
+    (row-end (start .args .n) (start .args .full .now) (start .args .low .now) (start .args .report .now) (start .args .a)
+    (at-loop .loop .b) (c .loop-test .left)) (at-loop .loop .inv .1))
 
 pub write-row-spec : {M : Type 1} → statement M
 write-row-spec =

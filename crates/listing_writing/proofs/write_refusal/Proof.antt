@@ -21,18 +21,57 @@ refusal-number-requires c κs = search needs
 
 write-field-requires : tie.Need-write-field-requires
 unfolding listingText
-write-field-requires c κs = left-fits _ _ _ (refusal-room (c .before .before .before .before .before .before .before .args .refusal) (c .refusal-number .result) (c .refusal-number .ensures) (c .before .before .before .before .before .before .before .args .buffer .now) (c .before .before .before .before .before .before .before .pre)) _ _ (44 ∷ digits (c .refusal-number .result)) ((10 ∷ []) ++ []) (left-more (c .before .before .before .before .before .before .before .args .buffer .now) 0 (listingText (refused (c .refusal-number .result))) (refusal-room (c .before .before .before .before .before .before .before .args .refusal) (c .refusal-number .result) (c .refusal-number .ensures) (c .before .before .before .before .before .before .before .args .buffer .now) (c .before .before .before .before .before .before .before .pre)) _ _ (88 ∷ []) ((44 ∷ digits (c .refusal-number .result)) ++ ((10 ∷ []) ++ [])) (left-all _ _ _) _ _ (c .before .before .before .before .write-byte .ensures))
+write-field-requires c κs =
+    let start = c .before .before .before .before .before .before .before in
+    left-fits _ _ _ (refusal-room (start .args .refusal) (c .refusal-number .result) (c .refusal-number .ensures)
+    (start .args .buffer .now) (start .pre)) _ _ (44 ∷ digits (c .refusal-number .result)) ((10 ∷ []) ++ [])
+    (left-more (start .args .buffer .now) 0 (listingText (refused (c .refusal-number .result)))
+    (refusal-room (start .args .refusal) (c .refusal-number .result) (c .refusal-number .ensures) (start .args .buffer .now)
+    (start .pre)) _ _ (88 ∷ []) ((44 ∷ digits (c .refusal-number .result)) ++ ((10 ∷ []) ++ [])) (left-all _ _ _) _ _
+    (c .before .before .before .before .write-byte .ensures))
 
 write-byte-requires-2 : tie.Need-write-byte-requires-2
 unfolding listingText
-write-byte-requires-2 c κs = left-fits _ _ _ (refusal-room (c .before .before .before .before .before .before .before .before .before .before .before .args .refusal) (c .before .before .before .before .refusal-number .result) (c .before .before .before .before .refusal-number .ensures) (c .before .before .before .before .before .before .before .before .before .before .before .args .buffer .now) (c .before .before .before .before .before .before .before .before .before .before .before .pre)) _ _ (10 ∷ []) [] (left-more _ _ _ (refusal-room (c .before .before .before .before .before .before .before .before .before .before .before .args .refusal) (c .before .before .before .before .refusal-number .result) (c .before .before .before .before .refusal-number .ensures) (c .before .before .before .before .before .before .before .before .before .before .before .args .buffer .now) (c .before .before .before .before .before .before .before .before .before .before .before .pre)) _ _ (44 ∷ digits (c .before .before .before .before .refusal-number .result)) ((10 ∷ []) ++ []) (left-more (c .before .before .before .before .before .before .before .before .before .before .before .args .buffer .now) 0 (listingText (refused (c .before .before .before .before .refusal-number .result))) (refusal-room (c .before .before .before .before .before .before .before .before .before .before .before .args .refusal) (c .before .before .before .before .refusal-number .result) (c .before .before .before .before .refusal-number .ensures) (c .before .before .before .before .before .before .before .before .before .before .before .args .buffer .now) (c .before .before .before .before .before .before .before .before .before .before .before .pre)) _ _ (88 ∷ []) ((44 ∷ digits (c .before .before .before .before .refusal-number .result)) ++ ((10 ∷ []) ++ [])) (left-all _ _ _) _ _ (c .before .before .before .before .before .before .before .before .write-byte .ensures)) _ _ (c .before .before .before .write-field .ensures))
+write-byte-requires-2 c κs =
+    let start = c .before .before .before .before .before .before .before .before .before .before .before in
+    let at-write-byte = c .before .before .before .before .before .before .before .before in
+    let at-refusal-number = c .before .before .before .before in
+    left-fits _ _ _ (refusal-room (start .args .refusal) (at-refusal-number .refusal-number .result)
+    (at-refusal-number .refusal-number .ensures) (start .args .buffer .now) (start .pre)) _ _ (10 ∷ []) []
+    (left-more _ _ _ (refusal-room (start .args .refusal) (at-refusal-number .refusal-number .result)
+    (at-refusal-number .refusal-number .ensures) (start .args .buffer .now) (start .pre)) _ _
+    (44 ∷ digits (at-refusal-number .refusal-number .result)) ((10 ∷ []) ++ [])
+    (left-more (start .args .buffer .now) 0 (listingText (refused (at-refusal-number .refusal-number .result)))
+    (refusal-room (start .args .refusal) (at-refusal-number .refusal-number .result) (at-refusal-number .refusal-number .ensures)
+    (start .args .buffer .now) (start .pre)) _ _ (88 ∷ [])
+    ((44 ∷ digits (at-refusal-number .refusal-number .result)) ++ ((10 ∷ []) ++ [])) (left-all _ _ _) _ _
+    (at-write-byte .write-byte .ensures)) _ _ (c .before .before .before .write-field .ensures))
 
 same-length : tie.Need-same-length
 same-length c = search needs
 
 returns : tie.Need-returns
 unfolding listingText
-returns c = subst (λ (k : ℕ). Wrote (c .before .before .before .before .before .before .before .before .before .before .before .before .before .before .args .buffer .now) (c .before .before .write-byte2 .last .0) 0 (c .before .before .write-byte2 .result) (listingText (refused k))) (c .before .before .before .before .before .before .before .refusal-number .ensures) (left-none _ _ _ (refusal-room (c .before .before .before .before .before .before .before .before .before .before .before .before .before .before .args .refusal) (c .before .before .before .before .before .before .before .refusal-number .result) (c .before .before .before .before .before .before .before .refusal-number .ensures) (c .before .before .before .before .before .before .before .before .before .before .before .before .before .before .args .buffer .now) (c .before .before .before .before .before .before .before .before .before .before .before .before .before .before .pre)) _ _ (left-more _ _ _ (refusal-room (c .before .before .before .before .before .before .before .before .before .before .before .before .before .before .args .refusal) (c .before .before .before .before .before .before .before .refusal-number .result) (c .before .before .before .before .before .before .before .refusal-number .ensures) (c .before .before .before .before .before .before .before .before .before .before .before .before .before .before .args .buffer .now) (c .before .before .before .before .before .before .before .before .before .before .before .before .before .before .pre)) _ _ (10 ∷ []) [] (left-more _ _ _ (refusal-room (c .before .before .before .before .before .before .before .before .before .before .before .before .before .before .args .refusal) (c .before .before .before .before .before .before .before .refusal-number .result) (c .before .before .before .before .before .before .before .refusal-number .ensures) (c .before .before .before .before .before .before .before .before .before .before .before .before .before .before .args .buffer .now) (c .before .before .before .before .before .before .before .before .before .before .before .before .before .before .pre)) _ _ (44 ∷ digits (c .before .before .before .before .before .before .before .refusal-number .result)) ((10 ∷ []) ++ []) (left-more (c .before .before .before .before .before .before .before .before .before .before .before .before .before .before .args .buffer .now) 0 (listingText (refused (c .before .before .before .before .before .before .before .refusal-number .result))) (refusal-room (c .before .before .before .before .before .before .before .before .before .before .before .before .before .before .args .refusal) (c .before .before .before .before .before .before .before .refusal-number .result) (c .before .before .before .before .before .before .before .refusal-number .ensures) (c .before .before .before .before .before .before .before .before .before .before .before .before .before .before .args .buffer .now) (c .before .before .before .before .before .before .before .before .before .before .before .before .before .before .pre)) _ _ (88 ∷ []) ((44 ∷ digits (c .before .before .before .before .before .before .before .refusal-number .result)) ++ ((10 ∷ []) ++ [])) (left-all _ _ _) _ _ (c .before .before .before .before .before .before .before .before .before .before .before .write-byte .ensures)) _ _ (c .before .before .before .before .before .before .write-field .ensures)) _ _ (c .before .before .write-byte2 .ensures)))
+returns c =
+    let start = c .before .before .before .before .before .before .before .before .before .before .before .before .before .before in
+    let at-write-byte = c .before .before .before .before .before .before .before .before .before .before .before in
+    let at-refusal-number = c .before .before .before .before .before .before .before in
+    let at-write-field = c .before .before .before .before .before .before in
+    let at-write-byte2 = c .before .before in
+    subst (λ (k : ℕ). Wrote (start .args .buffer .now) (at-write-byte2 .write-byte2 .last .0) 0 (at-write-byte2 .write-byte2 .result)
+    (listingText (refused k))) (at-refusal-number .refusal-number .ensures)
+    (left-none _ _ _ (refusal-room (start .args .refusal) (at-refusal-number .refusal-number .result)
+    (at-refusal-number .refusal-number .ensures) (start .args .buffer .now) (start .pre)) _ _
+    (left-more _ _ _ (refusal-room (start .args .refusal) (at-refusal-number .refusal-number .result)
+    (at-refusal-number .refusal-number .ensures) (start .args .buffer .now) (start .pre)) _ _ (10 ∷ []) []
+    (left-more _ _ _ (refusal-room (start .args .refusal) (at-refusal-number .refusal-number .result)
+    (at-refusal-number .refusal-number .ensures) (start .args .buffer .now) (start .pre)) _ _
+    (44 ∷ digits (at-refusal-number .refusal-number .result)) ((10 ∷ []) ++ [])
+    (left-more (start .args .buffer .now) 0 (listingText (refused (at-refusal-number .refusal-number .result)))
+    (refusal-room (start .args .refusal) (at-refusal-number .refusal-number .result) (at-refusal-number .refusal-number .ensures)
+    (start .args .buffer .now) (start .pre)) _ _ (88 ∷ [])
+    ((44 ∷ digits (at-refusal-number .refusal-number .result)) ++ ((10 ∷ []) ++ [])) (left-all _ _ _) _ _
+    (at-write-byte .write-byte .ensures)) _ _ (at-write-field .write-field .ensures)) _ _ (at-write-byte2 .write-byte2 .ensures)))
 
 pub write-refusal-spec : {M : Type 1} → statement M
 write-refusal-spec =

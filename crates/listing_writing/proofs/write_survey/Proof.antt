@@ -13,28 +13,63 @@ use Rattle.listing_writing.proofs.write_survey.Statement.{statement}
 use Rattle.listing_writing.proofs.write_survey.Tie as tie
 
 mul-size : tie.Need-mul-size
-mul-size c = omega (arith, (square-most (c .before .before .before .args .n) (c .before .before .before .pre .1)))
+mul-size c =
+    let start = c .before .before .before in
+    omega (arith, (square-most (start .args .n) (start .pre .1)))
 
 array-borrow-prefix-full : tie.Need-array-borrow-prefix-full
-array-borrow-prefix-full c = (square-most (c .before .before .before .args .n) (c .before .before .before .pre .1))
+array-borrow-prefix-full c =
+    let start = c .before .before .before in
+    (square-most (start .args .n) (start .pre .1))
 
 slice-aggregate-write-tables : tie.Need-slice-aggregate-write-tables
-slice-aggregate-write-tables c = sym (length-take-le ((c .before .before .before .before .args .n) * (c .before .before .before .before .args .n)) (replicate {A = ℕ} 16384 0) (omega (arith, length-replicate {A = ℕ} 16384 0, (square-most (c .before .before .before .before .args .n) (c .before .before .before .before .pre .1)))))
+slice-aggregate-write-tables c =
+    let start = c .before .before .before .before in
+    sym (length-take-le ((start .args .n) * (start .args .n)) (replicate {A = ℕ} 16384 0)
+    (omega (arith, length-replicate {A = ℕ} 16384 0, (square-most (start .args .n) (start .pre .1)))))
 
 array-borrow-prefix-low : tie.Need-array-borrow-prefix-low
-array-borrow-prefix-low c = (square-most (c .before .before .before .before .args .n) (c .before .before .before .before .pre .1))
+array-borrow-prefix-low c =
+    let start = c .before .before .before .before in
+    (square-most (start .args .n) (start .pre .1))
 
 slice-aggregate-write-tables-2 : tie.Need-slice-aggregate-write-tables-2
-slice-aggregate-write-tables-2 c = sym (length-take-le ((c .before .before .before .before .before .args .n) * (c .before .before .before .before .before .args .n)) (replicate {A = ℕ} 16384 0) (omega (arith, length-replicate {A = ℕ} 16384 0, (square-most (c .before .before .before .before .before .args .n) (c .before .before .before .before .before .pre .1)))))
+slice-aggregate-write-tables-2 c =
+    let start = c .before .before .before .before .before in
+    sym (length-take-le ((start .args .n) * (start .args .n)) (replicate {A = ℕ} 16384 0)
+    (omega (arith, length-replicate {A = ℕ} 16384 0, (square-most (start .args .n) (start .pre .1)))))
 
 array-borrow-prefix-report : tie.Need-array-borrow-prefix-report
-array-borrow-prefix-report c = (square-most (c .before .before .before .before .before .args .n) (c .before .before .before .before .before .pre .1))
+array-borrow-prefix-report c =
+    let start = c .before .before .before .before .before in
+    (square-most (start .args .n) (start .pre .1))
 
 slice-aggregate-write-tables-3 : tie.Need-slice-aggregate-write-tables-3
-slice-aggregate-write-tables-3 c = sym (length-take-le ((c .before .before .before .before .before .before .args .n) * (c .before .before .before .before .before .before .args .n)) (replicate {A = ℕ} 16384 0) (omega (arith, length-replicate {A = ℕ} 16384 0, (square-most (c .before .before .before .before .before .before .args .n) (c .before .before .before .before .before .before .pre .1)))))
+slice-aggregate-write-tables-3 c =
+    let start = c .before .before .before .before .before .before in
+    sym (length-take-le ((start .args .n) * (start .args .n)) (replicate {A = ℕ} 16384 0)
+    (omega (arith, length-replicate {A = ℕ} 16384 0, (square-most (start .args .n) (start .pre .1)))))
 
 write-tables-requires : tie.Need-write-tables-requires
-write-tables-requires c κs = (((c .before .before .before .before .before .before .before .pre .0), (c .before .before .before .before .before .before .before .pre .1), (length-take-le ((c .before .before .before .before .before .before .before .args .n) * (c .before .before .before .before .before .before .before .args .n)) (replicate {A = ℕ} 16384 0) (omega (arith, length-replicate {A = ℕ} 16384 0, (square-most (c .before .before .before .before .before .before .before .args .n) (c .before .before .before .before .before .before .before .pre .1))))), (length-take-le ((c .before .before .before .before .before .before .before .args .n) * (c .before .before .before .before .before .before .before .args .n)) (replicate {A = ℕ} 16384 0) (omega (arith, length-replicate {A = ℕ} 16384 0, (square-most (c .before .before .before .before .before .before .before .args .n) (c .before .before .before .before .before .before .before .pre .1))))), (length-take-le ((c .before .before .before .before .before .before .before .args .n) * (c .before .before .before .before .before .before .before .args .n)) (replicate {A = ℕ} 16384 0) (omega (arith, length-replicate {A = ℕ} 16384 0, (square-most (c .before .before .before .before .before .before .before .args .n) (c .before .before .before .before .before .before .before .pre .1)))))), omega (arith, listing-few (c .before .before .before .before .before .before .before .args .n) (neighboursOf (c .before .before .before .before .before .before .before .args .starts .now) (c .before .before .before .before .before .before .before .args .neighbours .now)) (c .before .before .before .before .before .before .before .pre .0 .lists .graph) (c .before .before .before .before .before .before .before .pre .1), (c .before .before .before .before .before .before .before .pre .2)))
+write-tables-requires c κs =
+    let start = c .before .before .before .before .before .before .before in (
+      (
+        (start .pre .0),
+        (start .pre .1),
+        (length-take-le ((start .args .n) * (start .args .n)) (replicate {A = ℕ} 16384 0)
+            (omega (arith, length-replicate {A = ℕ} 16384 0, (square-most (start .args .n) (start .pre .1))))),
+        (length-take-le ((start .args .n) * (start .args .n)) (replicate {A = ℕ} 16384 0)
+            (omega (arith, length-replicate {A = ℕ} 16384 0, (square-most (start .args .n) (start .pre .1))))),
+        (length-take-le ((start .args .n) * (start .args .n)) (replicate {A = ℕ} 16384 0)
+            (omega (arith, length-replicate {A = ℕ} 16384 0, (square-most (start .args .n) (start .pre .1))))),
+      ),
+      omega (
+        arith,
+        listing-few (start .args .n) (neighboursOf (start .args .starts .now) (start .args .neighbours .now))
+            (start .pre .0 .lists .graph) (start .pre .1),
+        (start .pre .2),
+      ),
+    )
 
 same-length : tie.Need-same-length
 same-length c = search needs

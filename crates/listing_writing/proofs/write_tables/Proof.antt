@@ -28,13 +28,72 @@ cast-write-line : tie.Need-cast-write-line
 cast-write-line c = search needs
 
 cast-write-line-2 : tie.Need-cast-write-line-2
-cast-write-line-2 c = omega (arith, (count-few (c .before .before .before .before .before .before .before .before .before .before .before .before .before .before .before .before .before .before .before .before .args .n) (c .before .before .before .before .before .before .before .before .before .before .before .before .before .threshold-at .result) (neighboursOf (c .before .before .before .before .before .before .before .before .before .before .before .before .before .before .before .before .before .before .before .before .args .starts .now) (c .before .before .before .before .before .before .before .before .before .before .before .before .before .before .before .before .before .before .before .before .args .neighbours .now)) (c .before .before .before .before .before .before .before .before .before .before .before .before .before .before .before .before .before .before .before .before .args .full .now) (c .before .before .before .before .before .before .before .before .before .before .before .before .before .before .before .before .before .before .before .before .args .low .now) (c .before .before .before .before .before .before .before .before .before .before .before .before .before .before .before .before .before .before .before .before .args .report .now) _ (c .before .before .before .before .before .before .before .before .build-tables .last .1 .1 .1 .1 .0) (c .before .before .before .before .before .before .before .before .build-tables .last .1 .1 .1 .1 .1 .0) (c .before .before .before .before .before .before .before .before .build-tables .last .1 .1 .1 .1 .1 .1 .0) _ (c .before .before .before .before .before .before .before .before .build-tables .result) (c .before .before .before .before .before .before .before .before .build-tables .ensures)), (c .before .before .before .before .before .before .before .before .before .before .before .before .before .before .before .before .before .before .before .before .pre .0 .1))
+cast-write-line-2 c =
+    let start = c .before .before .before .before .before .before .before .before .before .before .before .before .before .before .before .before .before .before .before .before in
+    let at-threshold-at = c .before .before .before .before .before .before .before .before .before .before .before .before .before in
+    let at-build-tables = c .before .before .before .before .before .before .before .before in
+    omega (
+      arith,
+      (count-few (start .args .n) (at-threshold-at .threshold-at .result)
+          (neighboursOf (start .args .starts .now) (start .args .neighbours .now)) (start .args .full .now) (start .args .low .now)
+          (start .args .report .now) _ (at-build-tables .build-tables .last .1 .1 .1 .1 .0)
+          (at-build-tables .build-tables .last .1 .1 .1 .1 .1 .0) (at-build-tables .build-tables .last .1 .1 .1 .1 .1 .1 .0) _
+          (at-build-tables .build-tables .result) (at-build-tables .build-tables .ensures)),
+      (start .pre .0 .1),
+    )
 
 write-line-requires : tie.Need-write-line-requires
-write-line-requires c κs = (omega (arith, ap length (listing-by-tables (c .before .before .before .before .before .before .before .before .before .before .before .before .before .before .before .before .before .before .before .before .args .n) (c .before .before .before .before .before .before .before .before .before .before .before .before .before .threshold-at .result) (neighboursOf (c .before .before .before .before .before .before .before .before .before .before .before .before .before .before .before .before .before .before .before .before .args .starts .now) (c .before .before .before .before .before .before .before .before .before .before .before .before .before .before .before .before .before .before .before .before .args .neighbours .now)) (c .before .before .before .before .before .before .before .before .before .before .before .before .before .before .before .before .before .before .before .before .args .full .now) (c .before .before .before .before .before .before .before .before .before .before .before .before .before .before .before .before .before .before .before .before .args .low .now) (c .before .before .before .before .before .before .before .before .before .before .before .before .before .before .before .before .before .before .before .before .args .report .now) _ (c .before .before .before .before .before .before .before .before .build-tables .last .1 .1 .1 .1 .0) (c .before .before .before .before .before .before .before .before .build-tables .last .1 .1 .1 .1 .1 .0) (c .before .before .before .before .before .before .before .before .build-tables .last .1 .1 .1 .1 .1 .1 .0) _ (c .before .before .before .before .before .before .before .before .build-tables .result) (c .before .before .before .before .before .before .before .before .build-tables .ensures) (c .before .before .before .before .before .before .before .before .before .before .before .before .before .threshold-at .ensures) (c .before .before .before .before .before .before .before .before .before .before .before .before .before .before .before .before .before .before .before .before .pre .0 .2) (c .before .before .before .before .before .before .before .before .before .before .before .before .before .before .before .before .before .before .before .before .pre .0 .3) (c .before .before .before .before .before .before .before .before .before .before .before .before .before .before .before .before .before .before .before .before .pre .0 .4)), length-append (lineOf 82 (c .before .before .before .before .before .before .before .before .before .before .before .before .before .before .before .before .before .before .before .before .args .n) (c .before .before .before .before .before .before .before .before .build-tables .result)) (pairLines (c .before .before .before .before .before .before .before .before .before .before .before .before .before .before .before .before .before .before .before .before .args .n) (c .before .before .before .before .before .before .before .before .build-tables .last .1 .1 .1 .1 .0) (c .before .before .before .before .before .before .before .before .build-tables .last .1 .1 .1 .1 .1 .0) (c .before .before .before .before .before .before .before .before .build-tables .last .1 .1 .1 .1 .1 .1 .0)), (c .before .before .before .before .before .before .before .before .before .before .before .before .before .before .before .before .before .before .before .before .pre .1)))
+write-line-requires c κs =
+    let start = c .before .before .before .before .before .before .before .before .before .before .before .before .before .before .before .before .before .before .before .before in
+    let at-threshold-at = c .before .before .before .before .before .before .before .before .before .before .before .before .before in
+    let at-build-tables = c .before .before .before .before .before .before .before .before in
+    (omega (
+      arith,
+      ap length (listing-by-tables (start .args .n) (at-threshold-at .threshold-at .result)
+          (neighboursOf (start .args .starts .now) (start .args .neighbours .now)) (start .args .full .now) (start .args .low .now)
+          (start .args .report .now) _ (at-build-tables .build-tables .last .1 .1 .1 .1 .0)
+          (at-build-tables .build-tables .last .1 .1 .1 .1 .1 .0) (at-build-tables .build-tables .last .1 .1 .1 .1 .1 .1 .0) _
+          (at-build-tables .build-tables .result) (at-build-tables .build-tables .ensures) (at-threshold-at .threshold-at .ensures)
+          (start .pre .0 .2) (start .pre .0 .3) (start .pre .0 .4)),
+      length-append
+          (lineOf 82 (start .args .n) (at-build-tables .build-tables .result))
+          (pairLines (start .args .n) (at-build-tables .build-tables .last .1 .1 .1 .1 .0)
+          (at-build-tables .build-tables .last .1 .1 .1 .1 .1 .0) (at-build-tables .build-tables .last .1 .1 .1 .1 .1 .1 .0)),
+      (start .pre .1),
+    ))
 
 write-pairs-requires : tie.Need-write-pairs-requires
-write-pairs-requires c κs = ((omega (arith, (c .before .before .before .before .before .before .before .before .before .before .before .before .before .before .before .before .before .before .before .before .before .before .before .before .before .before .before .pre .0 .1)), omega (arith, (c .before .before .before .before .before .before .before .before .before .before .before .before .before .before .before .build-tables .kept .1 .1 .1 .1 .0), (c .before .before .before .before .before .before .before .before .before .before .before .before .before .before .before .before .before .before .before .before .before .before .before .before .before .before .before .pre .0 .2)), omega (arith, (c .before .before .before .before .before .before .before .before .before .before .before .before .before .before .before .build-tables .kept .1 .1 .1 .1 .1 .0), (c .before .before .before .before .before .before .before .before .before .before .before .before .before .before .before .before .before .before .before .before .before .before .before .before .before .before .before .pre .0 .3)), omega (arith, (c .before .before .before .before .before .before .before .before .before .before .before .before .before .before .before .build-tables .kept .1 .1 .1 .1 .1 .1 .0), (c .before .before .before .before .before .before .before .before .before .before .before .before .before .before .before .before .before .before .before .before .before .before .before .before .before .before .before .pre .0 .4))), wrote-room (pairLines (c .before .before .before .before .before .before .before .before .before .before .before .before .before .before .before .before .before .before .before .before .before .before .before .before .before .before .before .args .n) (c .before .before .before .before .before .before .before .before .before .before .before .before .before .before .before .build-tables .last .1 .1 .1 .1 .0) (c .before .before .before .before .before .before .before .before .before .before .before .before .before .before .before .build-tables .last .1 .1 .1 .1 .1 .0) (c .before .before .before .before .before .before .before .before .before .before .before .before .before .before .before .build-tables .last .1 .1 .1 .1 .1 .1 .0)) (omega (arith, ap length (listing-by-tables (c .before .before .before .before .before .before .before .before .before .before .before .before .before .before .before .before .before .before .before .before .before .before .before .before .before .before .before .args .n) (c .before .before .before .before .before .before .before .before .before .before .before .before .before .before .before .before .before .before .before .before .threshold-at .result) (neighboursOf (c .before .before .before .before .before .before .before .before .before .before .before .before .before .before .before .before .before .before .before .before .before .before .before .before .before .before .before .args .starts .now) (c .before .before .before .before .before .before .before .before .before .before .before .before .before .before .before .before .before .before .before .before .before .before .before .before .before .before .before .args .neighbours .now)) (c .before .before .before .before .before .before .before .before .before .before .before .before .before .before .before .before .before .before .before .before .before .before .before .before .before .before .before .args .full .now) (c .before .before .before .before .before .before .before .before .before .before .before .before .before .before .before .before .before .before .before .before .before .before .before .before .before .before .before .args .low .now) (c .before .before .before .before .before .before .before .before .before .before .before .before .before .before .before .before .before .before .before .before .before .before .before .before .before .before .before .args .report .now) _ (c .before .before .before .before .before .before .before .before .before .before .before .before .before .before .before .build-tables .last .1 .1 .1 .1 .0) (c .before .before .before .before .before .before .before .before .before .before .before .before .before .before .before .build-tables .last .1 .1 .1 .1 .1 .0) (c .before .before .before .before .before .before .before .before .before .before .before .before .before .before .before .build-tables .last .1 .1 .1 .1 .1 .1 .0) _ (c .before .before .before .before .before .before .before .before .before .before .before .before .before .before .before .build-tables .result) (c .before .before .before .before .before .before .before .before .before .before .before .before .before .before .before .build-tables .ensures) (c .before .before .before .before .before .before .before .before .before .before .before .before .before .before .before .before .before .before .before .before .threshold-at .ensures) (c .before .before .before .before .before .before .before .before .before .before .before .before .before .before .before .before .before .before .before .before .before .before .before .before .before .before .before .pre .0 .2) (c .before .before .before .before .before .before .before .before .before .before .before .before .before .before .before .before .before .before .before .before .before .before .before .before .before .before .before .pre .0 .3) (c .before .before .before .before .before .before .before .before .before .before .before .before .before .before .before .before .before .before .before .before .before .before .before .before .before .before .before .pre .0 .4)), length-append (lineOf 82 (c .before .before .before .before .before .before .before .before .before .before .before .before .before .before .before .before .before .before .before .before .before .before .before .before .before .before .before .args .n) (c .before .before .before .before .before .before .before .before .before .before .before .before .before .before .before .build-tables .result)) (pairLines (c .before .before .before .before .before .before .before .before .before .before .before .before .before .before .before .before .before .before .before .before .before .before .before .before .before .before .before .args .n) (c .before .before .before .before .before .before .before .before .before .before .before .before .before .before .before .build-tables .last .1 .1 .1 .1 .0) (c .before .before .before .before .before .before .before .before .before .before .before .before .before .before .before .build-tables .last .1 .1 .1 .1 .1 .0) (c .before .before .before .before .before .before .before .before .before .before .before .before .before .before .before .build-tables .last .1 .1 .1 .1 .1 .1 .0)), (c .before .before .before .before .before .before .before .before .before .before .before .before .before .before .before .before .before .before .before .before .before .before .before .before .before .before .before .pre .1))) (c .before .before .before .before .before .before .write-line .ensures))
+write-pairs-requires c κs =
+    let start = c .before .before .before .before .before .before .before .before .before .before .before .before .before .before .before .before .before .before .before .before .before .before .before .before .before .before .before in
+    let at-threshold-at = c .before .before .before .before .before .before .before .before .before .before .before .before .before .before .before .before .before .before .before .before in
+    let at-build-tables = c .before .before .before .before .before .before .before .before .before .before .before .before .before .before .before in
+    let at-write-line = c .before .before .before .before .before .before in (
+      (
+        omega (arith, (start .pre .0 .1)),
+        omega (arith, (at-build-tables .build-tables .kept .1 .1 .1 .1 .0), (start .pre .0 .2)),
+        omega
+            (arith, (at-build-tables .build-tables .kept .1 .1 .1 .1 .1 .0), (start .pre .0 .3)),
+        omega
+            (arith, (at-build-tables .build-tables .kept .1 .1 .1 .1 .1 .1 .0), (start .pre .0 .4)),
+      ),
+      wrote-room
+          (pairLines (start .args .n) (at-build-tables .build-tables .last .1 .1 .1 .1 .0)
+          (at-build-tables .build-tables .last .1 .1 .1 .1 .1 .0) (at-build-tables .build-tables .last .1 .1 .1 .1 .1 .1 .0))
+          (omega (
+            arith,
+            ap length (listing-by-tables (start .args .n) (at-threshold-at .threshold-at .result)
+                (neighboursOf (start .args .starts .now) (start .args .neighbours .now)) (start .args .full .now) (start .args .low .now)
+                (start .args .report .now) _ (at-build-tables .build-tables .last .1 .1 .1 .1 .0)
+                (at-build-tables .build-tables .last .1 .1 .1 .1 .1 .0) (at-build-tables .build-tables .last .1 .1 .1 .1 .1 .1 .0) _
+                (at-build-tables .build-tables .result) (at-build-tables .build-tables .ensures) (at-threshold-at .threshold-at .ensures)
+                (start .pre .0 .2) (start .pre .0 .3) (start .pre .0 .4)),
+            length-append
+                (lineOf 82 (start .args .n) (at-build-tables .build-tables .result))
+                (pairLines (start .args .n) (at-build-tables .build-tables .last .1 .1 .1 .1 .0)
+                (at-build-tables .build-tables .last .1 .1 .1 .1 .1 .0) (at-build-tables .build-tables .last .1 .1 .1 .1 .1 .1 .0)),
+            (start .pre .1),
+          )) (at-write-line .write-line .ensures),
+    )
 
 same-length : tie.Need-same-length
 same-length c = search needs
@@ -49,7 +108,34 @@ same-length-4 : tie.Need-same-length-4
 same-length-4 c = search needs
 
 returns : tie.Need-returns
-returns c = subst (λ (t : List ℕ). Wrote (c .before .before .before .before .before .before .before .before .before .before .before .before .before .before .before .before .before .before .before .before .before .before .before .before .before .before .before .before .before .before .args .buffer .now) (c .before .before .write-pairs .last .1 .1 .1 .1 .0) 0 (c .before .before .write-pairs .result) t) (listing-by-tables (c .before .before .before .before .before .before .before .before .before .before .before .before .before .before .before .before .before .before .before .before .before .before .before .before .before .before .before .before .before .before .args .n) (c .before .before .before .before .before .before .before .before .before .before .before .before .before .before .before .before .before .before .before .before .before .before .before .threshold-at .result) (neighboursOf (c .before .before .before .before .before .before .before .before .before .before .before .before .before .before .before .before .before .before .before .before .before .before .before .before .before .before .before .before .before .before .args .starts .now) (c .before .before .before .before .before .before .before .before .before .before .before .before .before .before .before .before .before .before .before .before .before .before .before .before .before .before .before .before .before .before .args .neighbours .now)) (c .before .before .before .before .before .before .before .before .before .before .before .before .before .before .before .before .before .before .before .before .before .before .before .before .before .before .before .before .before .before .args .full .now) (c .before .before .before .before .before .before .before .before .before .before .before .before .before .before .before .before .before .before .before .before .before .before .before .before .before .before .before .before .before .before .args .low .now) (c .before .before .before .before .before .before .before .before .before .before .before .before .before .before .before .before .before .before .before .before .before .before .before .before .before .before .before .before .before .before .args .report .now) _ (c .before .before .before .before .before .before .before .before .before .before .before .before .before .before .before .before .before .before .build-tables .last .1 .1 .1 .1 .0) (c .before .before .before .before .before .before .before .before .before .before .before .before .before .before .before .before .before .before .build-tables .last .1 .1 .1 .1 .1 .0) (c .before .before .before .before .before .before .before .before .before .before .before .before .before .before .before .before .before .before .build-tables .last .1 .1 .1 .1 .1 .1 .0) _ (c .before .before .before .before .before .before .before .before .before .before .before .before .before .before .before .before .before .before .build-tables .result) (c .before .before .before .before .before .before .before .before .before .before .before .before .before .before .before .before .before .before .build-tables .ensures) (c .before .before .before .before .before .before .before .before .before .before .before .before .before .before .before .before .before .before .before .before .before .before .before .threshold-at .ensures) (c .before .before .before .before .before .before .before .before .before .before .before .before .before .before .before .before .before .before .before .before .before .before .before .before .before .before .before .before .before .before .pre .0 .2) (c .before .before .before .before .before .before .before .before .before .before .before .before .before .before .before .before .before .before .before .before .before .before .before .before .before .before .before .before .before .before .pre .0 .3) (c .before .before .before .before .before .before .before .before .before .before .before .before .before .before .before .before .before .before .before .before .before .before .before .before .before .before .before .before .before .before .pre .0 .4)) (wrote-then (omega (arith, ap length (listing-by-tables (c .before .before .before .before .before .before .before .before .before .before .before .before .before .before .before .before .before .before .before .before .before .before .before .before .before .before .before .before .before .before .args .n) (c .before .before .before .before .before .before .before .before .before .before .before .before .before .before .before .before .before .before .before .before .before .before .before .threshold-at .result) (neighboursOf (c .before .before .before .before .before .before .before .before .before .before .before .before .before .before .before .before .before .before .before .before .before .before .before .before .before .before .before .before .before .before .args .starts .now) (c .before .before .before .before .before .before .before .before .before .before .before .before .before .before .before .before .before .before .before .before .before .before .before .before .before .before .before .before .before .before .args .neighbours .now)) (c .before .before .before .before .before .before .before .before .before .before .before .before .before .before .before .before .before .before .before .before .before .before .before .before .before .before .before .before .before .before .args .full .now) (c .before .before .before .before .before .before .before .before .before .before .before .before .before .before .before .before .before .before .before .before .before .before .before .before .before .before .before .before .before .before .args .low .now) (c .before .before .before .before .before .before .before .before .before .before .before .before .before .before .before .before .before .before .before .before .before .before .before .before .before .before .before .before .before .before .args .report .now) _ (c .before .before .before .before .before .before .before .before .before .before .before .before .before .before .before .before .before .before .build-tables .last .1 .1 .1 .1 .0) (c .before .before .before .before .before .before .before .before .before .before .before .before .before .before .before .before .before .before .build-tables .last .1 .1 .1 .1 .1 .0) (c .before .before .before .before .before .before .before .before .before .before .before .before .before .before .before .before .before .before .build-tables .last .1 .1 .1 .1 .1 .1 .0) _ (c .before .before .before .before .before .before .before .before .before .before .before .before .before .before .before .before .before .before .build-tables .result) (c .before .before .before .before .before .before .before .before .before .before .before .before .before .before .before .before .before .before .build-tables .ensures) (c .before .before .before .before .before .before .before .before .before .before .before .before .before .before .before .before .before .before .before .before .before .before .before .threshold-at .ensures) (c .before .before .before .before .before .before .before .before .before .before .before .before .before .before .before .before .before .before .before .before .before .before .before .before .before .before .before .before .before .before .pre .0 .2) (c .before .before .before .before .before .before .before .before .before .before .before .before .before .before .before .before .before .before .before .before .before .before .before .before .before .before .before .before .before .before .pre .0 .3) (c .before .before .before .before .before .before .before .before .before .before .before .before .before .before .before .before .before .before .before .before .before .before .before .before .before .before .before .before .before .before .pre .0 .4)), length-append (lineOf 82 (c .before .before .before .before .before .before .before .before .before .before .before .before .before .before .before .before .before .before .before .before .before .before .before .before .before .before .before .before .before .before .args .n) (c .before .before .before .before .before .before .before .before .before .before .before .before .before .before .before .before .before .before .build-tables .result)) (pairLines (c .before .before .before .before .before .before .before .before .before .before .before .before .before .before .before .before .before .before .before .before .before .before .before .before .before .before .before .before .before .before .args .n) (c .before .before .before .before .before .before .before .before .before .before .before .before .before .before .before .before .before .before .build-tables .last .1 .1 .1 .1 .0) (c .before .before .before .before .before .before .before .before .before .before .before .before .before .before .before .before .before .before .build-tables .last .1 .1 .1 .1 .1 .0) (c .before .before .before .before .before .before .before .before .before .before .before .before .before .before .before .before .before .before .build-tables .last .1 .1 .1 .1 .1 .1 .0)), (c .before .before .before .before .before .before .before .before .before .before .before .before .before .before .before .before .before .before .before .before .before .before .before .before .before .before .before .before .before .before .pre .1))) (c .before .before .before .before .before .before .before .before .before .write-line .ensures) (c .before .before .write-pairs .ensures))
+returns c =
+    let start = c .before .before .before .before .before .before .before .before .before .before .before .before .before .before .before .before .before .before .before .before .before .before .before .before .before .before .before .before .before .before in
+    let at-threshold-at = c .before .before .before .before .before .before .before .before .before .before .before .before .before .before .before .before .before .before .before .before .before .before .before in
+    let at-build-tables = c .before .before .before .before .before .before .before .before .before .before .before .before .before .before .before .before .before .before in
+    let at-write-line = c .before .before .before .before .before .before .before .before .before in
+    let at-write-pairs = c .before .before in
+    subst (λ (t : List ℕ). Wrote (start .args .buffer .now) (at-write-pairs .write-pairs .last .1 .1 .1 .1 .0) 0
+    (at-write-pairs .write-pairs .result) t)
+    (listing-by-tables (start .args .n) (at-threshold-at .threshold-at .result)
+    (neighboursOf (start .args .starts .now) (start .args .neighbours .now)) (start .args .full .now) (start .args .low .now)
+    (start .args .report .now) _ (at-build-tables .build-tables .last .1 .1 .1 .1 .0)
+    (at-build-tables .build-tables .last .1 .1 .1 .1 .1 .0) (at-build-tables .build-tables .last .1 .1 .1 .1 .1 .1 .0) _
+    (at-build-tables .build-tables .result) (at-build-tables .build-tables .ensures) (at-threshold-at .threshold-at .ensures)
+    (start .pre .0 .2) (start .pre .0 .3) (start .pre .0 .4))
+    (wrote-then (omega (
+      arith,
+      ap length (listing-by-tables (start .args .n) (at-threshold-at .threshold-at .result)
+          (neighboursOf (start .args .starts .now) (start .args .neighbours .now)) (start .args .full .now) (start .args .low .now)
+          (start .args .report .now) _ (at-build-tables .build-tables .last .1 .1 .1 .1 .0)
+          (at-build-tables .build-tables .last .1 .1 .1 .1 .1 .0) (at-build-tables .build-tables .last .1 .1 .1 .1 .1 .1 .0) _
+          (at-build-tables .build-tables .result) (at-build-tables .build-tables .ensures) (at-threshold-at .threshold-at .ensures)
+          (start .pre .0 .2) (start .pre .0 .3) (start .pre .0 .4)),
+      length-append
+          (lineOf 82 (start .args .n) (at-build-tables .build-tables .result))
+          (pairLines (start .args .n) (at-build-tables .build-tables .last .1 .1 .1 .1 .0)
+          (at-build-tables .build-tables .last .1 .1 .1 .1 .1 .0) (at-build-tables .build-tables .last .1 .1 .1 .1 .1 .1 .0)),
+      (start .pre .1),
+    )) (at-write-line .write-line .ensures) (at-write-pairs .write-pairs .ensures))
 
 pub write-tables-spec : {M : Type 1} → statement M
 write-tables-spec =

@@ -37,19 +37,54 @@ slice-aggregate-write-survey-2 : tie.Need-slice-aggregate-write-survey-2
 slice-aggregate-write-survey-2 c = search needs
 
 write-survey-requires : tie.Need-write-survey-requires
-write-survey-requires c κs = ((listing-read (c .before .before .before .before .before .before .before .before .before .before .before .before .before .args .text .now) _ _ (length-replicate {A = ℕ} 129 0) (length-replicate {A = ℕ} 4096 0) (c .before .before .before .before .before .before .before .before .read-within .last .1 .1 .1 .0) (c .before .before .before .before .before .before .before .before .read-within .last .1 .1 .1 .1 .0) (c .before .before .before .before .size .given .0 .0) (sym (ap (λ (z : Reading). readReturned z (c .before .before .before .before .before .before .before .before .read-within .last .1 .1 .1 .0) (c .before .before .before .before .before .before .before .before .read-within .last .1 .1 .1 .1 .0)) (c .before .before .before .before .size .given .1)) ∙ (c .before .before .before .before .before .before .before .before .read-within .ensures))) .survey, (listing-read (c .before .before .before .before .before .before .before .before .before .before .before .before .before .args .text .now) _ _ (length-replicate {A = ℕ} 129 0) (length-replicate {A = ℕ} 4096 0) (c .before .before .before .before .before .before .before .before .read-within .last .1 .1 .1 .0) (c .before .before .before .before .before .before .before .before .read-within .last .1 .1 .1 .1 .0) (c .before .before .before .before .size .given .0 .0) (sym (ap (λ (z : Reading). readReturned z (c .before .before .before .before .before .before .before .before .read-within .last .1 .1 .1 .0) (c .before .before .before .before .before .before .before .before .read-within .last .1 .1 .1 .1 .0)) (c .before .before .before .before .size .given .1)) ∙ (c .before .before .before .before .before .before .before .before .read-within .ensures))) .few, (c .before .before .before .before .before .before .before .before .before .before .before .before .before .pre))
+write-survey-requires c κs =
+    let start = c .before .before .before .before .before .before .before .before .before .before .before .before .before in
+    let at-read-within = c .before .before .before .before .before .before .before .before in
+    let at-size = c .before .before .before .before in (
+      (listing-read (start .args .text .now) _ _ (length-replicate {A = ℕ} 129 0) (length-replicate {A = ℕ} 4096 0)
+          (at-read-within .read-within .last .1 .1 .1 .0) (at-read-within .read-within .last .1 .1 .1 .1 .0) (at-size .size .given .0 .0)
+          (sym (ap (λ (z : Reading). readReturned z (at-read-within .read-within .last .1 .1 .1 .0)
+          (at-read-within .read-within .last .1 .1 .1 .1 .0)) (at-size .size .given .1)) ∙ (at-read-within .read-within .ensures))) .survey,
+      (listing-read (start .args .text .now) _ _ (length-replicate {A = ℕ} 129 0) (length-replicate {A = ℕ} 4096 0)
+          (at-read-within .read-within .last .1 .1 .1 .0) (at-read-within .read-within .last .1 .1 .1 .1 .0) (at-size .size .given .0 .0)
+          (sym (ap (λ (z : Reading). readReturned z (at-read-within .read-within .last .1 .1 .1 .0)
+          (at-read-within .read-within .last .1 .1 .1 .1 .0)) (at-size .size .given .1)) ∙ (at-read-within .read-within .ensures))) .few,
+      (start .pre),
+    )
 
 same-length : tie.Need-same-length
 same-length c = search needs
 
 returns : tie.Need-returns
-returns c = subst (λ (t : List ℕ). Wrote (c .before .before .before .before .before .before .before .before .before .before .before .before .before .before .args .buffer .now) (c .before .before .write-refusal .last .1 .0) 0 (c .before .before .write-refusal .result) t) (listing-refused (c .before .before .before .before .before .before .before .before .before .before .before .before .before .before .args .text .now) _ _ (length-replicate {A = ℕ} 129 0) (length-replicate {A = ℕ} 4096 0) (c .before .before .before .before .before .before .before .before .before .read-within .last .1 .1 .1 .0) (c .before .before .before .before .before .before .before .before .before .read-within .last .1 .1 .1 .1 .0) (c .before .before .before .before .before .r .given .0 .0) (sym (ap (λ (z : Reading). readReturned z (c .before .before .before .before .before .before .before .before .before .read-within .last .1 .1 .1 .0) (c .before .before .before .before .before .before .before .before .before .read-within .last .1 .1 .1 .1 .0)) (c .before .before .before .before .before .r .given .1)) ∙ (c .before .before .before .before .before .before .before .before .before .read-within .ensures))) (c .before .before .write-refusal .ensures)
+returns c =
+    let start = c .before .before .before .before .before .before .before .before .before .before .before .before .before .before in
+    let at-read-within = c .before .before .before .before .before .before .before .before .before in
+    let at-r = c .before .before .before .before .before in
+    let at-write-refusal = c .before .before in
+    subst (λ (t : List ℕ). Wrote (start .args .buffer .now) (at-write-refusal .write-refusal .last .1 .0) 0
+    (at-write-refusal .write-refusal .result) t)
+    (listing-refused (start .args .text .now) _ _ (length-replicate {A = ℕ} 129 0) (length-replicate {A = ℕ} 4096 0)
+    (at-read-within .read-within .last .1 .1 .1 .0) (at-read-within .read-within .last .1 .1 .1 .1 .0) (at-r .r .given .0 .0)
+    (sym (ap (λ (z : Reading). readReturned z (at-read-within .read-within .last .1 .1 .1 .0)
+    (at-read-within .read-within .last .1 .1 .1 .1 .0)) (at-r .r .given .1)) ∙ (at-read-within .read-within .ensures)))
+    (at-write-refusal .write-refusal .ensures)
 
 same-length-2 : tie.Need-same-length-2
 same-length-2 c = search needs
 
 returns-2 : tie.Need-returns-2
-returns-2 c = subst (λ (t : List ℕ). Wrote (c .before .before .before .before .before .before .before .before .before .before .before .before .before .before .before .before .args .buffer .now) (c .before .before .write-survey .last .1 .1 .1 .0) 0 (c .before .before .write-survey .result) t) ((listing-read (c .before .before .before .before .before .before .before .before .before .before .before .before .before .before .before .before .args .text .now) _ _ (length-replicate {A = ℕ} 129 0) (length-replicate {A = ℕ} 4096 0) (c .before .before .before .before .before .before .before .before .before .before .before .read-within .last .1 .1 .1 .0) (c .before .before .before .before .before .before .before .before .before .before .before .read-within .last .1 .1 .1 .1 .0) (c .before .before .before .before .before .before .before .size .given .0 .0) (sym (ap (λ (z : Reading). readReturned z (c .before .before .before .before .before .before .before .before .before .before .before .read-within .last .1 .1 .1 .0) (c .before .before .before .before .before .before .before .before .before .before .before .read-within .last .1 .1 .1 .1 .0)) (c .before .before .before .before .before .before .before .size .given .1)) ∙ (c .before .before .before .before .before .before .before .before .before .before .before .read-within .ensures))) .lines) (c .before .before .write-survey .ensures)
+returns-2 c =
+    let start = c .before .before .before .before .before .before .before .before .before .before .before .before .before .before .before .before in
+    let at-read-within = c .before .before .before .before .before .before .before .before .before .before .before in
+    let at-size = c .before .before .before .before .before .before .before in
+    let at-write-survey = c .before .before in
+    subst (λ (t : List ℕ). Wrote (start .args .buffer .now) (at-write-survey .write-survey .last .1 .1 .1 .0) 0
+    (at-write-survey .write-survey .result) t)
+    ((listing-read (start .args .text .now) _ _ (length-replicate {A = ℕ} 129 0) (length-replicate {A = ℕ} 4096 0)
+    (at-read-within .read-within .last .1 .1 .1 .0) (at-read-within .read-within .last .1 .1 .1 .1 .0) (at-size .size .given .0 .0)
+    (sym (ap (λ (z : Reading). readReturned z (at-read-within .read-within .last .1 .1 .1 .0)
+    (at-read-within .read-within .last .1 .1 .1 .1 .0)) (at-size .size .given .1)) ∙ (at-read-within .read-within .ensures))) .lines)
+    (at-write-survey .write-survey .ensures)
 
 pub write-text-spec : {M : Type 1} → statement M
 write-text-spec =

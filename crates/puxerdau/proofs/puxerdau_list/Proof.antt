@@ -36,7 +36,8 @@ returns c =
     let start = c .before .before .before .before .before .before .before in
     let call = c .before .before .before .write-listing in
     passed-on countField countIn (λ (x : AfterWriting). x .answer) (λ o. record { answer = o; buffer = call .last .1 .0 })
-    (λ _. length (listing (start .args .text .now)) ≤ mostListing) (λ o. refl) (c .counting-code .ensures) (call .ensures .0) (call .ensures .1)
+    (λ _. length (listing (start .args .text .now)) ≤ mostListing) (λ o. refl) (c .counting-code .ensures) (call .ensures .0)
+    (call .ensures .1)
 
 pub puxerdau-list-spec : {M : Type 1} → statement M
 puxerdau-list-spec =

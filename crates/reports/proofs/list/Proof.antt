@@ -29,10 +29,21 @@ enum-known-k : tie.Need-enum-known-k
 enum-known-k c = search needs
 
 slice-reshare-prefix-write-all : tie.Need-slice-reshare-prefix-write-all
-slice-reshare-prefix-write-all c = write-fits (listing _) _ (c .before .k .given .0 .0) (c .before .before .before .before .before .write-listing .last .1 .0) (sym (ap (λ (z : Counting). writeReturned z (c .before .before .before .before .before .write-listing .last .1 .0)) (c .before .k .given .1)) ∙ (c .before .before .before .before .before .write-listing .ensures .0))
+slice-reshare-prefix-write-all c =
+    let at-write-listing = c .before .before .before .before .before in
+    let at-k = c .before in
+    write-fits (listing _) _ (at-k .k .given .0 .0) (at-write-listing .write-listing .last .1 .0)
+    (sym (ap (λ (z : Counting). writeReturned z (at-write-listing .write-listing .last .1 .0)) (at-k .k .given .1)) ∙
+    (at-write-listing .write-listing .ensures .0))
 
 slice-aggregate-write-all : tie.Need-slice-aggregate-write-all
-slice-aggregate-write-all c = sym (length-take-le (c .before .before .k .given .0 .0) (c .before .before .before .before .before .before .write-listing .last .1 .0) (write-fits (listing _) _ (c .before .before .k .given .0 .0) (c .before .before .before .before .before .before .write-listing .last .1 .0) (sym (ap (λ (z : Counting). writeReturned z (c .before .before .before .before .before .before .write-listing .last .1 .0)) (c .before .before .k .given .1)) ∙ (c .before .before .before .before .before .before .write-listing .ensures .0))))
+slice-aggregate-write-all c =
+    let at-write-listing = c .before .before .before .before .before .before in
+    let at-k = c .before .before in
+    sym (length-take-le (at-k .k .given .0 .0) (at-write-listing .write-listing .last .1 .0)
+    (write-fits (listing _) _ (at-k .k .given .0 .0) (at-write-listing .write-listing .last .1 .0)
+    (sym (ap (λ (z : Counting). writeReturned z (at-write-listing .write-listing .last .1 .0)) (at-k .k .given .1)) ∙
+    (at-write-listing .write-listing .ensures .0))))
 
 write-all-requires : tie.Need-write-all-requires
 write-all-requires c κs = search needs

@@ -15,37 +15,79 @@ abbrev μ-loop : tie.MeasureT-loop
 μ-loop layer d rows row₀ found₀ w₀ row found w = 16 - w
 
 loop-holds : tie.Need-loop-holds Inv-loop μ-loop
-loop-holds c = marked-none (edgesIn (c .before .before .before .before .args .rows .now)) (c .before .before .before .before .args .layer .now) (c .before .before .before .before .args .d) (c .before .before .before .before .args .row .now) (c .before .before .before .before .args .found .now) (c .before .before .before .before .pre .0 .2)
+loop-holds c =
+    let start = c .before .before .before .before in
+    marked-none (edgesIn (start .args .rows .now)) (start .args .layer .now) (start .args .d) (start .args .row .now)
+    (start .args .found .now) (start .pre .0 .2)
 
 mul-mark-word : tie.Need-mul-mark-word Inv-loop μ-loop
-mul-mark-word c = omega (arith, (c .before .before .before .before .before .before .pre .0 .0), (c .loop-test .taken))
+mul-mark-word c =
+    let start = c .before .before .before .before .before .before in
+    omega (arith, (start .pre .0 .0), (c .loop-test .taken))
 
 shared-slice-read-mark-word : tie.Need-shared-slice-read-mark-word Inv-loop μ-loop
-shared-slice-read-mark-word c = omega (arith, (c .before .before .before .before .before .before .before .pre .0 .0), (c .before .loop-test .taken))
+shared-slice-read-mark-word c =
+    let start = c .before .before .before .before .before .before .before in
+    omega (arith, (start .pre .0 .0), (c .before .loop-test .taken))
 
 mul-mark-word-2 : tie.Need-mul-mark-word-2 Inv-loop μ-loop
-mul-mark-word-2 c = omega (arith, (c .before .before .before .before .before .before .before .pre .0 .0), (c .before .loop-test .taken))
+mul-mark-word-2 c =
+    let start = c .before .before .before .before .before .before .before in
+    omega (arith, (start .pre .0 .0), (c .before .loop-test .taken))
 
 mark-word-requires : tie.Need-mark-word-requires Inv-loop μ-loop
-mark-word-requires c κs = ((omega (arith, (c .before .before .before .loop-test .taken)), (c .before .before .before .before .before .before .before .before .before .pre .0 .1), ((c .before .before .before .before .loop .inv)) .long), word-inside (edgesIn (c .before .before .before .before .before .before .before .before .before .args .rows .now)) (c .before .before .before .before .before .before .before .before .before .args .layer .now) (c .before .before .before .before .before .before .before .before .before .args .d) (c .before .before .before .before .before .before .before .before .before .args .row .now) (c .before .before .before .before .before .before .before .before .before .args .found .now) _ _ _ (c .before .before .before .before .loop .inv) (c .before .before .before .before .before .before .before .before .before .pre .1))
+mark-word-requires c κs =
+    let start = c .before .before .before .before .before .before .before .before .before in
+    let at-loop = c .before .before .before .before in (
+      (omega (arith, (c .before .before .before .loop-test .taken)), (start .pre .0 .1), (at-loop .loop .inv) .long),
+      word-inside
+          (edgesIn (start .args .rows .now)) (start .args .layer .now) (start .args .d) (start .args .row .now) (start .args .found .now) _ _
+          _ (at-loop .loop .inv) (start .pre .1),
+    )
 
 add-w : tie.Need-add-w Inv-loop μ-loop
-add-w c = omega (arith, (c .before .before .before .before .before .before .before .before .before .before .before .before .before .before .pre .0 .0), (c .before .before .before .before .before .before .before .before .loop-test .taken))
+add-w c =
+    let start = c .before .before .before .before .before .before .before .before .before .before .before .before .before .before in
+    let at-loop-test = c .before .before .before .before .before .before .before .before in
+    omega (arith, (start .pre .0 .0), (at-loop-test .loop-test .taken))
 
 loop-less : tie.Need-loop-less Inv-loop μ-loop
-loop-less c = omega (arith, (c .before .before .before .before .before .before .before .before .before .before .before .before .before .before .pre .0 .0), (c .before .before .before .before .before .before .before .before .loop-test .taken))
+loop-less c =
+    let start = c .before .before .before .before .before .before .before .before .before .before .before .before .before .before in
+    let at-loop-test = c .before .before .before .before .before .before .before .before in
+    omega (arith, (start .pre .0 .0), (at-loop-test .loop-test .taken))
 
 loop-again : tie.Need-loop-again Inv-loop μ-loop
-loop-again c = marked-more (edgesIn (c .before .before .before .before .before .before .before .before .before .before .before .before .before .before .args .rows .now)) (c .before .before .before .before .before .before .before .before .before .before .before .before .before .before .args .layer .now) (c .before .before .before .before .before .before .before .before .before .before .before .before .before .before .args .d) (c .before .before .before .before .before .before .before .before .before .before .before .before .before .before .args .row .now) (c .before .before .before .before .before .before .before .before .before .before .before .before .before .before .args .found .now) _ _ _ (c .before .before .before .before .before .before .before .before .before .loop .inv) (c .before .before .before .before .before .before .before .before .loop-test .taken) _ _ (c .before .before .before .before .mark-word .kept .1 .1 .1 .1 .1 .0) (c .before .before .before .before .mark-word .ensures .0) (c .before .before .before .before .mark-word .ensures .1)
+loop-again c =
+    let start = c .before .before .before .before .before .before .before .before .before .before .before .before .before .before in
+    let at-loop = c .before .before .before .before .before .before .before .before .before in
+    let at-loop-test = c .before .before .before .before .before .before .before .before in
+    let at-mark-word = c .before .before .before .before in
+    marked-more (edgesIn (start .args .rows .now)) (start .args .layer .now) (start .args .d) (start .args .row .now)
+    (start .args .found .now) _ _ _ (at-loop .loop .inv) (at-loop-test .loop-test .taken) _ _
+    (at-mark-word .mark-word .kept .1 .1 .1 .1 .1 .0) (at-mark-word .mark-word .ensures .0) (at-mark-word .mark-word .ensures .1)
 
 same-length : tie.Need-same-length Inv-loop μ-loop
-same-length c = marked-same (edgesIn (c .before .before .before .before .before .before .args .rows .now)) (c .before .before .before .before .before .before .args .layer .now) (c .before .before .before .before .before .before .args .d) (c .before .before .before .before .before .before .args .row .now) (c .before .before .before .before .before .before .args .found .now) _ _ _ (c .before .loop .inv)
+same-length c =
+    let start = c .before .before .before .before .before .before in
+    marked-same (edgesIn (start .args .rows .now)) (start .args .layer .now) (start .args .d) (start .args .row .now)
+    (start .args .found .now) _ _ _ (c .before .loop .inv)
 
 same-length-2 : tie.Need-same-length-2 Inv-loop μ-loop
-same-length-2 c = ((c .before .loop .inv)) .long ∙ sym (c .before .before .before .before .before .before .pre .0 .2)
+same-length-2 c =
+    let start = c .before .before .before .before .before .before in
+    (c .before .loop .inv) .long ∙ sym (start .pre .0 .2)
 
 returns : tie.Need-returns Inv-loop μ-loop
-returns c = (marked-row (edgesIn (c .before .before .before .before .before .before .args .rows .now)) (c .before .before .before .before .before .before .args .layer .now) (c .before .before .before .before .before .before .args .d) (c .before .before .before .before .before .before .args .row .now) (c .before .before .before .before .before .before .args .found .now) _ _ _ (c .before .loop .inv) (c .loop-test .left), marked-found (edgesIn (c .before .before .before .before .before .before .args .rows .now)) (c .before .before .before .before .before .before .args .layer .now) (c .before .before .before .before .before .before .args .d) (c .before .before .before .before .before .before .args .row .now) (c .before .before .before .before .before .before .args .found .now) _ _ _ (c .before .loop .inv) (c .loop-test .left))
+returns c =
+    let start = c .before .before .before .before .before .before in
+    let at-loop = c .before in (
+      marked-row (edgesIn (start .args .rows .now)) (start .args .layer .now) (start .args .d) (start .args .row .now)
+          (start .args .found .now) _ _ _ (at-loop .loop .inv) (c .loop-test .left),
+      marked-found (edgesIn (start .args .rows .now))
+          (start .args .layer .now) (start .args .d) (start .args .row .now) (start .args .found .now) _ _ _ (at-loop .loop .inv)
+          (c .loop-test .left),
+    )
 
 pub mark-layer-spec : {M : Type 1} → statement M
 mark-layer-spec =

@@ -17,46 +17,134 @@ abbrev μ-loop : tie.MeasureT-loop
 μ-loop word base d rows row₀ found₀ left₀ row found left = left
 
 loop-holds : tie.Need-loop-holds Inv-loop μ-loop
-loop-holds c = marking-none (edgesIn (c .before .before .before .args .rows .now)) (c .before .before .before .args .base) (c .before .before .before .args .word) (c .before .before .before .args .d) (c .before .before .before .args .row .now) (c .before .before .before .args .found .now) ((c .before .before .before .fits .word .fits)) (c .before .before .before .pre .0 .2) (c .before .before .before .pre .1)
+loop-holds c =
+    let start = c .before .before .before in
+    marking-none (edgesIn (start .args .rows .now)) (start .args .base) (start .args .word) (start .args .d) (start .args .row .now)
+    (start .args .found .now) (start .fits .word .fits) (start .pre .0 .2) (start .pre .1)
 
 cast-v : tie.Need-cast-v Inv-loop μ-loop
-cast-v c = omega (arith, (low (edgesIn (c .before .before .before .before .before .args .rows .now)) (c .before .before .before .before .before .args .base) (c .before .before .before .before .before .args .word) (c .before .before .before .before .before .args .d) (c .before .before .before .before .before .args .row .now) (c .before .before .before .before .before .args .found .now) _ _ _ (c .before .loop .inv) (omega arith)) .below)
+cast-v c =
+    let start = c .before .before .before .before .before in
+    omega (
+      arith,
+      (low (edgesIn (start .args .rows .now)) (start .args .base) (start .args .word) (start .args .d) (start .args .row .now)
+          (start .args .found .now) _ _ _ (c .before .loop .inv) (omega arith)) .below,
+    )
 
 add-v : tie.Need-add-v Inv-loop μ-loop
-add-v c = omega (arith, (low (edgesIn (c .before .before .before .before .before .args .rows .now)) (c .before .before .before .before .before .args .base) (c .before .before .before .before .before .args .word) (c .before .before .before .before .before .args .d) (c .before .before .before .before .before .args .row .now) (c .before .before .before .before .before .args .found .now) _ _ _ (c .before .loop .inv) (omega arith)) .below, (first-inside (edgesIn (c .before .before .before .before .before .args .rows .now)) (c .before .before .before .before .before .args .base) (c .before .before .before .before .before .args .word) (c .before .before .before .before .before .args .d) (c .before .before .before .before .before .args .row .now) (c .before .before .before .before .before .args .found .now) _ _ _ (c .before .loop .inv) (omega arith)), (c .before .before .before .before .before .pre .0 .0))
+add-v c =
+    let start = c .before .before .before .before .before in
+    let at-loop = c .before in
+    omega (
+      arith,
+      (low (edgesIn (start .args .rows .now)) (start .args .base) (start .args .word) (start .args .d) (start .args .row .now)
+          (start .args .found .now) _ _ _ (at-loop .loop .inv) (omega arith)) .below,
+      (first-inside (edgesIn (start .args .rows .now)) (start .args .base) (start .args .word) (start .args .d) (start .args .row .now)
+          (start .args .found .now) _ _ _ (at-loop .loop .inv) (omega arith)),
+      (start .pre .0 .0),
+    )
 
 mul-row : tie.Need-mul-row Inv-loop μ-loop
-mul-row c = omega (arith, (low (edgesIn (c .before .before .before .before .before .args .rows .now)) (c .before .before .before .before .before .args .base) (c .before .before .before .before .before .args .word) (c .before .before .before .before .before .args .d) (c .before .before .before .before .before .args .row .now) (c .before .before .before .before .before .args .found .now) _ _ _ (c .before .loop .inv) (omega arith)) .below, (first-inside (edgesIn (c .before .before .before .before .before .args .rows .now)) (c .before .before .before .before .before .args .base) (c .before .before .before .before .before .args .word) (c .before .before .before .before .before .args .d) (c .before .before .before .before .before .args .row .now) (c .before .before .before .before .before .args .found .now) _ _ _ (c .before .loop .inv) (omega arith)), (c .before .before .before .before .before .pre .0 .0))
+mul-row c =
+    let start = c .before .before .before .before .before in
+    let at-loop = c .before in
+    omega (
+      arith,
+      (low (edgesIn (start .args .rows .now)) (start .args .base) (start .args .word) (start .args .d) (start .args .row .now)
+          (start .args .found .now) _ _ _ (at-loop .loop .inv) (omega arith)) .below,
+      (first-inside (edgesIn (start .args .rows .now)) (start .args .base) (start .args .word) (start .args .d) (start .args .row .now)
+          (start .args .found .now) _ _ _ (at-loop .loop .inv) (omega arith)),
+      (start .pre .0 .0),
+    )
 
 slice-write-row : tie.Need-slice-write-row Inv-loop μ-loop
-slice-write-row c = (first-inside (edgesIn (c .before .before .before .before .before .args .rows .now)) (c .before .before .before .before .before .args .base) (c .before .before .before .before .before .args .word) (c .before .before .before .before .before .args .d) (c .before .before .before .before .before .args .row .now) (c .before .before .before .before .before .args .found .now) _ _ _ (c .before .loop .inv) (omega arith))
+slice-write-row c =
+    let start = c .before .before .before .before .before in
+    (first-inside (edgesIn (start .args .rows .now)) (start .args .base) (start .args .word) (start .args .d) (start .args .row .now)
+    (start .args .found .now) _ _ _ (c .before .loop .inv) (omega arith))
 
 insert-row-requires : tie.Need-insert-row-requires Inv-loop μ-loop
-insert-row-requires c κs = ((c .before .before .before .before .before .before .pre .0 .1), omega (arith, (low (edgesIn (c .before .before .before .before .before .before .args .rows .now)) (c .before .before .before .before .before .before .args .base) (c .before .before .before .before .before .before .args .word) (c .before .before .before .before .before .before .args .d) (c .before .before .before .before .before .before .args .row .now) (c .before .before .before .before .before .before .args .found .now) _ _ _ (c .before .before .loop .inv) (omega arith)) .below, (c .before .before .before .before .before .before .pre .0 .0)), ((c .before .before .loop .inv)) .long)
+insert-row-requires c κs =
+    let start = c .before .before .before .before .before .before in
+    let at-loop = c .before .before in (
+      (start .pre .0 .1),
+      omega (
+        arith,
+        (low (edgesIn (start .args .rows .now)) (start .args .base) (start .args .word) (start .args .d)
+            (start .args .row .now) (start .args .found .now) _ _ _ (at-loop .loop .inv) (omega arith)) .below,
+        (start .pre .0 .0),
+      ),
+      (at-loop .loop .inv) .long,
+    )
 
 cast-left : tie.Need-cast-left Inv-loop μ-loop
-cast-left c = omega (arith, (low (edgesIn (c .before .before .before .before .before .before .before .before .before .args .rows .now)) (c .before .before .before .before .before .before .before .before .before .args .base) (c .before .before .before .before .before .before .before .before .before .args .word) (c .before .before .before .before .before .before .before .before .before .args .d) (c .before .before .before .before .before .before .before .before .before .args .row .now) (c .before .before .before .before .before .before .before .before .before .args .found .now) _ _ _ (c .before .before .before .before .before .loop .inv) (omega arith)) .below)
+cast-left c =
+    let start = c .before .before .before .before .before .before .before .before .before in
+    omega (
+      arith,
+      (low (edgesIn (start .args .rows .now)) (start .args .base) (start .args .word) (start .args .d) (start .args .row .now)
+          (start .args .found .now) _ _ _ (c .before .before .before .before .before .loop .inv) (omega arith)) .below,
+    )
 
 shl-left : tie.Need-shl-left Inv-loop μ-loop
-shl-left c = (low (edgesIn (c .before .before .before .before .before .before .before .before .before .args .rows .now)) (c .before .before .before .before .before .before .before .before .before .args .base) (c .before .before .before .before .before .before .before .before .before .args .word) (c .before .before .before .before .before .before .before .before .before .args .d) (c .before .before .before .before .before .before .before .before .before .args .row .now) (c .before .before .before .before .before .before .before .before .before .args .found .now) _ _ _ (c .before .before .before .before .before .loop .inv) (omega arith)) .below
+shl-left c =
+    let start = c .before .before .before .before .before .before .before .before .before in
+    (low (edgesIn (start .args .rows .now)) (start .args .base) (start .args .word) (start .args .d) (start .args .row .now)
+    (start .args .found .now) _ _ _ (c .before .before .before .before .before .loop .inv) (omega arith)) .below
 
 sub-left : tie.Need-sub-left Inv-loop μ-loop
-sub-left c = rw (shifted (trailingZeros 64 (c .before .before .before .before .before .loop .left)) ((low (edgesIn (c .before .before .before .before .before .before .before .before .before .args .rows .now)) (c .before .before .before .before .before .before .before .before .before .args .base) (c .before .before .before .before .before .before .before .before .before .args .word) (c .before .before .before .before .before .before .before .before .before .args .d) (c .before .before .before .before .before .before .before .before .before .args .row .now) (c .before .before .before .before .before .before .before .before .before .args .found .now) _ _ _ (c .before .before .before .before .before .loop .inv) (omega arith)) .below)) ((low (edgesIn (c .before .before .before .before .before .before .before .before .before .args .rows .now)) (c .before .before .before .before .before .before .before .before .before .args .base) (c .before .before .before .before .before .before .before .before .before .args .word) (c .before .before .before .before .before .before .before .before .before .args .d) (c .before .before .before .before .before .before .before .before .before .args .row .now) (c .before .before .before .before .before .before .before .before .before .args .found .now) _ _ _ (c .before .before .before .before .before .loop .inv) (omega arith)) .holds)
+sub-left c =
+    let start = c .before .before .before .before .before .before .before .before .before in
+    let at-loop = c .before .before .before .before .before in
+    rw (shifted (trailingZeros 64 (at-loop .loop .left))
+    ((low (edgesIn (start .args .rows .now)) (start .args .base) (start .args .word) (start .args .d) (start .args .row .now)
+    (start .args .found .now) _ _ _ (at-loop .loop .inv) (omega arith)) .below))
+    ((low (edgesIn (start .args .rows .now)) (start .args .base) (start .args .word) (start .args .d) (start .args .row .now)
+    (start .args .found .now) _ _ _ (at-loop .loop .inv) (omega arith)) .holds)
 
 loop-less : tie.Need-loop-less Inv-loop μ-loop
-loop-less c = rw (shifted (trailingZeros 64 (c .before .before .before .before .before .loop .left)) ((low (edgesIn (c .before .before .before .before .before .before .before .before .before .args .rows .now)) (c .before .before .before .before .before .before .before .before .before .args .base) (c .before .before .before .before .before .before .before .before .before .args .word) (c .before .before .before .before .before .before .before .before .before .args .d) (c .before .before .before .before .before .before .before .before .before .args .row .now) (c .before .before .before .before .before .before .before .before .before .args .found .now) _ _ _ (c .before .before .before .before .before .loop .inv) (omega arith)) .below)) (omega (arith, (low (edgesIn (c .before .before .before .before .before .before .before .before .before .args .rows .now)) (c .before .before .before .before .before .before .before .before .before .args .base) (c .before .before .before .before .before .before .before .before .before .args .word) (c .before .before .before .before .before .before .before .before .before .args .d) (c .before .before .before .before .before .before .before .before .before .args .row .now) (c .before .before .before .before .before .before .before .before .before .args .found .now) _ _ _ (c .before .before .before .before .before .loop .inv) (omega arith)) .holds, pow-pos (trailingZeros 64 (c .before .before .before .before .before .loop .left))))
+loop-less c =
+    let start = c .before .before .before .before .before .before .before .before .before in
+    let at-loop = c .before .before .before .before .before in
+    rw (shifted (trailingZeros 64 (at-loop .loop .left))
+    ((low (edgesIn (start .args .rows .now)) (start .args .base) (start .args .word) (start .args .d) (start .args .row .now)
+    (start .args .found .now) _ _ _ (at-loop .loop .inv) (omega arith)) .below))
+    (omega (
+      arith,
+      (low (edgesIn (start .args .rows .now)) (start .args .base) (start .args .word) (start .args .d)
+          (start .args .row .now) (start .args .found .now) _ _ _ (at-loop .loop .inv) (omega arith)) .holds,
+      pow-pos
+          (trailingZeros 64 (at-loop .loop .left)),
+    ))
 
 loop-again : tie.Need-loop-again Inv-loop μ-loop
-loop-again c = rw (shifted (trailingZeros 64 (c .before .before .before .before .before .loop .left)) ((low (edgesIn (c .before .before .before .before .before .before .before .before .before .args .rows .now)) (c .before .before .before .before .before .before .before .before .before .args .base) (c .before .before .before .before .before .before .before .before .before .args .word) (c .before .before .before .before .before .before .before .before .before .args .d) (c .before .before .before .before .before .before .before .before .before .args .row .now) (c .before .before .before .before .before .before .before .before .before .args .found .now) _ _ _ (c .before .before .before .before .before .loop .inv) (omega arith)) .below)) (marking-more (edgesIn (c .before .before .before .before .before .before .before .before .before .args .rows .now)) (c .before .before .before .before .before .before .before .before .before .args .base) (c .before .before .before .before .before .before .before .before .before .args .word) (c .before .before .before .before .before .before .before .before .before .args .d) (c .before .before .before .before .before .before .before .before .before .args .row .now) (c .before .before .before .before .before .before .before .before .before .args .found .now) _ _ _ (c .before .before .before .before .before .loop .inv) (omega arith) _ (c .before .before .insert-row .kept .1 .1 .0) (c .before .before .insert-row .ensures))
+loop-again c =
+    let start = c .before .before .before .before .before .before .before .before .before in
+    let at-loop = c .before .before .before .before .before in
+    let at-insert-row = c .before .before in
+    rw (shifted (trailingZeros 64 (at-loop .loop .left))
+    ((low (edgesIn (start .args .rows .now)) (start .args .base) (start .args .word) (start .args .d) (start .args .row .now)
+    (start .args .found .now) _ _ _ (at-loop .loop .inv) (omega arith)) .below))
+    (marking-more (edgesIn (start .args .rows .now)) (start .args .base) (start .args .word) (start .args .d) (start .args .row .now)
+    (start .args .found .now) _ _ _ (at-loop .loop .inv) (omega arith) _ (at-insert-row .insert-row .kept .1 .1 .0)
+    (at-insert-row .insert-row .ensures))
 
 same-length : tie.Need-same-length Inv-loop μ-loop
-same-length c = ((c .before .loop .inv)) .same
+same-length c = (c .before .loop .inv) .same
 
 same-length-2 : tie.Need-same-length-2 Inv-loop μ-loop
-same-length-2 c = ((c .before .loop .inv)) .long ∙ sym (c .before .before .before .before .before .pre .0 .2)
+same-length-2 c = (c .before .loop .inv) .long ∙ sym (c .before .before .before .before .before .pre .0 .2)
 
 returns : tie.Need-returns Inv-loop μ-loop
-returns c = (marking-row (edgesIn (c .before .before .before .before .before .args .rows .now)) (c .before .before .before .before .before .args .base) (c .before .before .before .before .before .args .word) (c .before .before .before .before .before .args .d) (c .before .before .before .before .before .args .row .now) (c .before .before .before .before .before .args .found .now) _ _ _ (c .before .loop .inv) (c .loop-test .left), marking-found (edgesIn (c .before .before .before .before .before .args .rows .now)) (c .before .before .before .before .before .args .base) (c .before .before .before .before .before .args .word) (c .before .before .before .before .before .args .d) (c .before .before .before .before .before .args .row .now) (c .before .before .before .before .before .args .found .now) _ _ _ (c .before .loop .inv) (c .loop-test .left))
+returns c =
+    let start = c .before .before .before .before .before in
+    let at-loop = c .before in (
+      marking-row (edgesIn (start .args .rows .now)) (start .args .base) (start .args .word) (start .args .d) (start .args .row .now)
+          (start .args .found .now) _ _ _ (at-loop .loop .inv) (c .loop-test .left),
+      marking-found (edgesIn (start .args .rows .now))
+          (start .args .base) (start .args .word) (start .args .d) (start .args .row .now) (start .args .found .now) _ _ _
+          (at-loop .loop .inv) (c .loop-test .left),
+    )
 
 pub mark-word-spec : {M : Type 1} → statement M
 mark-word-spec =

@@ -32,16 +32,34 @@ slice-aggregate-insert-below : tie.Need-slice-aggregate-insert-below Inv-loop μ
 slice-aggregate-insert-below c = search needs
 
 insert-below-requires : tie.Need-insert-below-requires Inv-loop μ-loop
-insert-below-requires c κs = (refl, (c .before .before .before .before .before .before .before .before .before .before .pre .0))
+insert-below-requires c κs =
+    let start = c .before .before .before .before .before .before .before .before .before .before in
+    (refl, (start .pre .0))
 
 slice-aggregate-remove : tie.Need-slice-aggregate-remove Inv-loop μ-loop
 slice-aggregate-remove c = search needs
 
 remove-requires : tie.Need-remove-requires Inv-loop μ-loop
-remove-requires c κs = omega (arith, (c .before .before .insert-below .kept .0) ∙ length-replicate {A = ℕ} 16 0, (c .before .before .before .before .before .before .before .before .before .before .before .before .before .pre .0), (c .before .before .before .before .before .before .before .before .before .before .before .before .before .pre .2))
+remove-requires c κs =
+    let start = c .before .before .before .before .before .before .before .before .before .before .before .before .before in
+    omega (arith, (c .before .before .insert-below .kept .0) ∙ length-replicate {A = ℕ} 16 0, (start .pre .0), (start .pre .2))
 
 loop-holds : tie.Need-loop-holds Inv-loop μ-loop
-loop-holds c = (turn-start (edgesIn (c .before .before .before .before .before .before .before .before .before .before .before .before .before .before .before .args .rows .now)) (c .before .before .before .before .before .before .before .before .before .before .before .before .before .before .before .args .n) (c .before .before .before .before .before .before .before .before .before .before .before .before .before .before .before .args .source) _ _ _ _ ((c .before .before .before .before .before .before .before .before .before .before .before .fill16 .ensures) ∙ ap (λ (m : ℕ). replicate m none) (c .before .before .before .before .before .before .before .before .before .before .before .before .before .before .before .pre .3)) (c .before .before .before .before .before .before .before .insert .ensures) (c .before .before .before .before .insert-below .ensures) (c .before .remove .ensures), omega arith, (c .before .before .before .before .before .before .before .insert .kept .0) ∙ length-replicate {A = ℕ} 16 0, (c .before .remove .kept .0) ∙ (c .before .before .before .before .insert-below .kept .0) ∙ length-replicate {A = ℕ} 16 0, length-replicate {A = ℕ} 16 0)
+loop-holds c =
+    let start = c .before .before .before .before .before .before .before .before .before .before .before .before .before .before .before in
+    let at-fill16 = c .before .before .before .before .before .before .before .before .before .before .before in
+    let at-insert = c .before .before .before .before .before .before .before in
+    let at-insert-below = c .before .before .before .before in
+    let at-remove = c .before in (
+      turn-start (edgesIn (start .args .rows .now)) (start .args .n) (start .args .source) _ _ _ _
+          ((at-fill16 .fill16 .ensures) ∙ ap (λ (m : ℕ). replicate m none) (start .pre .3)) (at-insert .insert .ensures)
+          (at-insert-below .insert-below .ensures) (at-remove .remove .ensures),
+      omega arith,
+      (at-insert .insert .kept .0) ∙ length-replicate
+          {A = ℕ} 16 0,
+      (at-remove .remove .kept .0) ∙ (at-insert-below .insert-below .kept .0) ∙ length-replicate {A = ℕ} 16 0,
+      length-replicate {A = ℕ} 16 0,
+    )
 
 slice-aggregate-smallest : tie.Need-slice-aggregate-smallest Inv-loop μ-loop
 slice-aggregate-smallest c = sym (c .before .before .loop .inv .2)
@@ -50,58 +68,144 @@ smallest-requires : tie.Need-smallest-requires Inv-loop μ-loop
 smallest-requires c κs = omega (arith, (c .before .before .loop .inv .2))
 
 same-length : tie.Need-same-length Inv-loop μ-loop
-same-length c = ((c .before .before .before .before .loop .inv .0)) .size ∙ sym (c .before .before .before .before .before .before .before .before .before .before .before .before .before .before .before .before .before .before .before .before .pre .3)
+same-length c =
+    let start = c .before .before .before .before .before .before .before .before .before .before .before .before .before .before .before .before .before .before .before .before in
+    (c .before .before .before .before .loop .inv .0) .size ∙ sym (start .pre .3)
 
 returns : tie.Need-returns Inv-loop μ-loop
-returns c = turn-empty (edgesIn (c .before .before .before .before .before .before .before .before .before .before .before .before .before .before .before .before .before .before .before .before .args .rows .now)) (c .before .before .before .before .before .before .before .before .before .before .before .before .before .before .before .before .before .before .before .before .args .n) (c .before .before .before .before .before .before .before .before .before .before .before .before .before .before .before .before .before .before .before .before .args .source) (c .before .before .before .before .before .before .before .before .before .before .before .before .before .before .before .before .before .before .before .before .pre .2) (c .before .before .before .before .before .before .before .before .before .before .before .before .before .before .before .before .before .before .before .before .pre .0) (c .before .before .before .before .loop .k) _ _ _ _ (c .before .before .before .before .loop .inv .1) (c .before .before .before .before .loop .inv .0) (past-smallest (c .before .before .before .before .before .before .before .before .before .before .before .before .before .before .before .before .before .before .before .before .args .n) (c .before .before .before .before .loop .layer) (omega (arith, (c .before .before .before .before .loop .inv .2), (c .before .before .before .before .before .before .before .before .before .before .before .before .before .before .before .before .before .before .before .before .pre .0))) _ (c .before .smallest .ensures) (c .if1 .taken))
+returns c =
+    let start = c .before .before .before .before .before .before .before .before .before .before .before .before .before .before .before .before .before .before .before .before in
+    let at-loop = c .before .before .before .before in
+    turn-empty (edgesIn (start .args .rows .now)) (start .args .n) (start .args .source) (start .pre .2) (start .pre .0) (at-loop .loop .k)
+    _ _ _ _ (at-loop .loop .inv .1) (at-loop .loop .inv .0)
+    (past-smallest (start .args .n) (at-loop .loop .layer) (omega (arith, (at-loop .loop .inv .2), (start .pre .0))) _
+    (c .before .smallest .ensures) (c .if1 .taken))
 
 slice-aggregate-mark-layer : tie.Need-slice-aggregate-mark-layer Inv-loop μ-loop
 slice-aggregate-mark-layer c = sym (c .before .before .before .before .before .loop .inv .2)
 
 cast-mark-layer : tie.Need-cast-mark-layer Inv-loop μ-loop
-cast-mark-layer c = omega (arith, (c .before .before .before .before .loop-test .taken), (c .before .before .before .before .before .before .before .before .before .before .before .before .before .before .before .before .before .before .before .before .before .pre .0))
+cast-mark-layer c =
+    let start = c .before .before .before .before .before .before .before .before .before .before .before .before .before .before .before .before .before .before .before .before .before in
+    omega (arith, (c .before .before .before .before .loop-test .taken), (start .pre .0))
 
 slice-aggregate-mark-layer-2 : tie.Need-slice-aggregate-mark-layer-2 Inv-loop μ-loop
-slice-aggregate-mark-layer-2 c = sym (c .before .before .before .before .before .before .before .loop .inv .4)
+slice-aggregate-mark-layer-2 c =
+    let at-loop = c .before .before .before .before .before .before .before in
+    sym (at-loop .loop .inv .4)
 
 mark-layer-requires : tie.Need-mark-layer-requires Inv-loop μ-loop
-mark-layer-requires c κs = (((c .before .before .before .before .before .before .before .loop .inv .2), (c .before .before .before .before .before .before .before .before .before .before .before .before .before .before .before .before .before .before .before .before .before .before .before .pre .1), (c .before .before .before .before .before .before .before .loop .inv .4)), front-inside (edgesIn (c .before .before .before .before .before .before .before .before .before .before .before .before .before .before .before .before .before .before .before .before .before .before .before .args .rows .now)) (c .before .before .before .before .before .before .before .before .before .before .before .before .before .before .before .before .before .before .before .before .before .before .before .args .n) (c .before .before .before .before .before .before .before .before .before .before .before .before .before .before .before .before .before .before .before .before .before .before .before .args .source) (c .before .before .before .before .before .before .before .before .before .before .before .before .before .before .before .before .before .before .before .before .before .before .before .pre .2) (c .before .before .before .before .before .before .before .before .before .before .before .before .before .before .before .before .before .before .before .before .before .before .before .pre .0) (c .before .before .before .before .before .before .before .loop .k) _ _ _ _ (c .before .before .before .before .before .before .before .loop .inv .0))
+mark-layer-requires c κs =
+    let start = c .before .before .before .before .before .before .before .before .before .before .before .before .before .before .before .before .before .before .before .before .before .before .before in
+    let at-loop = c .before .before .before .before .before .before .before in (
+      ((at-loop .loop .inv .2), (start .pre .1), (at-loop .loop .inv .4)),
+      front-inside (edgesIn (start .args .rows .now)) (start .args .n)
+          (start .args .source) (start .pre .2) (start .pre .0) (at-loop .loop .k) _ _ _ _ (at-loop .loop .inv .0),
+    )
 
 slice-aggregate-write-intersection : tie.Need-slice-aggregate-write-intersection Inv-loop μ-loop
-slice-aggregate-write-intersection c = omega (arith, (c .before .before .before .before .before .before .before .before .before .before .before .before .loop .inv .2), (c .before .before .before .before .before .before .before .before .before .before .before .before .loop .inv .3), (c .before .before .before .before .before .before .before .before .before .before .before .before .loop .inv .4), (c .before .before .before .before .mark-layer .kept .1 .1 .1 .1 .0))
+slice-aggregate-write-intersection c =
+    let at-loop = c .before .before .before .before .before .before .before .before .before .before .before .before in
+    omega (
+      arith,
+      (at-loop .loop .inv .2),
+      (at-loop .loop .inv .3),
+      (at-loop .loop .inv .4),
+      (c .before .before .before .before .mark-layer .kept .1 .1 .1 .1 .0),
+    )
 
 slice-aggregate-write-intersection-2 : tie.Need-slice-aggregate-write-intersection-2 Inv-loop μ-loop
-slice-aggregate-write-intersection-2 c = omega (arith, (c .before .before .before .before .before .before .before .before .before .before .before .before .before .loop .inv .2), (c .before .before .before .before .before .before .before .before .before .before .before .before .before .loop .inv .3), (c .before .before .before .before .before .before .before .before .before .before .before .before .before .loop .inv .4), (c .before .before .before .before .before .mark-layer .kept .1 .1 .1 .1 .0))
+slice-aggregate-write-intersection-2 c =
+    let at-loop = c .before .before .before .before .before .before .before .before .before .before .before .before .before in
+    omega (
+      arith,
+      (at-loop .loop .inv .2),
+      (at-loop .loop .inv .3),
+      (at-loop .loop .inv .4),
+      (c .before .before .before .before .before .mark-layer .kept .1 .1 .1 .1 .0),
+    )
 
 slice-aggregate-write-intersection-3 : tie.Need-slice-aggregate-write-intersection-3 Inv-loop μ-loop
-slice-aggregate-write-intersection-3 c = sym (c .before .before .before .before .before .before .before .before .before .before .before .before .before .before .loop .inv .2)
+slice-aggregate-write-intersection-3 c =
+    let at-loop = c .before .before .before .before .before .before .before .before .before .before .before .before .before .before in
+    sym (at-loop .loop .inv .2)
 
 write-intersection-requires : tie.Need-write-intersection-requires Inv-loop μ-loop
-write-intersection-requires c κs = (omega (arith, (c .before .before .before .before .before .before .before .before .before .before .before .before .before .before .loop .inv .2), (c .before .before .before .before .before .before .before .before .before .before .before .before .before .before .loop .inv .3), (c .before .before .before .before .before .before .before .before .before .before .before .before .before .before .loop .inv .4), (c .before .before .before .before .before .before .mark-layer .kept .1 .1 .1 .1 .0)), omega (arith, (c .before .before .before .before .before .before .before .before .before .before .before .before .before .before .loop .inv .2), (c .before .before .before .before .before .before .before .before .before .before .before .before .before .before .loop .inv .3), (c .before .before .before .before .before .before .before .before .before .before .before .before .before .before .loop .inv .4), (c .before .before .before .before .before .before .mark-layer .kept .1 .1 .1 .1 .0)))
+write-intersection-requires c κs =
+    let at-loop = c .before .before .before .before .before .before .before .before .before .before .before .before .before .before in
+    let at-mark-layer = c .before .before .before .before .before .before in (
+      omega (
+        arith,
+        (at-loop .loop .inv .2),
+        (at-loop .loop .inv .3),
+        (at-loop .loop .inv .4),
+        (at-mark-layer .mark-layer .kept .1 .1 .1 .1 .0),
+      ),
+      omega (
+        arith,
+        (at-loop .loop .inv .2),
+        (at-loop .loop .inv .3),
+        (at-loop .loop .inv .4),
+        (at-mark-layer .mark-layer .kept .1 .1 .1 .1 .0),
+      ),
+    )
 
 slice-aggregate-subtract : tie.Need-slice-aggregate-subtract Inv-loop μ-loop
-slice-aggregate-subtract c = sym (c .before .before .before .before .before .before .before .before .before .before .before .before .before .before .before .before .before .loop .inv .3)
+slice-aggregate-subtract c =
+    let at-loop = c .before .before .before .before .before .before .before .before .before .before .before .before .before .before .before .before .before in
+    sym (at-loop .loop .inv .3)
 
 slice-aggregate-subtract-2 : tie.Need-slice-aggregate-subtract-2 Inv-loop μ-loop
-slice-aggregate-subtract-2 c = sym ((c .before .before .before .write-intersection .kept .1 .1 .0) ∙ (c .before .before .before .before .before .before .before .before .before .before .before .before .before .before .before .before .before .before .loop .inv .2))
+slice-aggregate-subtract-2 c =
+    let at-loop = c .before .before .before .before .before .before .before .before .before .before .before .before .before .before .before .before .before .before in
+    sym ((c .before .before .before .write-intersection .kept .1 .1 .0) ∙ (at-loop .loop .inv .2))
 
 subtract-requires : tie.Need-subtract-requires Inv-loop μ-loop
-subtract-requires c κs = (c .before .before .before .before .before .before .before .before .before .before .before .before .before .before .before .before .before .before .loop .inv .3) ∙ sym ((c .before .before .before .write-intersection .kept .1 .1 .0) ∙ (c .before .before .before .before .before .before .before .before .before .before .before .before .before .before .before .before .before .before .loop .inv .2))
+subtract-requires c κs =
+    let at-loop = c .before .before .before .before .before .before .before .before .before .before .before .before .before .before .before .before .before .before in
+    (at-loop .loop .inv .3) ∙ sym ((c .before .before .before .write-intersection .kept .1 .1 .0) ∙ (at-loop .loop .inv .2))
 
 add-k : tie.Need-add-k Inv-loop μ-loop
-add-k c = omega (arith, (c .before .before .before .before .before .before .before .before .before .before .before .before .before .before .before .before .before .before .before .loop-test .taken), (c .before .before .before .before .before .before .before .before .before .before .before .before .before .before .before .before .before .before .before .before .before .before .before .before .before .before .before .before .before .before .before .before .before .before .before .before .pre .0))
+add-k c =
+    let start = c .before .before .before .before .before .before .before .before .before .before .before .before .before .before .before .before .before .before .before .before .before .before .before .before .before .before .before .before .before .before .before .before .before .before .before .before in
+    let at-loop-test = c .before .before .before .before .before .before .before .before .before .before .before .before .before .before .before .before .before .before .before in
+    omega (arith, (at-loop-test .loop-test .taken), (start .pre .0))
 
 loop-less : tie.Need-loop-less Inv-loop μ-loop
-loop-less c = omega (arith, (c .before .before .before .before .before .before .before .before .before .before .before .before .before .before .before .before .before .before .before .loop-test .taken))
+loop-less c =
+    let at-loop-test = c .before .before .before .before .before .before .before .before .before .before .before .before .before .before .before .before .before .before .before in
+    omega (arith, (at-loop-test .loop-test .taken))
 
 loop-again : tie.Need-loop-again Inv-loop μ-loop
-loop-again c = (turn-more (edgesIn (c .before .before .before .before .before .before .before .before .before .before .before .before .before .before .before .before .before .before .before .before .before .before .before .before .before .before .before .before .before .before .before .before .before .before .before .before .args .rows .now)) (c .before .before .before .before .before .before .before .before .before .before .before .before .before .before .before .before .before .before .before .before .before .before .before .before .before .before .before .before .before .before .before .before .before .before .before .before .args .n) (c .before .before .before .before .before .before .before .before .before .before .before .before .before .before .before .before .before .before .before .before .before .before .before .before .before .before .before .before .before .before .before .before .before .before .before .before .args .source) (c .before .before .before .before .before .before .before .before .before .before .before .before .before .before .before .before .before .before .before .before .before .before .before .before .before .before .before .before .before .before .before .before .before .before .before .before .pre .2) (c .before .before .before .before .before .before .before .before .before .before .before .before .before .before .before .before .before .before .before .before .before .before .before .before .before .before .before .before .before .before .before .before .before .before .before .before .pre .0) (c .before .before .before .before .before .before .before .before .before .before .before .before .before .before .before .before .before .before .before .before .loop .k) _ _ _ _ _ _ _ _ (c .before .before .before .before .before .before .before .before .before .before .before .before .before .before .before .before .before .before .before .before .loop .inv .0) (c .before .before .before .before .before .before .before .before .before .before .before .before .mark-layer .ensures .0) (c .before .before .before .before .before .before .before .before .before .before .before .before .mark-layer .ensures .1) (c .before .before .before .before .before .write-intersection .ensures) (c .before .subtract .ensures), omega (arith, (c .before .before .before .before .before .before .before .before .before .before .before .before .before .before .before .before .before .before .before .loop-test .taken)), (c .before .before .before .before .before .write-intersection .kept .1 .1 .0) ∙ (c .before .before .before .before .before .before .before .before .before .before .before .before .before .before .before .before .before .before .before .before .loop .inv .2), (c .before .subtract .kept .0) ∙ (c .before .before .before .before .before .before .before .before .before .before .before .before .before .before .before .before .before .before .before .before .loop .inv .3), (c .before .before .before .before .before .before .before .before .before .before .before .before .mark-layer .kept .1 .1 .1 .1 .0) ∙ (c .before .before .before .before .before .before .before .before .before .before .before .before .before .before .before .before .before .before .before .before .loop .inv .4))
+loop-again c =
+    let start = c .before .before .before .before .before .before .before .before .before .before .before .before .before .before .before .before .before .before .before .before .before .before .before .before .before .before .before .before .before .before .before .before .before .before .before .before in
+    let at-loop = c .before .before .before .before .before .before .before .before .before .before .before .before .before .before .before .before .before .before .before .before in
+    let at-loop-test = c .before .before .before .before .before .before .before .before .before .before .before .before .before .before .before .before .before .before .before in
+    let at-mark-layer = c .before .before .before .before .before .before .before .before .before .before .before .before in
+    let at-write-intersection = c .before .before .before .before .before in
+    let at-subtract = c .before in (
+      turn-more (edgesIn (start .args .rows .now)) (start .args .n) (start .args .source) (start .pre .2) (start .pre .0) (at-loop .loop .k)
+          _ _ _ _ _ _ _ _ (at-loop .loop .inv .0) (at-mark-layer .mark-layer .ensures .0) (at-mark-layer .mark-layer .ensures .1)
+          (at-write-intersection .write-intersection .ensures) (at-subtract .subtract .ensures),
+      omega
+          (arith, (at-loop-test .loop-test .taken)),
+      (at-write-intersection .write-intersection .kept .1 .1 .0) ∙ (at-loop .loop .inv .2),
+      (at-subtract .subtract .kept .0) ∙ (at-loop .loop .inv .3),
+      (at-mark-layer .mark-layer .kept .1 .1 .1 .1 .0) ∙
+          (at-loop .loop .inv .4),
+    )
 
 same-length-2 : tie.Need-same-length-2 Inv-loop μ-loop
-same-length-2 c = ((c .before .loop .inv .0)) .size ∙ sym (c .before .before .before .before .before .before .before .before .before .before .before .before .before .before .before .before .before .pre .3)
+same-length-2 c =
+    let start = c .before .before .before .before .before .before .before .before .before .before .before .before .before .before .before .before .before in
+    (c .before .loop .inv .0) .size ∙ sym (start .pre .3)
 
 returns-2 : tie.Need-returns-2 Inv-loop μ-loop
-returns-2 c = turn-end (edgesIn (c .before .before .before .before .before .before .before .before .before .before .before .before .before .before .before .before .before .args .rows .now)) (c .before .before .before .before .before .before .before .before .before .before .before .before .before .before .before .before .before .args .n) (c .before .before .before .before .before .before .before .before .before .before .before .before .before .before .before .before .before .args .source) (c .before .before .before .before .before .before .before .before .before .before .before .before .before .before .before .before .before .pre .2) (c .before .before .before .before .before .before .before .before .before .before .before .before .before .before .before .before .before .pre .0) (c .before .loop .k) _ _ _ _ (omega (arith, (c .before .loop .inv .1), (c .loop-test .left))) (c .before .loop .inv .0)
+returns-2 c =
+    let start = c .before .before .before .before .before .before .before .before .before .before .before .before .before .before .before .before .before in
+    let at-loop = c .before in
+    turn-end (edgesIn (start .args .rows .now)) (start .args .n) (start .args .source) (start .pre .2) (start .pre .0) (at-loop .loop .k) _
+    _ _ _ (omega (arith, (at-loop .loop .inv .1), (c .loop-test .left))) (at-loop .loop .inv .0)
 
 pub search-spec : {M : Type 1} → statement M
 search-spec =

@@ -35,10 +35,21 @@ loop-less : tie.Need-loop-less Inv-loop μ-loop
 loop-less c = search needs
 
 loop-again : tie.Need-loop-again Inv-loop μ-loop
-loop-again c = (omega arith, subst (λ (m : ℕ). max m (greatest (drop ((c .before .before .before .loop .i) + 1) ((c .before .before .before .before .before .args .row .now)))) ≡ greatest ((c .before .before .before .before .before .args .row .now))) (sym ((c .greater .ensures))) (row-turn ((c .before .before .before .before .before .args .row .now)) ((c .before .before .before .loop .i)) ((c .before .before .before .loop .most)) ((c .before .before .loop-test .taken)) ((c .before .before .before .loop .inv .1))))
+loop-again c =
+    let start = c .before .before .before .before .before in
+    let at-loop = c .before .before .before in (
+      omega arith,
+      subst (λ (m : ℕ). max m (greatest (drop ((at-loop .loop .i) + 1) (start .args .row .now))) ≡ greatest
+          (start .args .row .now)) (sym (c .greater .ensures))
+          (row-turn (start .args .row .now) (at-loop .loop .i) (at-loop .loop .most) (c .before .before .loop-test .taken)
+          (at-loop .loop .inv .1)),
+    )
 
 returns : tie.Need-returns Inv-loop μ-loop
-returns c = row-end ((c .before .before .before .args .row .now)) ((c .before .loop .i)) ((c .before .loop .most)) ((c .loop-test .left)) ((c .before .loop .inv .1))
+returns c =
+    let at-loop = c .before in
+    row-end (c .before .before .before .args .row .now) (at-loop .loop .i) (at-loop .loop .most) (c .loop-test .left)
+    (at-loop .loop .inv .1)
 
 pub row-depth-spec : {M : Type 1} → statement M
 row-depth-spec =

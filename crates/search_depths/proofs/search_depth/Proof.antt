@@ -35,7 +35,7 @@ loop-holds : tie.Need-loop-holds Inv-loop μ-loop
 loop-holds c = (omega arith, length-replicate {A = ℕ} 1024 0, omega arith)
 
 slice-aggregate-search : tie.Need-slice-aggregate-search Inv-loop μ-loop
-slice-aggregate-search c = sym (((c .before .before .before .before .insert-below .kept .0)) ∙ length-replicate {A = ℕ} 16 0)
+slice-aggregate-search c = sym ((c .before .before .before .before .insert-below .kept .0) ∙ length-replicate {A = ℕ} 16 0)
 
 mul-search : tie.Need-mul-search Inv-loop μ-loop
 mul-search c = search needs
@@ -44,22 +44,65 @@ shared-slice-read-search : tie.Need-shared-slice-read-search Inv-loop μ-loop
 shared-slice-read-search c = search needs
 
 cast-search : tie.Need-cast-search Inv-loop μ-loop
-cast-search c = omega (arith, (c .shared-slice-known4 .given) ((c .before .before .before .loop .i)))
+cast-search c = omega (arith, (c .shared-slice-known4 .given) (c .before .before .before .loop .i))
 
 array-borrow-prefix-row : tie.Need-array-borrow-prefix-row Inv-loop μ-loop
-array-borrow-prefix-row c = omega (arith, (c .before .before .before .before .before .before .before .before .before .before .pre .0 .size), (c .before .before .before .loop .inv .1))
+array-borrow-prefix-row c =
+    let start = c .before .before .before .before .before .before .before .before .before .before in
+    omega (arith, (start .pre .0 .size), (c .before .before .before .loop .inv .1))
 
 slice-aggregate-search-2 : tie.Need-slice-aggregate-search-2 Inv-loop μ-loop
-slice-aggregate-search-2 c = sym (length-take-le ((c .before .before .before .before .before .before .before .before .before .before .before .args .n)) ((c .before .before .before .before .loop .row)) (omega (arith, (c .before .before .before .before .before .before .before .before .before .before .before .pre .0 .size), (c .before .before .before .before .loop .inv .1))))
+slice-aggregate-search-2 c =
+    let start = c .before .before .before .before .before .before .before .before .before .before .before in
+    let at-loop = c .before .before .before .before in
+    sym (length-take-le (start .args .n) (at-loop .loop .row) (omega (arith, (start .pre .0 .size), (at-loop .loop .inv .1))))
 
 search-requires : tie.Need-search-requires Inv-loop μ-loop
-search-requires c κs = (((c .before .before .before .before .before .before .before .before .before .before .before .pre .0), (((c .before .before .before .before .before .before .insert-below .kept .0)) ∙ length-replicate {A = ℕ} 16 0)), (((c .before .before .before .before .before .before .before .before .before .before .before .pre .1) (getD ((c .before .before .before .before .before .before .before .before .before .before .before .args .sources .now)) ((c .before .before .before .before .loop .i)) 0) (getD-has ((c .before .before .before .before .before .before .before .before .before .before .before .args .sources .now)) ((c .before .before .before .before .loop .i)) ((c .before .before .before .loop-test .taken)))), subst T (sym (ap (λ (q : ℕ → Bool). q (getD ((c .before .before .before .before .before .before .before .before .before .before .before .args .sources .now)) ((c .before .before .before .before .loop .i)) 0)) ((c .before .before .before .before .before .before .insert-below .ensures)))) (lt→ltb (getD ((c .before .before .before .before .before .before .before .before .before .before .before .args .sources .now)) ((c .before .before .before .before .loop .i)) 0) ((c .before .before .before .before .before .before .before .before .before .before .before .args .n)) ((c .before .before .before .before .before .before .before .before .before .before .before .pre .1) (getD ((c .before .before .before .before .before .before .before .before .before .before .before .args .sources .now)) ((c .before .before .before .before .loop .i)) 0) (getD-has ((c .before .before .before .before .before .before .before .before .before .before .before .args .sources .now)) ((c .before .before .before .before .loop .i)) ((c .before .before .before .loop-test .taken))))), length-take-le ((c .before .before .before .before .before .before .before .before .before .before .before .args .n)) ((c .before .before .before .before .loop .row)) (omega (arith, (c .before .before .before .before .before .before .before .before .before .before .before .pre .0 .size), (c .before .before .before .before .loop .inv .1)))))
+search-requires c κs =
+    let start = c .before .before .before .before .before .before .before .before .before .before .before in
+    let at-insert-below = c .before .before .before .before .before .before in
+    let at-loop = c .before .before .before .before in
+    let at-loop-test = c .before .before .before in (
+      ((start .pre .0), ((at-insert-below .insert-below .kept .0) ∙ length-replicate {A = ℕ} 16 0)),
+      (
+        ((start .pre .1) (getD (start .args .sources .now) (at-loop .loop .i) 0)
+            (getD-has (start .args .sources .now) (at-loop .loop .i) (at-loop-test .loop-test .taken))),
+        subst T
+            (sym (ap (λ (q : ℕ → Bool). q (getD (start .args .sources .now) (at-loop .loop .i) 0)) (at-insert-below .insert-below .ensures)))
+            (lt→ltb (getD (start .args .sources .now) (at-loop .loop .i) 0) (start .args .n)
+            ((start .pre .1) (getD (start .args .sources .now) (at-loop .loop .i) 0)
+            (getD-has (start .args .sources .now) (at-loop .loop .i) (at-loop-test .loop-test .taken)))),
+        length-take-le (start .args .n)
+            (at-loop .loop .row) (omega (arith, (start .pre .0 .size), (at-loop .loop .inv .1))),
+      ),
+    )
 
 array-share-prefix-row : tie.Need-array-share-prefix-row Inv-loop μ-loop
-array-share-prefix-row c = omega (arith, (c .before .before .before .before .before .before .before .before .before .before .before .before .before .pre .0 .size), (row-kept ((c .before .before .before .before .before .before .before .before .before .before .before .before .before .args .n)) ((c .before .before .before .before .before .before .loop .row)) ((c .before .search .last .1 .1 .1 .1 .1 .0)) ((c .before .before .before .before .before .before .before .before .before .before .before .before .before .pre .0 .size)) ((c .before .before .before .before .before .before .loop .inv .1)) (((c .before .search .kept .1 .1 .1 .1 .1 .0)) ∙ length-take-le ((c .before .before .before .before .before .before .before .before .before .before .before .before .before .args .n)) ((c .before .before .before .before .before .before .loop .row)) (omega (arith, (c .before .before .before .before .before .before .before .before .before .before .before .before .before .pre .0 .size), (c .before .before .before .before .before .before .loop .inv .1))))))
+array-share-prefix-row c =
+    let start = c .before .before .before .before .before .before .before .before .before .before .before .before .before in
+    let at-loop = c .before .before .before .before .before .before in
+    let at-search = c .before in
+    omega (
+      arith,
+      (start .pre .0 .size),
+      (row-kept (start .args .n) (at-loop .loop .row) (at-search .search .last .1 .1 .1 .1 .1 .0)
+          (start .pre .0 .size) (at-loop .loop .inv .1)
+          ((at-search .search .kept .1 .1 .1 .1 .1 .0) ∙ length-take-le (start .args .n) (at-loop .loop .row)
+          (omega (arith, (start .pre .0 .size), (at-loop .loop .inv .1))))),
+    )
 
 slice-aggregate-row-depth : tie.Need-slice-aggregate-row-depth Inv-loop μ-loop
-slice-aggregate-row-depth c = sym (ap length (row-searched ((c .before .before .before .before .before .before .before .before .before .before .before .before .before .before .args .n)) (neighboursOf ((c .before .before .before .before .before .before .before .before .before .before .before .before .before .before .args .starts .now)) ((c .before .before .before .before .before .before .before .before .before .before .before .before .before .before .args .neighbours .now))) (member ((c .before .before .before .before .before .before .before .before .before .insert-below .last .0))) ((c .before .before .before .before .before .before .before .before .before .insert-below .ensures)) (getD ((c .before .before .before .before .before .before .before .before .before .before .before .before .before .before .args .sources .now)) ((c .before .before .before .before .before .before .before .loop .i)) 0) ((c .before .before .before .before .before .before .before .loop .row)) ((c .before .before .search .last .1 .1 .1 .1 .1 .0)) ((c .before .before .search .ensures))) ∙ length-row ((fewest (linked ((c .before .before .before .before .before .before .before .before .before .before .before .before .before .before .args .n)) (neighboursOf ((c .before .before .before .before .before .before .before .before .before .before .before .before .before .before .args .starts .now)) ((c .before .before .before .before .before .before .before .before .before .before .before .before .before .before .args .neighbours .now)))) ((c .before .before .before .before .before .before .before .before .before .before .before .before .before .before .args .n))) (getD ((c .before .before .before .before .before .before .before .before .before .before .before .before .before .before .args .sources .now)) ((c .before .before .before .before .before .before .before .loop .i)) 0)) ((c .before .before .before .before .before .before .before .before .before .before .before .before .before .before .args .n)))
+slice-aggregate-row-depth c =
+    let start = c .before .before .before .before .before .before .before .before .before .before .before .before .before .before in
+    let at-insert-below = c .before .before .before .before .before .before .before .before .before in
+    let at-loop = c .before .before .before .before .before .before .before in
+    let at-search = c .before .before in
+    sym (ap length (row-searched (start .args .n) (neighboursOf (start .args .starts .now) (start .args .neighbours .now))
+    (member (at-insert-below .insert-below .last .0)) (at-insert-below .insert-below .ensures)
+    (getD (start .args .sources .now) (at-loop .loop .i) 0) (at-loop .loop .row) (at-search .search .last .1 .1 .1 .1 .1 .0)
+    (at-search .search .ensures)) ∙ length-row
+    ((fewest (linked (start .args .n) (neighboursOf (start .args .starts .now) (start .args .neighbours .now))) (start .args .n))
+    (getD (start .args .sources .now) (at-loop .loop .i) 0)) (start .args .n))
 
 row-depth-requires : tie.Need-row-depth-requires Inv-loop μ-loop
 row-depth-requires c κs = search needs
@@ -68,7 +111,28 @@ greater-requires : tie.Need-greater-requires Inv-loop μ-loop
 greater-requires c κs = search needs
 
 returns : tie.Need-returns Inv-loop μ-loop
-returns c = search-none ((c .before .before .before .before .before .before .before .before .before .before .before .before .before .before .before .before .before .args .n)) (neighboursOf ((c .before .before .before .before .before .before .before .before .before .before .before .before .before .before .before .before .before .args .starts .now)) ((c .before .before .before .before .before .before .before .before .before .before .before .before .before .before .before .before .before .args .neighbours .now))) ((c .before .before .before .before .before .before .before .before .before .before .before .before .before .before .before .before .before .args .sources .now)) ((c .before .before .before .before .before .before .before .before .before .before .loop .i) + 1) ((c .before .greater .result)) ((c .before .before .before .before .before .before .before .before .before .before .before .before .before .before .before .before .before .pre .0 .size)) ((c .if1 .taken)) (subst (λ (m : ℕ). max m (greatest (rowsOf ((c .before .before .before .before .before .before .before .before .before .before .before .before .before .before .before .before .before .args .n)) (fewest (linked ((c .before .before .before .before .before .before .before .before .before .before .before .before .before .before .before .before .before .args .n)) (neighboursOf ((c .before .before .before .before .before .before .before .before .before .before .before .before .before .before .before .before .before .args .starts .now)) ((c .before .before .before .before .before .before .before .before .before .before .before .before .before .before .before .before .before .args .neighbours .now)))) ((c .before .before .before .before .before .before .before .before .before .before .before .before .before .before .before .before .before .args .n))) (drop ((c .before .before .before .before .before .before .before .before .before .before .loop .i) + 1) ((c .before .before .before .before .before .before .before .before .before .before .before .before .before .before .before .before .before .args .sources .now))))) ≡ greatest (rowsOf ((c .before .before .before .before .before .before .before .before .before .before .before .before .before .before .before .before .before .args .n)) (fewest (linked ((c .before .before .before .before .before .before .before .before .before .before .before .before .before .before .before .before .before .args .n)) (neighboursOf ((c .before .before .before .before .before .before .before .before .before .before .before .before .before .before .before .before .before .args .starts .now)) ((c .before .before .before .before .before .before .before .before .before .before .before .before .before .before .before .before .before .args .neighbours .now)))) ((c .before .before .before .before .before .before .before .before .before .before .before .before .before .before .before .before .before .args .n))) ((c .before .before .before .before .before .before .before .before .before .before .before .before .before .before .before .before .before .args .sources .now)))) (sym (((c .before .greater .ensures)) ∙ ap (max ((c .before .before .before .before .before .before .before .before .before .before .loop .most))) (((c .before .before .row-depth .ensures)) ∙ ap greatest (row-searched ((c .before .before .before .before .before .before .before .before .before .before .before .before .before .before .before .before .before .args .n)) (neighboursOf ((c .before .before .before .before .before .before .before .before .before .before .before .before .before .before .before .before .before .args .starts .now)) ((c .before .before .before .before .before .before .before .before .before .before .before .before .before .before .before .before .before .args .neighbours .now))) (member ((c .before .before .before .before .before .before .before .before .before .before .before .before .insert-below .last .0))) ((c .before .before .before .before .before .before .before .before .before .before .before .before .insert-below .ensures)) (getD ((c .before .before .before .before .before .before .before .before .before .before .before .before .before .before .before .before .before .args .sources .now)) ((c .before .before .before .before .before .before .before .before .before .before .loop .i)) 0) ((c .before .before .before .before .before .before .before .before .before .before .loop .row)) ((c .before .before .before .before .before .search .last .1 .1 .1 .1 .1 .0)) ((c .before .before .before .before .before .search .ensures)))))) (search-turn ((c .before .before .before .before .before .before .before .before .before .before .before .before .before .before .before .before .before .args .n)) (fewest (linked ((c .before .before .before .before .before .before .before .before .before .before .before .before .before .before .before .before .before .args .n)) (neighboursOf ((c .before .before .before .before .before .before .before .before .before .before .before .before .before .before .before .before .before .args .starts .now)) ((c .before .before .before .before .before .before .before .before .before .before .before .before .before .before .before .before .before .args .neighbours .now)))) ((c .before .before .before .before .before .before .before .before .before .before .before .before .before .before .before .before .before .args .n))) ((c .before .before .before .before .before .before .before .before .before .before .before .before .before .before .before .before .before .args .sources .now)) ((c .before .before .before .before .before .before .before .before .before .before .loop .i)) ((c .before .before .before .before .before .before .before .before .before .before .loop .most)) ((c .before .before .before .before .before .before .before .before .before .loop-test .taken)) ((c .before .before .before .before .before .before .before .before .before .before .loop .inv .2))))
+returns c =
+    let start = c .before .before .before .before .before .before .before .before .before .before .before .before .before .before .before .before .before in
+    let at-insert-below = c .before .before .before .before .before .before .before .before .before .before .before .before in
+    let at-loop = c .before .before .before .before .before .before .before .before .before .before in
+    let at-loop-test = c .before .before .before .before .before .before .before .before .before in
+    let at-search = c .before .before .before .before .before in
+    let at-greater = c .before in
+    search-none (start .args .n) (neighboursOf (start .args .starts .now) (start .args .neighbours .now)) (start .args .sources .now)
+    ((at-loop .loop .i) + 1) (at-greater .greater .result) (start .pre .0 .size) (c .if1 .taken)
+    (subst (λ (m : ℕ). max m (greatest (rowsOf (start .args .n)
+    (fewest (linked (start .args .n) (neighboursOf (start .args .starts .now) (start .args .neighbours .now))) (start .args .n))
+    (drop ((at-loop .loop .i) + 1) (start .args .sources .now)))) ≡ greatest
+    (rowsOf (start .args .n) (fewest (linked (start .args .n) (neighboursOf (start .args .starts .now) (start .args .neighbours .now)))
+    (start .args .n)) (start .args .sources .now)))
+    (sym ((at-greater .greater .ensures) ∙ ap (max (at-loop .loop .most))
+    ((c .before .before .row-depth .ensures) ∙ ap greatest
+    (row-searched (start .args .n) (neighboursOf (start .args .starts .now) (start .args .neighbours .now))
+    (member (at-insert-below .insert-below .last .0)) (at-insert-below .insert-below .ensures)
+    (getD (start .args .sources .now) (at-loop .loop .i) 0) (at-loop .loop .row) (at-search .search .last .1 .1 .1 .1 .1 .0)
+    (at-search .search .ensures))))) (search-turn (start .args .n)
+    (fewest (linked (start .args .n) (neighboursOf (start .args .starts .now) (start .args .neighbours .now))) (start .args .n))
+    (start .args .sources .now) (at-loop .loop .i) (at-loop .loop .most) (at-loop-test .loop-test .taken) (at-loop .loop .inv .2)))
 
 add-i : tie.Need-add-i Inv-loop μ-loop
 add-i c = search needs
@@ -77,10 +141,37 @@ loop-less : tie.Need-loop-less Inv-loop μ-loop
 loop-less c = search needs
 
 loop-again : tie.Need-loop-again Inv-loop μ-loop
-loop-again c = (omega arith, (row-kept ((c .before .before .before .before .before .before .before .before .before .before .before .before .before .before .before .before .before .args .n)) ((c .before .before .before .before .before .before .before .before .before .before .loop .row)) ((c .before .before .before .before .before .search .last .1 .1 .1 .1 .1 .0)) ((c .before .before .before .before .before .before .before .before .before .before .before .before .before .before .before .before .before .pre .0 .size)) ((c .before .before .before .before .before .before .before .before .before .before .loop .inv .1)) (((c .before .before .before .before .before .search .kept .1 .1 .1 .1 .1 .0)) ∙ length-take-le ((c .before .before .before .before .before .before .before .before .before .before .before .before .before .before .before .before .before .args .n)) ((c .before .before .before .before .before .before .before .before .before .before .loop .row)) (omega (arith, (c .before .before .before .before .before .before .before .before .before .before .before .before .before .before .before .before .before .pre .0 .size), (c .before .before .before .before .before .before .before .before .before .before .loop .inv .1))))), (subst (λ (m : ℕ). max m (greatest (rowsOf ((c .before .before .before .before .before .before .before .before .before .before .before .before .before .before .before .before .before .args .n)) (fewest (linked ((c .before .before .before .before .before .before .before .before .before .before .before .before .before .before .before .before .before .args .n)) (neighboursOf ((c .before .before .before .before .before .before .before .before .before .before .before .before .before .before .before .before .before .args .starts .now)) ((c .before .before .before .before .before .before .before .before .before .before .before .before .before .before .before .before .before .args .neighbours .now)))) ((c .before .before .before .before .before .before .before .before .before .before .before .before .before .before .before .before .before .args .n))) (drop ((c .before .before .before .before .before .before .before .before .before .before .loop .i) + 1) ((c .before .before .before .before .before .before .before .before .before .before .before .before .before .before .before .before .before .args .sources .now))))) ≡ greatest (rowsOf ((c .before .before .before .before .before .before .before .before .before .before .before .before .before .before .before .before .before .args .n)) (fewest (linked ((c .before .before .before .before .before .before .before .before .before .before .before .before .before .before .before .before .before .args .n)) (neighboursOf ((c .before .before .before .before .before .before .before .before .before .before .before .before .before .before .before .before .before .args .starts .now)) ((c .before .before .before .before .before .before .before .before .before .before .before .before .before .before .before .before .before .args .neighbours .now)))) ((c .before .before .before .before .before .before .before .before .before .before .before .before .before .before .before .before .before .args .n))) ((c .before .before .before .before .before .before .before .before .before .before .before .before .before .before .before .before .before .args .sources .now)))) (sym (((c .before .greater .ensures)) ∙ ap (max ((c .before .before .before .before .before .before .before .before .before .before .loop .most))) (((c .before .before .row-depth .ensures)) ∙ ap greatest (row-searched ((c .before .before .before .before .before .before .before .before .before .before .before .before .before .before .before .before .before .args .n)) (neighboursOf ((c .before .before .before .before .before .before .before .before .before .before .before .before .before .before .before .before .before .args .starts .now)) ((c .before .before .before .before .before .before .before .before .before .before .before .before .before .before .before .before .before .args .neighbours .now))) (member ((c .before .before .before .before .before .before .before .before .before .before .before .before .insert-below .last .0))) ((c .before .before .before .before .before .before .before .before .before .before .before .before .insert-below .ensures)) (getD ((c .before .before .before .before .before .before .before .before .before .before .before .before .before .before .before .before .before .args .sources .now)) ((c .before .before .before .before .before .before .before .before .before .before .loop .i)) 0) ((c .before .before .before .before .before .before .before .before .before .before .loop .row)) ((c .before .before .before .before .before .search .last .1 .1 .1 .1 .1 .0)) ((c .before .before .before .before .before .search .ensures)))))) (search-turn ((c .before .before .before .before .before .before .before .before .before .before .before .before .before .before .before .before .before .args .n)) (fewest (linked ((c .before .before .before .before .before .before .before .before .before .before .before .before .before .before .before .before .before .args .n)) (neighboursOf ((c .before .before .before .before .before .before .before .before .before .before .before .before .before .before .before .before .before .args .starts .now)) ((c .before .before .before .before .before .before .before .before .before .before .before .before .before .before .before .before .before .args .neighbours .now)))) ((c .before .before .before .before .before .before .before .before .before .before .before .before .before .before .before .before .before .args .n))) ((c .before .before .before .before .before .before .before .before .before .before .before .before .before .before .before .before .before .args .sources .now)) ((c .before .before .before .before .before .before .before .before .before .before .loop .i)) ((c .before .before .before .before .before .before .before .before .before .before .loop .most)) ((c .before .before .before .before .before .before .before .before .before .loop-test .taken)) ((c .before .before .before .before .before .before .before .before .before .before .loop .inv .2)))))
+loop-again c =
+    let start = c .before .before .before .before .before .before .before .before .before .before .before .before .before .before .before .before .before in
+    let at-insert-below = c .before .before .before .before .before .before .before .before .before .before .before .before in
+    let at-loop = c .before .before .before .before .before .before .before .before .before .before in
+    let at-loop-test = c .before .before .before .before .before .before .before .before .before in
+    let at-search = c .before .before .before .before .before in (
+      omega arith,
+      (row-kept (start .args .n) (at-loop .loop .row) (at-search .search .last .1 .1 .1 .1 .1 .0) (start .pre .0 .size)
+          (at-loop .loop .inv .1) ((at-search .search .kept .1 .1 .1 .1 .1 .0) ∙ length-take-le (start .args .n) (at-loop .loop .row)
+          (omega (arith, (start .pre .0 .size), (at-loop .loop .inv .1))))),
+      (subst (λ (m : ℕ). max m (greatest (rowsOf (start .args .n)
+          (fewest (linked (start .args .n) (neighboursOf (start .args .starts .now) (start .args .neighbours .now))) (start .args .n))
+          (drop ((at-loop .loop .i) + 1) (start .args .sources .now)))) ≡ greatest
+          (rowsOf (start .args .n) (fewest (linked (start .args .n) (neighboursOf (start .args .starts .now) (start .args .neighbours .now)))
+          (start .args .n)) (start .args .sources .now)))
+          (sym ((c .before .greater .ensures) ∙ ap (max (at-loop .loop .most))
+          ((c .before .before .row-depth .ensures) ∙ ap greatest
+          (row-searched (start .args .n) (neighboursOf (start .args .starts .now) (start .args .neighbours .now))
+          (member (at-insert-below .insert-below .last .0)) (at-insert-below .insert-below .ensures)
+          (getD (start .args .sources .now) (at-loop .loop .i) 0) (at-loop .loop .row) (at-search .search .last .1 .1 .1 .1 .1 .0)
+          (at-search .search .ensures))))) (search-turn (start .args .n)
+          (fewest (linked (start .args .n) (neighboursOf (start .args .starts .now) (start .args .neighbours .now))) (start .args .n))
+          (start .args .sources .now) (at-loop .loop .i) (at-loop .loop .most) (at-loop-test .loop-test .taken) (at-loop .loop .inv .2))),
+    )
 
 returns-2 : tie.Need-returns-2 Inv-loop μ-loop
-returns-2 c = search-end ((c .before .before .before .before .before .before .before .before .args .n)) (fewest (linked ((c .before .before .before .before .before .before .before .before .args .n)) (neighboursOf ((c .before .before .before .before .before .before .before .before .args .starts .now)) ((c .before .before .before .before .before .before .before .before .args .neighbours .now)))) ((c .before .before .before .before .before .before .before .before .args .n))) ((c .before .before .before .before .before .before .before .before .args .sources .now)) ((c .before .loop .i)) ((c .before .loop .most)) ((c .loop-test .left)) ((c .before .loop .inv .2))
+returns-2 c =
+    let start = c .before .before .before .before .before .before .before .before in
+    let at-loop = c .before in
+    search-end (start .args .n) (fewest (linked (start .args .n) (neighboursOf (start .args .starts .now) (start .args .neighbours .now)))
+    (start .args .n)) (start .args .sources .now) (at-loop .loop .i) (at-loop .loop .most) (c .loop-test .left) (at-loop .loop .inv .2)
 
 pub search-depth-spec : {M : Type 1} → statement M
 search-depth-spec =

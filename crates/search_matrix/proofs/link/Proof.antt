@@ -13,7 +13,10 @@ contains-requires : tie.Need-contains-requires
 contains-requires c κs = search needs
 
 returns : tie.Need-returns
-returns c = link-not (edgesIn (c .before .before .before .before .args .rows .now)) (member (c .before .before .before .before .args .allowed .now)) (c .before .before .before .before .args .v) (c .before .before .before .before .args .w) (sym (c .before .contains .ensures) ∙ not-true _ (c .if1 .taken))
+returns c =
+    let start = c .before .before .before .before in
+    link-not (edgesIn (start .args .rows .now)) (member (start .args .allowed .now)) (start .args .v) (start .args .w)
+    (sym (c .before .contains .ensures) ∙ not-true _ (c .if1 .taken))
 
 mul-insert : tie.Need-mul-insert
 mul-insert c = search needs
@@ -28,7 +31,11 @@ same-length : tie.Need-same-length
 same-length c = search needs
 
 returns-2 : tie.Need-returns-2
-returns-2 c = link-put (c .before .before .before .before .before .before .before .before .args .rows .now) _ (member (c .before .before .before .before .before .before .before .before .args .allowed .now)) (c .before .before .before .before .before .before .before .before .args .v) (c .before .before .before .before .before .before .before .before .args .w) (c .before .before .before .before .before .before .before .before .pre .1) (sym (c .before .before .before .before .before .contains .ensures) ∙ not-false _ (c .before .before .before .before .if1 .left)) (c .before .before .insert .ensures)
+returns-2 c =
+    let start = c .before .before .before .before .before .before .before .before in
+    link-put (start .args .rows .now) _ (member (start .args .allowed .now)) (start .args .v) (start .args .w) (start .pre .1)
+    (sym (c .before .before .before .before .before .contains .ensures) ∙ not-false _ (c .before .before .before .before .if1 .left))
+    (c .before .before .insert .ensures)
 
 pub link-spec : {M : Type 1} → statement M
 link-spec =

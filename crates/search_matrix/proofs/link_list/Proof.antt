@@ -19,7 +19,9 @@ abbrev μ-loop : tie.MeasureT-loop
 μ-loop v list allowed rows₀ i₀ rows i = length list - i
 
 loop-holds : tie.Need-loop-holds Inv-loop μ-loop
-loop-holds c = linking-none (c .before .before .before .args .v) (c .before .before .before .args .list .now) (member (c .before .before .before .args .allowed .now)) (c .before .before .before .args .rows .now) (c .before .before .before .pre .2)
+loop-holds c =
+    let start = c .before .before .before in
+    linking-none (start .args .v) (start .args .list .now) (member (start .args .allowed .now)) (start .args .rows .now) (start .pre .2)
 
 mul-link : tie.Need-mul-link Inv-loop μ-loop
 mul-link c = search needs
@@ -28,10 +30,17 @@ shared-slice-read-link : tie.Need-shared-slice-read-link Inv-loop μ-loop
 shared-slice-read-link c = search needs
 
 cast-link : tie.Need-cast-link Inv-loop μ-loop
-cast-link c = omega (arith, ((c .shared-slice-known3 .given)) (c .before .before .loop .i))
+cast-link c = omega (arith, (c .shared-slice-known3 .given) (c .before .before .loop .i))
 
 link-requires : tie.Need-link-requires Inv-loop μ-loop
-link-requires c κs = ((c .before .before .before .before .before .before .before .pre .0), (c .before .before .before .before .before .before .before .pre .3) _ (getD-has (c .before .before .before .before .before .before .before .args .list .now) (c .before .before .before .loop .i) (c .before .before .loop-test .taken)), (c .before .before .before .before .before .before .before .pre .1), ((c .before .before .before .loop .inv)) .long)
+link-requires c κs =
+    let start = c .before .before .before .before .before .before .before in
+    let at-loop = c .before .before .before in (
+      (start .pre .0),
+      (start .pre .3) _ (getD-has (start .args .list .now) (at-loop .loop .i) (c .before .before .loop-test .taken)),
+      (start .pre .1),
+      (at-loop .loop .inv) .long,
+    )
 
 add-i : tie.Need-add-i Inv-loop μ-loop
 add-i c = search needs
@@ -40,13 +49,22 @@ loop-less : tie.Need-loop-less Inv-loop μ-loop
 loop-less c = search needs
 
 loop-again : tie.Need-loop-again Inv-loop μ-loop
-loop-again c = linking-more (c .before .before .before .before .before .before .before .before .before .before .args .v) (c .before .before .before .before .before .before .before .before .before .before .args .list .now) (member (c .before .before .before .before .before .before .before .before .before .before .args .allowed .now)) (c .before .before .before .before .before .before .before .before .before .before .args .rows .now) _ _ (c .before .before .before .before .before .before .loop .inv) _ (c .before .before .before .before .before .loop-test .taken) ((c .before .before .link .kept .1 .1 .1 .0)) (c .before .before .link .ensures)
+loop-again c =
+    let start = c .before .before .before .before .before .before .before .before .before .before in
+    let at-loop = c .before .before .before .before .before .before in
+    let at-link = c .before .before in
+    linking-more (start .args .v) (start .args .list .now) (member (start .args .allowed .now)) (start .args .rows .now) _ _
+    (at-loop .loop .inv) _ (c .before .before .before .before .before .loop-test .taken) (at-link .link .kept .1 .1 .1 .0)
+    (at-link .link .ensures)
 
 same-length : tie.Need-same-length Inv-loop μ-loop
-same-length c = ((c .before .loop .inv)) .long ∙ sym (c .before .before .before .before .before .pre .2)
+same-length c = (c .before .loop .inv) .long ∙ sym (c .before .before .before .before .before .pre .2)
 
 returns : tie.Need-returns Inv-loop μ-loop
-returns c = linking-all (c .before .before .before .before .before .args .v) (c .before .before .before .before .before .args .list .now) (member (c .before .before .before .before .before .args .allowed .now)) (c .before .before .before .before .before .args .rows .now) _ _ (c .before .loop .inv) (c .loop-test .left)
+returns c =
+    let start = c .before .before .before .before .before in
+    linking-all (start .args .v) (start .args .list .now) (member (start .args .allowed .now)) (start .args .rows .now) _ _
+    (c .before .loop .inv) (c .loop-test .left)
 
 pub link-list-spec : {M : Type 1} → statement M
 link-list-spec =

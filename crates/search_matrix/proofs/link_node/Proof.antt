@@ -19,19 +19,40 @@ contains-requires : tie.Need-contains-requires
 contains-requires c κs = search needs
 
 returns : tie.Need-returns
-returns c = node-not (c .before .before .before .before .before .before .args .n) (neighboursOf (c .before .before .before .before .before .before .args .starts .now) (c .before .before .before .before .before .before .args .neighbours .now)) (c .before .before .before .before .before .before .pre .0 .lists .graph) (member (c .before .before .before .before .before .before .args .allowed .now)) (c .before .before .before .before .before .before .args .v) (edgesIn (c .before .before .before .before .before .before .args .rows .now)) (sym (c .before .contains .ensures) ∙ not-true _ (c .if1 .taken))
+returns c =
+    let start = c .before .before .before .before .before .before in
+    node-not (start .args .n) (neighboursOf (start .args .starts .now) (start .args .neighbours .now)) (start .pre .0 .lists .graph)
+    (member (start .args .allowed .now)) (start .args .v) (edgesIn (start .args .rows .now))
+    (sym (c .before .contains .ensures) ∙ not-true _ (c .if1 .taken))
 
 own-requires : tie.Need-own-requires
 own-requires c κs = search needs
 
 link-list-requires : tie.Need-link-list-requires
-link-list-requires c κs = (omega (arith, (c .before .before .before .before .before .before .before .before .pre .2), (c .before .before .before .before .before .before .before .before .pre .0 .size)), (c .before .before .before .before .before .before .before .before .pre .1), (c .before .before .before .before .before .before .before .before .pre .3), λ x t. omega (arith, (c .before .before .before .before .before .before .before .before .pre .0 .lists .graph .below) (c .before .before .before .before .before .before .before .before .args .v) x (c .before .before .before .before .before .before .before .before .pre .2) (subst (λ (l : List ℕ). T (has x l)) (c .before .own .ensures) t), (c .before .before .before .before .before .before .before .before .pre .0 .size)))
+link-list-requires c κs =
+    let start = c .before .before .before .before .before .before .before .before in (
+      omega (arith, (start .pre .2), (start .pre .0 .size)),
+      (start .pre .1),
+      (start .pre .3),
+      λ x t. omega (
+        arith,
+        (start .pre .0 .lists .graph .below) (start .args .v) x (start .pre .2)
+            (subst (λ (l : List ℕ). T (has x l)) (c .before .own .ensures) t),
+        (start .pre .0 .size),
+      ),
+    )
 
 same-length : tie.Need-same-length
 same-length c = search needs
 
 returns-2 : tie.Need-returns-2
-returns-2 c = node-put (c .before .before .before .before .before .before .before .before .before .before .before .args .n) (neighboursOf (c .before .before .before .before .before .before .before .before .before .before .before .args .starts .now) (c .before .before .before .before .before .before .before .before .before .before .before .args .neighbours .now)) (c .before .before .before .before .before .before .before .before .before .before .before .pre .0 .lists .graph) (member (c .before .before .before .before .before .before .before .before .before .before .before .args .allowed .now)) (c .before .before .before .before .before .before .before .before .before .before .before .args .v) (edgesIn (c .before .before .before .before .before .before .before .before .before .before .before .args .rows .now)) _ _ (c .before .before .before .before .before .before .before .before .before .before .before .pre .2) (sym (c .before .before .before .before .before .before .contains .ensures) ∙ not-false _ (c .before .before .before .before .before .if1 .left)) (c .before .before .before .before .own .ensures) (c .before .before .link-list .ensures)
+returns-2 c =
+    let start = c .before .before .before .before .before .before .before .before .before .before .before in
+    let at-contains = c .before .before .before .before .before .before in
+    node-put (start .args .n) (neighboursOf (start .args .starts .now) (start .args .neighbours .now)) (start .pre .0 .lists .graph)
+    (member (start .args .allowed .now)) (start .args .v) (edgesIn (start .args .rows .now)) _ _ (start .pre .2)
+    (sym (at-contains .contains .ensures) ∙ not-false _ (c .before .before .before .before .before .if1 .left))
+    (c .before .before .before .before .own .ensures) (c .before .before .link-list .ensures)
 
 pub link-node-spec : {M : Type 1} → statement M
 link-node-spec =

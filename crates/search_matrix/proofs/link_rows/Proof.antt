@@ -21,25 +21,53 @@ abbrev μ-loop : tie.MeasureT-loop
 μ-loop n starts neighbours allowed rows₀ v₀ rows v = n - v
 
 loop-holds : tie.Need-loop-holds Inv-loop μ-loop
-loop-holds c = (omega arith, (ap length (c .before .before .before .before .pre .2) ∙ length-replicate {A = ℕ} 16384 0), rows-none (between (member (c .before .before .before .before .args .allowed .now)) (linked (c .before .before .before .before .args .n) (neighboursOf (c .before .before .before .before .args .starts .now) (c .before .before .before .before .args .neighbours .now)))) (c .before .before .before .before .args .rows .now) (c .before .before .before .before .pre .2))
+loop-holds c =
+    let start = c .before .before .before .before in (
+      omega arith,
+      (ap length (start .pre .2) ∙ length-replicate {A = ℕ} 16384 0),
+      rows-none
+          (between (member (start .args .allowed .now))
+          (linked (start .args .n) (neighboursOf (start .args .starts .now) (start .args .neighbours .now)))) (start .args .rows .now)
+          (start .pre .2),
+    )
 
 link-node-requires : tie.Need-link-node-requires Inv-loop μ-loop
-link-node-requires c κs = ((c .before .before .before .before .before .before .before .pre .0), (c .before .before .before .before .before .before .before .pre .1), (c .before .loop-test .taken), (c .before .before .loop .inv .1))
+link-node-requires c κs =
+    let start = c .before .before .before .before .before .before .before in
+    ((start .pre .0), (start .pre .1), (c .before .loop-test .taken), (c .before .before .loop .inv .1))
 
 add-v : tie.Need-add-v Inv-loop μ-loop
-add-v c = omega (arith, (c .before .before .before .before .loop-test .taken), (c .before .before .before .before .before .before .before .before .before .before .pre .0 .size))
+add-v c =
+    let start = c .before .before .before .before .before .before .before .before .before .before in
+    omega (arith, (c .before .before .before .before .loop-test .taken), (start .pre .0 .size))
 
 loop-less : tie.Need-loop-less Inv-loop μ-loop
 loop-less c = omega (arith, (c .before .before .before .before .loop-test .taken))
 
 loop-again : tie.Need-loop-again Inv-loop μ-loop
-loop-again c = (omega (arith, (c .before .before .before .before .loop-test .taken)), (c .before .before .link-node .kept .1 .1 .1 .1 .1 .0) ∙ (c .before .before .before .before .before .loop .inv .1), rows-next (c .before .before .before .before .before .before .before .before .before .before .args .n) (neighboursOf (c .before .before .before .before .before .before .before .before .before .before .args .starts .now) (c .before .before .before .before .before .before .before .before .before .before .args .neighbours .now)) (c .before .before .before .before .before .before .before .before .before .before .pre .0 .lists .graph) (member (c .before .before .before .before .before .before .before .before .before .before .args .allowed .now)) (c .before .before .before .before .before .loop .v) _ _ (c .before .before .before .before .before .loop .inv .2) (c .before .before .link-node .ensures))
+loop-again c =
+    let start = c .before .before .before .before .before .before .before .before .before .before in
+    let at-loop = c .before .before .before .before .before in
+    let at-link-node = c .before .before in (
+      omega (arith, (c .before .before .before .before .loop-test .taken)),
+      (at-link-node .link-node .kept .1 .1 .1 .1 .1 .0) ∙
+          (at-loop .loop .inv .1),
+      rows-next (start .args .n) (neighboursOf (start .args .starts .now) (start .args .neighbours .now))
+          (start .pre .0 .lists .graph) (member (start .args .allowed .now)) (at-loop .loop .v) _ _ (at-loop .loop .inv .2)
+          (at-link-node .link-node .ensures),
+    )
 
 same-length : tie.Need-same-length Inv-loop μ-loop
-same-length c = (c .before .loop .inv .1) ∙ sym (ap length (c .before .before .before .before .before .before .pre .2) ∙ length-replicate {A = ℕ} 16384 0)
+same-length c =
+    let start = c .before .before .before .before .before .before in
+    (c .before .loop .inv .1) ∙ sym (ap length (start .pre .2) ∙ length-replicate {A = ℕ} 16384 0)
 
 returns : tie.Need-returns Inv-loop μ-loop
-returns c = rows-all (c .before .before .before .before .before .before .args .n) (c .before .loop .v) (neighboursOf (c .before .before .before .before .before .before .args .starts .now) (c .before .before .before .before .before .before .args .neighbours .now)) (member (c .before .before .before .before .before .before .args .allowed .now)) _ (omega (arith, (c .before .loop .inv .0), (c .loop-test .left))) (c .before .loop .inv .2)
+returns c =
+    let start = c .before .before .before .before .before .before in
+    let at-loop = c .before in
+    rows-all (start .args .n) (at-loop .loop .v) (neighboursOf (start .args .starts .now) (start .args .neighbours .now))
+    (member (start .args .allowed .now)) _ (omega (arith, (at-loop .loop .inv .0), (c .loop-test .left))) (at-loop .loop .inv .2)
 
 pub link-rows-spec : {M : Type 1} → statement M
 link-rows-spec =

@@ -12,7 +12,9 @@ smallest-requires : tie.Need-smallest-requires
 smallest-requires c κs = search needs
 
 returns : tie.Need-returns
-returns c = inr (refl, past-smallest _ _ (omega (arith, (c .before .before .before .pre .0), (c .before .before .before .pre .1))) _ (c .before .smallest .ensures) (c .if1 .taken))
+returns c =
+    let start = c .before .before .before in
+    inr (refl, past-smallest _ _ (omega (arith, (start .pre .0), (start .pre .1))) _ (c .before .smallest .ensures) (c .if1 .taken))
 
 add-result : tie.Need-add-result
 add-result c = search needs

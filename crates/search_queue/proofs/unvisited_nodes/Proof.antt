@@ -34,13 +34,33 @@ slice-aggregate-subtract-2 : tie.Need-slice-aggregate-subtract-2
 slice-aggregate-subtract-2 c = search needs
 
 subtract-requires-2 : tie.Need-subtract-requires-2
-subtract-requires-2 c κs = omega (arith, ap length (c .before .before .before .before .before .before .before .before .before .before .before .before .before .before .before .before .before .pre .3), (c .before .before .before .before .insert-below2 .kept .0), (c .before .before .before .before .before .before .before .insert .kept .0), (c .before .before .before .before .before .before .before .before .before .before .subtract .kept .0), (c .before .before .before .before .before .before .before .before .before .before .before .before .before .insert-below .kept .0))
+subtract-requires-2 c κs =
+    let start = c .before .before .before .before .before .before .before .before .before .before .before .before .before .before .before .before .before in
+    let at-insert-below = c .before .before .before .before .before .before .before .before .before .before .before .before .before in
+    let at-subtract = c .before .before .before .before .before .before .before .before .before .before in
+    let at-insert = c .before .before .before .before .before .before .before in
+    omega (
+      arith,
+      ap length (start .pre .3),
+      (c .before .before .before .before .insert-below2 .kept .0),
+      (at-insert .insert .kept .0),
+      (at-subtract .subtract .kept .0),
+      (at-insert-below .insert-below .kept .0),
+    )
 
 same-length : tie.Need-same-length
 same-length c = search needs
 
 returns : tie.Need-returns
-returns c = unvisited-start (member (c .before .before .before .before .before .before .before .before .before .before .before .before .before .before .before .before .before .before .before .before .args .allowed .now)) (c .before .before .before .before .before .before .before .before .before .before .before .before .before .before .before .before .before .before .before .before .args .n) (c .before .before .before .before .before .before .before .before .before .before .before .before .before .before .before .before .before .before .before .before .args .source) (c .before .before .before .before .before .before .before .before .before .before .before .before .before .before .before .before .insert-below .ensures) (c .before .before .before .before .before .before .before .before .before .before .before .before .before .subtract .ensures) (c .before .before .before .before .before .before .before .before .before .before .insert .ensures) (c .before .before .before .before .before .before .before .insert-below2 .ensures) (c .before .before .subtract2 .ensures) (c .before .before .before .before .before .before .before .before .before .before .before .before .before .before .before .before .before .before .before .before .pre .2)
+returns c =
+    let start = c .before .before .before .before .before .before .before .before .before .before .before .before .before .before .before .before .before .before .before .before in
+    let at-insert-below = c .before .before .before .before .before .before .before .before .before .before .before .before .before .before .before .before in
+    let at-subtract = c .before .before .before .before .before .before .before .before .before .before .before .before .before in
+    let at-insert = c .before .before .before .before .before .before .before .before .before .before in
+    let at-insert-below2 = c .before .before .before .before .before .before .before in
+    unvisited-start (member (start .args .allowed .now)) (start .args .n) (start .args .source) (at-insert-below .insert-below .ensures)
+    (at-subtract .subtract .ensures) (at-insert .insert .ensures) (at-insert-below2 .insert-below2 .ensures)
+    (c .before .before .subtract2 .ensures) (start .pre .2)
 
 pub unvisited-nodes-spec : {M : Type 1} → statement M
 unvisited-nodes-spec =

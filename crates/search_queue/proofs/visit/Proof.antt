@@ -16,7 +16,12 @@ same-length : tie.Need-same-length
 same-length c = search needs
 
 returns : tie.Need-returns
-returns c = (sym (visited-not _ _ _ _ (sym ((c .before .before .before .before .before .before .pre .1 .1) (c .before .before .before .before .before .before .args .w) (c .before .before .before .before .before .before .pre .0 .0)) ∙ (sym (c .before .contains .ensures) ∙ not-true _ (c .if1 .taken)))), (c .before .before .before .before .before .before .pre .1 .1))
+returns c =
+    let start = c .before .before .before .before .before .before in (
+      sym (visited-not _ _ _ _ (sym ((start .pre .1 .1) (start .args .w) (start .pre .0 .0)) ∙
+          (sym (c .before .contains .ensures) ∙ not-true _ (c .if1 .taken)))),
+      (start .pre .1 .1),
+    )
 
 remove-requires : tie.Need-remove-requires
 remove-requires c κs = search needs
@@ -34,7 +39,18 @@ mul-queue : tie.Need-mul-queue
 mul-queue c = search needs
 
 element-write-queue : tie.Need-element-write-queue
-element-write-queue c = omega (arith, (c .before .before .before .before .before .before .before .before .before .before .pre .0 .1), (c .before .before .before .before .before .before .before .before .before .before .pre .0 .3), unreached-set (c .before .before .before .before .before .before .before .before .before .before .args .row .now) (c .before .before .before .before .before .before .before .before .before .before .args .w) 0 (c .before .before .before .before .before .before .before .before .before .before .pre .0 .0) (unvisited-new (member (c .before .before .before .before .before .before .before .before .before .before .args .allowed .now)) (member (c .before .before .before .before .before .before .before .before .before .before .args .unvisited .now)) (c .before .before .before .before .before .before .before .before .before .before .args .row .now) (c .before .before .before .before .before .before .before .before .before .before .pre .1 .1) (c .before .before .before .before .before .before .before .before .before .before .args .w) (c .before .before .before .before .before .before .before .before .before .before .pre .0 .0) (sym (c .before .before .before .before .before .contains .ensures) ∙ not-false _ (c .before .before .before .before .if1 .left))) (λ e. omega arith))
+element-write-queue c =
+    let start = c .before .before .before .before .before .before .before .before .before .before in
+    omega (
+      arith,
+      (start .pre .0 .1),
+      (start .pre .0 .3),
+      unreached-set (start .args .row .now) (start .args .w) 0 (start .pre .0 .0)
+          (unvisited-new (member (start .args .allowed .now)) (member (start .args .unvisited .now)) (start .args .row .now)
+          (start .pre .1 .1) (start .args .w) (start .pre .0 .0)
+          (sym (c .before .before .before .before .before .contains .ensures) ∙ not-false _ (c .before .before .before .before .if1 .left)))
+          (λ e. omega arith),
+    )
 
 add-result : tie.Need-add-result
 add-result c = search needs
@@ -46,7 +62,15 @@ same-length-3 : tie.Need-same-length-3
 same-length-3 c = search needs
 
 returns-2 : tie.Need-returns-2
-returns-2 c = (sym (visited-new _ _ _ _ (sym ((c .before .before .before .before .before .before .before .before .before .before .pre .1 .1) (c .before .before .before .before .before .before .before .before .before .before .args .w) (c .before .before .before .before .before .before .before .before .before .before .pre .0 .0)) ∙ (sym (c .before .before .before .before .before .contains .ensures) ∙ not-false _ (c .before .before .before .before .if1 .left)))), unvisited-joined (member (c .before .before .before .before .before .before .before .before .before .before .args .allowed .now)) (member (c .before .before .before .before .before .before .before .before .before .before .args .unvisited .now)) (c .before .before .before .before .before .before .before .before .before .before .args .row .now) (c .before .before .before .before .before .before .before .before .before .before .pre .1 .1) (c .before .before .before .before .before .before .before .before .before .before .args .w) (c .before .before .before .before .before .before .before .before .before .before .pre .0 .0) (c .before .before .before .before .before .before .before .before .before .before .args .d) (c .before .before .before .before .before .before .before .before .before .before .pre .0 .2) _ (c .before .before .remove .ensures))
+returns-2 c =
+    let start = c .before .before .before .before .before .before .before .before .before .before in (
+      sym (visited-new _ _ _ _ (sym ((start .pre .1 .1) (start .args .w) (start .pre .0 .0)) ∙
+          (sym (c .before .before .before .before .before .contains .ensures) ∙ not-false _
+          (c .before .before .before .before .if1 .left)))),
+      unvisited-joined (member (start .args .allowed .now))
+          (member (start .args .unvisited .now)) (start .args .row .now) (start .pre .1 .1) (start .args .w) (start .pre .0 .0)
+          (start .args .d) (start .pre .0 .2) _ (c .before .before .remove .ensures),
+    )
 
 pub visit-spec : {M : Type 1} → statement M
 visit-spec =

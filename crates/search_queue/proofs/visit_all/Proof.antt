@@ -18,7 +18,9 @@ abbrev μ-loop : tie.MeasureT-loop
 μ-loop nodes d allowed unvisited₀ row₀ queue₀ tail end₀ i₀ unvisited row queue end i = length nodes - i
 
 loop-holds : tie.Need-loop-holds Inv-loop μ-loop
-loop-holds c = (visiting-none _ _ _ _ (c .before .before .before .before .pre .1 .0 .1), (c .before .before .before .before .pre .1 .1 .0), (c .before .before .before .before .pre .1 .1 .1))
+loop-holds c =
+    let start = c .before .before .before .before in
+    (visiting-none _ _ _ _ (start .pre .1 .0 .1), (start .pre .1 .1 .0), (start .pre .1 .1 .1))
 
 mul-visit : tie.Need-mul-visit Inv-loop μ-loop
 mul-visit c = search needs
@@ -30,7 +32,18 @@ cast-visit : tie.Need-cast-visit Inv-loop μ-loop
 cast-visit c = omega (arith, (c .shared-slice-known3 .given) (c .before .before .loop .i))
 
 visit-requires : tie.Need-visit-requires Inv-loop μ-loop
-visit-requires c κs = ((next-below _ _ _ _ (c .before .before .before .before .before .before .before .before .before .before .pre .0 .0) (c .before .before .before .before .before .loop .i) _ (c .before .before .before .before .before .loop .inv .0) (c .before .before .before .before .loop-test .taken), omega (arith, (c .before .before .before .before .before .loop .inv .0 .same), (c .before .before .before .before .before .before .before .before .before .before .pre .1 .0 .0)), (c .before .before .before .before .before .before .before .before .before .before .pre .0 .1), (c .before .before .before .before .before .loop .inv .0 .count) ∙ sym (c .before .before .before .before .before .loop .inv .0 .same)), ((c .before .before .before .before .before .loop .inv .1), (c .before .before .before .before .before .loop .inv .2)))
+visit-requires c κs =
+    let start = c .before .before .before .before .before .before .before .before .before .before in
+    let at-loop = c .before .before .before .before .before in (
+      (
+        next-below _ _ _ _ (start .pre .0 .0) (at-loop .loop .i) _ (at-loop .loop .inv .0)
+            (c .before .before .before .before .loop-test .taken),
+        omega (arith, (at-loop .loop .inv .0 .same), (start .pre .1 .0 .0)),
+        (start .pre .0 .1),
+        (at-loop .loop .inv .0 .count) ∙ sym (at-loop .loop .inv .0 .same),
+      ),
+      ((at-loop .loop .inv .1), (at-loop .loop .inv .2)),
+    )
 
 add-i : tie.Need-add-i Inv-loop μ-loop
 add-i c = search needs
@@ -39,16 +52,29 @@ loop-less : tie.Need-loop-less Inv-loop μ-loop
 loop-less c = search needs
 
 loop-again : tie.Need-loop-again Inv-loop μ-loop
-loop-again c = (visiting-next _ _ _ _ (c .before .before .before .before .before .before .before .before .before .before .before .before .before .before .before .pre .0 .0) (c .before .before .before .before .before .before .before .before .before .before .loop .i) _ (c .before .before .before .before .before .before .before .before .before .before .loop .inv .0) (c .before .before .before .before .before .before .before .before .before .before .before .before .before .before .before .pre .0 .1) (c .before .before .before .before .before .before .before .before .before .loop-test .taken) _ (c .before .before .before .before .visit .ensures .0), (c .before .before .before .before .visit .kept .1 .1 .1 .0) ∙ (c .before .before .before .before .before .before .before .before .before .before .loop .inv .1), (c .before .before .before .before .visit .ensures .1))
+loop-again c =
+    let start = c .before .before .before .before .before .before .before .before .before .before .before .before .before .before .before in
+    let at-loop = c .before .before .before .before .before .before .before .before .before .before in
+    let at-loop-test = c .before .before .before .before .before .before .before .before .before in
+    let at-visit = c .before .before .before .before in (
+      visiting-next _ _ _ _ (start .pre .0 .0) (at-loop .loop .i) _ (at-loop .loop .inv .0) (start .pre .0 .1)
+          (at-loop-test .loop-test .taken) _ (at-visit .visit .ensures .0),
+      (at-visit .visit .kept .1 .1 .1 .0) ∙ (at-loop .loop .inv .1),
+      (at-visit .visit .ensures .1),
+    )
 
 same-length : tie.Need-same-length Inv-loop μ-loop
-same-length c = (c .before .loop .inv .1) ∙ sym (c .before .before .before .before .before .before .pre .1 .1 .0)
+same-length c =
+    let start = c .before .before .before .before .before .before in
+    (c .before .loop .inv .1) ∙ sym (start .pre .1 .1 .0)
 
 same-length-2 : tie.Need-same-length-2 Inv-loop μ-loop
 same-length-2 c = (c .before .loop .inv .0 .same)
 
 returns : tie.Need-returns Inv-loop μ-loop
-returns c = (visiting-all _ _ _ _ (c .before .loop .i) _ (c .loop-test .left) (c .before .loop .inv .0), (c .before .loop .inv .2))
+returns c =
+    let at-loop = c .before in
+    (visiting-all _ _ _ _ (at-loop .loop .i) _ (c .loop-test .left) (at-loop .loop .inv .0), (at-loop .loop .inv .2))
 
 pub visit-all-spec : {M : Type 1} → statement M
 visit-all-spec =

@@ -30,11 +30,25 @@ is-survey-requires c κs = search needs
 
 returns-4 : tie.Need-returns-4
 unfolding accepting
-returns-4 c = rw (good-size (c .before .before .before .before .before .before .before .args .n) (omega arith) (omega arith), le-ltb _ _ (c .before .before .if3 .left), sym (c .before .is-survey .ensures) ∙ not-true _ (c .if4 .taken))
+returns-4 c =
+    let start = c .before .before .before .before .before .before .before in
+    rw (
+      good-size (start .args .n) (omega arith) (omega arith),
+      le-ltb _ _ (c .before .before .if3 .left),
+      sym
+          (c .before .is-survey .ensures) ∙ not-true _ (c .if4 .taken),
+    )
 
 returns-5 : tie.Need-returns-5
 unfolding accepting
-returns-5 c = rw (good-size (c .before .before .before .before .before .before .before .args .n) (omega arith) (omega arith), le-ltb _ _ (c .before .before .if3 .left), sym (c .before .is-survey .ensures) ∙ not-false _ (c .if4 .left))
+returns-5 c =
+    let start = c .before .before .before .before .before .before .before in
+    rw (
+      good-size (start .args .n) (omega arith) (omega arith),
+      le-ltb _ _ (c .before .before .if3 .left),
+      sym
+          (c .before .is-survey .ensures) ∙ not-false _ (c .if4 .left),
+    )
 
 pub accept-spec : {M : Type 1} → statement M
 accept-spec =

@@ -12,7 +12,10 @@ starts-rise-requires : tie.Need-starts-rise-requires
 starts-rise-requires c κs = search needs
 
 returns : tie.Need-returns
-returns c = sym (not-rising (c .before .before .before .before .args .n) (c .before .before .before .before .args .starts .now) (c .before .before .before .before .args .neighbours .now) (sym (c .before .starts-rise .ensures) ∙ not-true _ (c .if1 .taken)))
+returns c =
+    let start = c .before .before .before .before in
+    sym (not-rising (start .args .n) (start .args .starts .now) (start .args .neighbours .now)
+    (sym (c .before .starts-rise .ensures) ∙ not-true _ (c .if1 .taken)))
 
 mul-last : tie.Need-mul-last
 mul-last c = search needs
@@ -24,16 +27,29 @@ cast-last : tie.Need-cast-last
 cast-last c = omega (arith, (c .shared-slice-known3 .given) (c .before .before .before .before .before .args .n))
 
 returns-2 : tie.Need-returns-2
-returns-2 c = sym (not-even (c .before .before .before .before .before .before .args .n) (c .before .before .before .before .before .before .args .starts .now) (c .before .before .before .before .before .before .args .neighbours .now) (c .if2 .taken))
+returns-2 c =
+    let start = c .before .before .before .before .before .before in
+    sym (not-even (start .args .n) (start .args .starts .now) (start .args .neighbours .now) (c .if2 .taken))
 
 returns-3 : tie.Need-returns-3
-returns-3 c = sym (not-few (c .before .before .before .before .before .before .before .args .n) (c .before .before .before .before .before .before .before .args .starts .now) (c .before .before .before .before .before .before .before .args .neighbours .now) (c .if3 .taken))
+returns-3 c =
+    let start = c .before .before .before .before .before .before .before in
+    sym (not-few (start .args .n) (start .args .starts .now) (start .args .neighbours .now) (c .if3 .taken))
 
 returns-4 : tie.Need-returns-4
-returns-4 c = sym (not-within (c .before .before .before .before .before .before .before .before .args .n) (c .before .before .before .before .before .before .before .before .args .starts .now) (c .before .before .before .before .before .before .before .before .args .neighbours .now) (c .if4 .taken))
+returns-4 c =
+    let start = c .before .before .before .before .before .before .before .before in
+    sym (not-within (start .args .n) (start .args .starts .now) (start .args .neighbours .now) (c .if4 .taken))
 
 matched-requires : tie.Need-matched-requires
-matched-requires c κs = (rows (c .before .before .before .before .before .before .before .before .args .n) (c .before .before .before .before .before .before .before .before .args .starts .now) (c .before .before .before .before .before .before .before .before .args .neighbours .now) (c .before .before .before .before .before .before .before .before .pre .1) (c .before .before .before .before .before .before .before .before .pre .2) (sym (c .before .before .before .before .before .starts-rise .ensures) ∙ not-false _ (c .before .before .before .before .if1 .left)) (c .if4 .left), (c .before .before .if2 .left), (c .before .if3 .left))
+matched-requires c κs =
+    let start = c .before .before .before .before .before .before .before .before in (
+      rows (start .args .n) (start .args .starts .now) (start .args .neighbours .now) (start .pre .1) (start .pre .2)
+          (sym (c .before .before .before .before .before .starts-rise .ensures) ∙ not-false _
+          (c .before .before .before .before .if1 .left)) (c .if4 .left),
+      (c .before .before .if2 .left),
+      (c .before .if3 .left),
+    )
 
 returns-5 : tie.Need-returns-5
 returns-5 c = search needs

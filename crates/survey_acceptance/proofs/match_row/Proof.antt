@@ -35,13 +35,27 @@ same-length : tie.Need-same-length Inv-loop μ-loop
 same-length c = (c .before .before .before .loop .inv .1)
 
 returns : tie.Need-returns Inv-loop μ-loop
-returns c = fits-of (c .before .before .before .before .args .neighbours .now) (c .before .before .before .before .args .last) (c .before .before .before .before .args .n) (c .before .before .before .before .args .v) (c .before .before .before .before .args .row .now) (c .before .before .before .before .args .cursors .now) (c .before .before .before .before .pre .0) _ _ (sym (match-low (c .before .before .before .before .args .neighbours .now) (c .before .before .before .before .args .last) (c .before .before .before .before .args .n) (c .before .before .before .before .args .v) (c .before .before .before .before .args .row .now) (eqb (c .before .before .before .loop .wrong) 0) (c .before .before .before .loop .before) (c .before .before .before .loop .i) (c .before .before .before .loop .cursors) (c .before .before .loop-test .taken) (omega (arith, (c .if1 .taken)))) ∙ (c .before .before .before .loop .inv .2))
+returns c =
+    let start = c .before .before .before .before in
+    let at-loop = c .before .before .before in
+    fits-of (start .args .neighbours .now) (start .args .last) (start .args .n) (start .args .v) (start .args .row .now)
+    (start .args .cursors .now) (start .pre .0) _ _
+    (sym (match-low (start .args .neighbours .now) (start .args .last) (start .args .n) (start .args .v) (start .args .row .now)
+    (eqb (at-loop .loop .wrong) 0) (at-loop .loop .before) (at-loop .loop .i) (at-loop .loop .cursors)
+    (c .before .before .loop-test .taken) (omega (arith, (c .if1 .taken)))) ∙ (at-loop .loop .inv .2))
 
 same-length-2 : tie.Need-same-length-2 Inv-loop μ-loop
 same-length-2 c = (c .before .before .before .before .loop .inv .1)
 
 returns-2 : tie.Need-returns-2 Inv-loop μ-loop
-returns-2 c = fits-of (c .before .before .before .before .before .args .neighbours .now) (c .before .before .before .before .before .args .last) (c .before .before .before .before .before .args .n) (c .before .before .before .before .before .args .v) (c .before .before .before .before .before .args .row .now) (c .before .before .before .before .before .args .cursors .now) (c .before .before .before .before .before .pre .0) _ _ (sym (match-high (c .before .before .before .before .before .args .neighbours .now) (c .before .before .before .before .before .args .last) (c .before .before .before .before .before .args .n) (c .before .before .before .before .before .args .v) (c .before .before .before .before .before .args .row .now) (eqb (c .before .before .before .before .loop .wrong) 0) (c .before .before .before .before .loop .before) (c .before .before .before .before .loop .i) (c .before .before .before .before .loop .cursors) (c .before .before .before .loop-test .taken) (omega (arith, (c .before .if1 .left))) (c .if2 .taken)) ∙ (c .before .before .before .before .loop .inv .2))
+returns-2 c =
+    let start = c .before .before .before .before .before in
+    let at-loop = c .before .before .before .before in
+    fits-of (start .args .neighbours .now) (start .args .last) (start .args .n) (start .args .v) (start .args .row .now)
+    (start .args .cursors .now) (start .pre .0) _ _
+    (sym (match-high (start .args .neighbours .now) (start .args .last) (start .args .n) (start .args .v) (start .args .row .now)
+    (eqb (at-loop .loop .wrong) 0) (at-loop .loop .before) (at-loop .loop .i) (at-loop .loop .cursors)
+    (c .before .before .before .loop-test .taken) (omega (arith, (c .before .if1 .left))) (c .if2 .taken)) ∙ (at-loop .loop .inv .2))
 
 mul-at : tie.Need-mul-at Inv-loop μ-loop
 mul-at c = search needs
@@ -50,25 +64,46 @@ slice-read-at : tie.Need-slice-read-at Inv-loop μ-loop
 slice-read-at c = omega (arith, (c .before .before .before .before .before .loop .inv .1))
 
 cast-at : tie.Need-cast-at Inv-loop μ-loop
-cast-at c = omega (arith, (c .slice-known .given) (getD (c .before .before .before .before .before .before .args .row .now) (c .before .before .before .before .before .loop .i) 0))
+cast-at c =
+    let start = c .before .before .before .before .before .before in
+    omega (arith, (c .slice-known .given) (getD (start .args .row .now) (c .before .before .before .before .before .loop .i) 0))
 
 same-length-3 : tie.Need-same-length-3 Inv-loop μ-loop
-same-length-3 c = (c .before .before .before .before .before .before .loop .inv .1)
+same-length-3 c =
+    let at-loop = c .before .before .before .before .before .before in
+    (at-loop .loop .inv .1)
 
 returns-3 : tie.Need-returns-3 Inv-loop μ-loop
-returns-3 c = fits-of (c .before .before .before .before .before .before .before .args .neighbours .now) (c .before .before .before .before .before .before .before .args .last) (c .before .before .before .before .before .before .before .args .n) (c .before .before .before .before .before .before .before .args .v) (c .before .before .before .before .before .before .before .args .row .now) (c .before .before .before .before .before .before .before .args .cursors .now) (c .before .before .before .before .before .before .before .pre .0) _ _ (sym (match-past (c .before .before .before .before .before .before .before .args .neighbours .now) (c .before .before .before .before .before .before .before .args .last) (c .before .before .before .before .before .before .before .args .n) (c .before .before .before .before .before .before .before .args .v) (c .before .before .before .before .before .before .before .args .row .now) (eqb (c .before .before .before .before .before .before .loop .wrong) 0) (c .before .before .before .before .before .before .loop .before) (c .before .before .before .before .before .before .loop .i) (c .before .before .before .before .before .before .loop .cursors) (c .before .before .before .before .before .loop-test .taken) (omega (arith, (c .before .before .before .if1 .left))) (c .before .before .if2 .left) (c .if3 .taken)) ∙ (c .before .before .before .before .before .before .loop .inv .2))
+returns-3 c =
+    let start = c .before .before .before .before .before .before .before in
+    let at-loop = c .before .before .before .before .before .before in
+    fits-of (start .args .neighbours .now) (start .args .last) (start .args .n) (start .args .v) (start .args .row .now)
+    (start .args .cursors .now) (start .pre .0) _ _
+    (sym (match-past (start .args .neighbours .now) (start .args .last) (start .args .n) (start .args .v) (start .args .row .now)
+    (eqb (at-loop .loop .wrong) 0) (at-loop .loop .before) (at-loop .loop .i) (at-loop .loop .cursors)
+    (c .before .before .before .before .before .loop-test .taken) (omega (arith, (c .before .before .before .if1 .left)))
+    (c .before .before .if2 .left) (c .if3 .taken)) ∙ (at-loop .loop .inv .2))
 
 mul-wrong : tie.Need-mul-wrong Inv-loop μ-loop
-mul-wrong c = omega (arith, (c .before .slice-known .given) (getD (c .before .before .before .before .before .before .before .args .row .now) (c .before .before .before .before .before .before .loop .i) 0))
+mul-wrong c =
+    let start = c .before .before .before .before .before .before .before in
+    let at-loop = c .before .before .before .before .before .before in
+    omega (arith, (c .before .slice-known .given) (getD (start .args .row .now) (at-loop .loop .i) 0))
 
 shared-slice-read-wrong : tie.Need-shared-slice-read-wrong Inv-loop μ-loop
 shared-slice-read-wrong c = omega (arith, (c .before .if3 .left))
 
 cast-wrong : tie.Need-cast-wrong Inv-loop μ-loop
-cast-wrong c = omega (arith, (c .shared-slice-known2 .given) (getD (c .before .before .before .before .before .before .before .loop .cursors) (getD (c .before .before .before .before .before .before .before .before .args .row .now) (c .before .before .before .before .before .before .before .loop .i) 0) 0))
+cast-wrong c =
+    let start = c .before .before .before .before .before .before .before .before in
+    let at-loop = c .before .before .before .before .before .before .before in
+    omega (arith, (c .shared-slice-known2 .given) (getD (at-loop .loop .cursors) (getD (start .args .row .now) (at-loop .loop .i) 0) 0))
 
 add-cursors : tie.Need-add-cursors Inv-loop μ-loop
-add-cursors c = omega (arith, (c .before .before .slice-known .given) (getD (c .before .before .before .before .before .before .before .before .args .row .now) (c .before .before .before .before .before .before .before .loop .i) 0))
+add-cursors c =
+    let start = c .before .before .before .before .before .before .before .before in
+    let at-loop = c .before .before .before .before .before .before .before in
+    omega (arith, (c .before .before .slice-known .given) (getD (start .args .row .now) (at-loop .loop .i) 0))
 
 cast-cursors : tie.Need-cast-cursors Inv-loop μ-loop
 cast-cursors c = omega (arith, (c .before .if3 .left))
@@ -77,7 +112,9 @@ mul-cursors : tie.Need-mul-cursors Inv-loop μ-loop
 mul-cursors c = search needs
 
 slice-write-cursors : tie.Need-slice-write-cursors Inv-loop μ-loop
-slice-write-cursors c = omega (arith, (c .before .before .before .before .before .before .before .loop .inv .1), (c .before .before .before .if2 .left))
+slice-write-cursors c =
+    let at-loop = c .before .before .before .before .before .before .before in
+    omega (arith, (at-loop .loop .inv .1), (c .before .before .before .if2 .left))
 
 add-i : tie.Need-add-i Inv-loop μ-loop
 add-i c = search needs
@@ -86,13 +123,38 @@ loop-less : tie.Need-loop-less Inv-loop μ-loop
 loop-less c = search needs
 
 loop-again : tie.Need-loop-again Inv-loop μ-loop
-loop-again c = (omega arith, length-set (c .before .before .before .before .before .before .before .loop .cursors) (getD (c .before .before .before .before .before .before .before .before .args .row .now) (c .before .before .before .before .before .before .before .loop .i) 0) (getD (c .before .before .before .before .before .before .before .loop .cursors) (getD (c .before .before .before .before .before .before .before .before .args .row .now) (c .before .before .before .before .before .before .before .loop .i) 0) 0 + 1) ∙ (c .before .before .before .before .before .before .before .loop .inv .1), ap (λ (g : Bool). matchRow (c .before .before .before .before .before .before .before .before .args .neighbours .now) (c .before .before .before .before .before .before .before .before .args .last) (c .before .before .before .before .before .before .before .before .args .n) (c .before .before .before .before .before .before .before .before .args .v) g (getD (c .before .before .before .before .before .before .before .before .args .row .now) (c .before .before .before .before .before .before .before .loop .i) 0) (drop ((c .before .before .before .before .before .before .before .loop .i) + 1) (c .before .before .before .before .before .before .before .before .args .row .now)) (set (c .before .before .before .before .before .before .before .loop .cursors) (getD (c .before .before .before .before .before .before .before .before .args .row .now) (c .before .before .before .before .before .before .before .loop .i) 0) (getD (c .before .before .before .before .before .before .before .loop .cursors) (getD (c .before .before .before .before .before .before .before .before .args .row .now) (c .before .before .before .before .before .before .before .loop .i) 0) 0 + 1))) (collected (c .before .before .before .before .before .before .before .loop .wrong) (getD (c .before .before .before .before .before .before .before .before .args .neighbours .now) (getD (c .before .before .before .before .before .before .before .loop .cursors) (getD (c .before .before .before .before .before .before .before .before .args .row .now) (c .before .before .before .before .before .before .before .loop .i) 0) 0) 0) (c .before .before .before .before .before .before .before .before .args .v)) ∙ sym (match-next (c .before .before .before .before .before .before .before .before .args .neighbours .now) (c .before .before .before .before .before .before .before .before .args .last) (c .before .before .before .before .before .before .before .before .args .n) (c .before .before .before .before .before .before .before .before .args .v) (c .before .before .before .before .before .before .before .before .args .row .now) (eqb (c .before .before .before .before .before .before .before .loop .wrong) 0) (c .before .before .before .before .before .before .before .loop .before) (c .before .before .before .before .before .before .before .loop .i) (c .before .before .before .before .before .before .before .loop .cursors) (c .before .before .before .before .before .before .loop-test .taken) (omega (arith, (c .before .before .before .before .if1 .left))) (c .before .before .before .if2 .left) (c .before .if3 .left)) ∙ (c .before .before .before .before .before .before .before .loop .inv .2))
+loop-again c =
+    let start = c .before .before .before .before .before .before .before .before in
+    let at-loop = c .before .before .before .before .before .before .before in
+    let at-loop-test = c .before .before .before .before .before .before in (
+      omega arith,
+      length-set (at-loop .loop .cursors) (getD (start .args .row .now) (at-loop .loop .i) 0)
+          (getD (at-loop .loop .cursors) (getD (start .args .row .now) (at-loop .loop .i) 0) 0 + 1) ∙ (at-loop .loop .inv .1),
+      ap
+          (λ (g : Bool). matchRow (start .args .neighbours .now) (start .args .last) (start .args .n) (start .args .v) g
+          (getD (start .args .row .now) (at-loop .loop .i) 0) (drop ((at-loop .loop .i) + 1) (start .args .row .now))
+          (set (at-loop .loop .cursors) (getD (start .args .row .now) (at-loop .loop .i) 0)
+          (getD (at-loop .loop .cursors) (getD (start .args .row .now) (at-loop .loop .i) 0) 0 + 1)))
+          (collected (at-loop .loop .wrong) (getD (start .args .neighbours .now)
+          (getD (at-loop .loop .cursors) (getD (start .args .row .now) (at-loop .loop .i) 0) 0) 0) (start .args .v)) ∙ sym
+          (match-next (start .args .neighbours .now) (start .args .last) (start .args .n) (start .args .v) (start .args .row .now)
+          (eqb (at-loop .loop .wrong) 0) (at-loop .loop .before) (at-loop .loop .i) (at-loop .loop .cursors) (at-loop-test .loop-test .taken)
+          (omega (arith, (c .before .before .before .before .if1 .left))) (c .before .before .before .if2 .left) (c .before .if3 .left)) ∙
+          (at-loop .loop .inv .2),
+    )
 
 same-length-4 : tie.Need-same-length-4 Inv-loop μ-loop
 same-length-4 c = (c .before .loop .inv .1)
 
 returns-4 : tie.Need-returns-4 Inv-loop μ-loop
-returns-4 c = fits-of (c .before .before .args .neighbours .now) (c .before .before .args .last) (c .before .before .args .n) (c .before .before .args .v) (c .before .before .args .row .now) (c .before .before .args .cursors .now) (c .before .before .pre .0) _ _ (sym (match-end (c .before .before .args .neighbours .now) (c .before .before .args .last) (c .before .before .args .n) (c .before .before .args .v) (c .before .before .args .row .now) (eqb (c .before .loop .wrong) 0) (c .before .loop .before) (c .before .loop .i) (c .before .loop .cursors) (c .loop-test .left)) ∙ (c .before .loop .inv .2))
+returns-4 c =
+    let start = c .before .before in
+    let at-loop = c .before in
+    fits-of (start .args .neighbours .now) (start .args .last) (start .args .n) (start .args .v) (start .args .row .now)
+    (start .args .cursors .now) (start .pre .0) _ _
+    (sym (match-end (start .args .neighbours .now) (start .args .last) (start .args .n) (start .args .v) (start .args .row .now)
+    (eqb (at-loop .loop .wrong) 0) (at-loop .loop .before) (at-loop .loop .i) (at-loop .loop .cursors) (c .loop-test .left)) ∙
+    (at-loop .loop .inv .2))
 
 pub match-row-spec : {M : Type 1} → statement M
 match-row-spec =

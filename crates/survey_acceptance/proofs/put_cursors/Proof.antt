@@ -38,7 +38,20 @@ loop-less : tie.Need-loop-less Inv-loop μ-loop
 loop-less c = search needs
 
 loop-again : tie.Need-loop-again Inv-loop μ-loop
-loop-again c = (omega arith, length-set (c .before .before .loop .cursors) (c .before .before .loop .v) (getD (c .before .before .before .args .starts .now) (c .before .before .loop .v) 0) ∙ (c .before .before .loop .inv .1), below-next (λ (x : ℕ). getD (set (c .before .before .loop .cursors) (c .before .before .loop .v) (getD (c .before .before .before .args .starts .now) (c .before .before .loop .v) 0)) x 0 ≡ getD (c .before .before .before .args .starts .now) x 0) (c .before .before .loop .v) (λ x h. getD-set-other (c .before .before .loop .cursors) (c .before .before .loop .v) x (getD (c .before .before .before .args .starts .now) (c .before .before .loop .v) 0) 0 (λ e. omega arith) ∙ (c .before .before .loop .inv .2) x h) (getD-set-same (c .before .before .loop .cursors) (c .before .before .loop .v) (getD (c .before .before .before .args .starts .now) (c .before .before .loop .v) 0) 0 (omega (arith, (c .before .before .loop .inv .1)))))
+loop-again c =
+    let start = c .before .before .before in
+    let at-loop = c .before .before in (
+      omega arith,
+      length-set (at-loop .loop .cursors) (at-loop .loop .v) (getD (start .args .starts .now) (at-loop .loop .v) 0) ∙
+          (at-loop .loop .inv .1),
+      below-next (λ (x : ℕ). getD
+          (set (at-loop .loop .cursors) (at-loop .loop .v) (getD (start .args .starts .now) (at-loop .loop .v) 0)) x 0 ≡ getD
+          (start .args .starts .now) x 0) (at-loop .loop .v)
+          (λ x h. getD-set-other (at-loop .loop .cursors) (at-loop .loop .v) x (getD (start .args .starts .now) (at-loop .loop .v) 0) 0
+          (λ e. omega arith) ∙ (at-loop .loop .inv .2) x h)
+          (getD-set-same (at-loop .loop .cursors) (at-loop .loop .v) (getD (start .args .starts .now) (at-loop .loop .v) 0) 0
+          (omega (arith, (at-loop .loop .inv .1)))),
+    )
 
 same-length : tie.Need-same-length Inv-loop μ-loop
 same-length c = (c .before .loop .inv .1)

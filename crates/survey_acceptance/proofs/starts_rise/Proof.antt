@@ -24,7 +24,13 @@ shared-slice-read-good c = search needs
 
 loop-holds : tie.Need-loop-holds Inv-loop μ-loop
 unfolding upTo
-loop-holds c = (omega arith, ap (λ (k : ℕ). eqb (getD (c .before .args .starts .now) 0 0) 0 && all (λ u. leb (getD (c .before .args .starts .now) u 0) (getD (c .before .args .starts .now) (u + 1) 0)) (from 0 k)) (sub-zero (c .before .args .n)))
+loop-holds c =
+    let start = c .before in (
+      omega arith,
+      ap (λ (k : ℕ). eqb (getD (start .args .starts .now) 0 0) 0 && all
+          (λ u. leb (getD (start .args .starts .now) u 0) (getD (start .args .starts .now) (u + 1) 0)) (from 0 k))
+          (sub-zero (start .args .n)),
+    )
 
 mul-good : tie.Need-mul-good Inv-loop μ-loop
 mul-good c = search needs
@@ -48,10 +54,20 @@ loop-less : tie.Need-loop-less Inv-loop μ-loop
 loop-less c = search needs
 
 loop-again : tie.Need-loop-again Inv-loop μ-loop
-loop-again c = (omega arith, rest-next (λ u. leb (getD (c .before .before .before .before .before .args .starts .now) u 0) (getD (c .before .before .before .before .before .args .starts .now) (u + 1) 0)) (c .before .before .before .loop .good) (c .before .before .before .before .before .args .n) (c .before .before .before .loop .v) (c .before .before .loop-test .taken) ∙ (c .before .before .before .loop .inv .1))
+loop-again c =
+    let start = c .before .before .before .before .before in
+    let at-loop = c .before .before .before in (
+      omega arith,
+      rest-next (λ u. leb (getD (start .args .starts .now) u 0) (getD (start .args .starts .now) (u + 1) 0))
+          (at-loop .loop .good) (start .args .n) (at-loop .loop .v) (c .before .before .loop-test .taken) ∙ (at-loop .loop .inv .1),
+    )
 
 returns : tie.Need-returns Inv-loop μ-loop
-returns c = rest-end (λ u. leb (getD (c .before .before .before .args .starts .now) u 0) (getD (c .before .before .before .args .starts .now) (u + 1) 0)) (c .before .loop .good) (c .before .before .before .args .n) (c .before .loop .v) (c .loop-test .left) ∙ (c .before .loop .inv .1)
+returns c =
+    let start = c .before .before .before in
+    let at-loop = c .before in
+    rest-end (λ u. leb (getD (start .args .starts .now) u 0) (getD (start .args .starts .now) (u + 1) 0)) (at-loop .loop .good)
+    (start .args .n) (at-loop .loop .v) (c .loop-test .left) ∙ (at-loop .loop .inv .1)
 
 pub starts-rise-spec : {M : Type 1} → statement M
 starts-rise-spec =

@@ -19,7 +19,9 @@ abbrev μ-loop : tie.MeasureT-loop
 μ-loop text at n m bits₀ next₀ k₀ bits next k = m - k
 
 loop-holds : tie.Need-loop-holds Inv-loop μ-loop
-loop-holds c = progress-none (c .before .before .args .n) (c .before .before .args .m) (c .before .before .args .text .now) (c .before .before .args .at) (c .before .before .args .bits .now) (c .before .before .pre .1)
+loop-holds c =
+    let start = c .before .before in
+    progress-none (start .args .n) (start .args .m) (start .args .text .now) (start .args .at) (start .args .bits .now) (start .pre .1)
 
 link-at-requires : tie.Need-link-at-requires Inv-loop μ-loop
 link-at-requires c κs = ((c .before .before .before .before .before .pre .0), ((c .before .before .loop .inv) .held .long))
@@ -28,31 +30,86 @@ enum-known-r : tie.Need-enum-known-r Inv-loop μ-loop
 enum-known-r c = search needs
 
 same-length : tie.Need-same-length Inv-loop μ-loop
-same-length c = ((c .before .before .before .before .before .before .loop .inv) .held .long) ∙ sym (ap length (c .before .before .before .before .before .before .before .before .before .pre .1) ∙ length-replicate {A = ℕ} 16384 0)
+same-length c =
+    let start = c .before .before .before .before .before .before .before .before .before in
+    let at-loop = c .before .before .before .before .before .before in
+    ((at-loop .loop .inv) .held .long) ∙ sym (ap length (start .pre .1) ∙ length-replicate {A = ℕ} 16384 0)
 
 returns : tie.Need-returns Inv-loop μ-loop
-returns c = told-refused _ (c .before .r .given .0 .0) _ (progress-refused (c .before .before .before .before .before .before .before .before .before .args .n) (c .before .before .before .before .before .before .before .before .before .args .m) (c .before .before .before .before .before .before .before .before .before .args .text .now) (c .before .before .before .before .before .before .before .before .before .args .at) (c .before .before .before .before .before .before .loop .bits) (c .before .before .before .before .before .before .loop .next) (c .before .before .before .before .before .before .loop .k) (c .before .before .before .before .before .before .before .before .before .pre .0) (c .before .before .before .before .before .before .loop .inv) (c .before .before .before .before .before .loop-test .taken) _ (sym (c .before .before .before .link-at .ensures) ∙ ap (lineAnswer (c .before .before .before .before .before .before .before .before .before .args .text .now)) (c .before .r .given .1)))
+returns c =
+    let start = c .before .before .before .before .before .before .before .before .before in
+    let at-loop = c .before .before .before .before .before .before in
+    let at-r = c .before in
+    told-refused _ (at-r .r .given .0 .0) _ (progress-refused (start .args .n) (start .args .m) (start .args .text .now) (start .args .at)
+    (at-loop .loop .bits) (at-loop .loop .next) (at-loop .loop .k) (start .pre .0) (at-loop .loop .inv)
+    (c .before .before .before .before .before .loop-test .taken) _
+    (sym (c .before .before .before .link-at .ensures) ∙ ap (lineAnswer (start .args .text .now)) (at-r .r .given .1)))
 
 enum-known-a : tie.Need-enum-known-a Inv-loop μ-loop
 enum-known-a c = search needs
 
 mul-insert : tie.Need-mul-insert Inv-loop μ-loop
-mul-insert c = let g = (link-below (c .before .before .before .before .before .before .before .before .before .before .args .n) (edgesIn (c .before .before .before .before .before .before .before .loop .bits)) (drop (c .before .before .before .before .before .before .before .loop .next) (c .before .before .before .before .before .before .before .before .before .before .args .text .now)) (c .before .before .a .given .0 .0) (c .before .before .a .given .0 .1 .0) (drop (c .before .before .a .given .0 .1 .1 .0) (c .before .before .before .before .before .before .before .before .before .before .args .text .now)) (sym (c .before .before .before .before .link-at .ensures) ∙ ap (lineAnswer (c .before .before .before .before .before .before .before .before .before .before .args .text .now)) (c .before .before .a .given .1))) in omega (arith, (c .before .before .before .before .before .before .before .before .before .before .pre .0))
+mul-insert c =
+    let start = c .before .before .before .before .before .before .before .before .before .before in
+    let at-loop = c .before .before .before .before .before .before .before in
+    let at-a = c .before .before in
+    let g = (link-below (start .args .n) (edgesIn (at-loop .loop .bits)) (drop (at-loop .loop .next) (start .args .text .now))
+    (at-a .a .given .0 .0) (at-a .a .given .0 .1 .0) (drop (at-a .a .given .0 .1 .1 .0) (start .args .text .now))
+    (sym (c .before .before .before .before .link-at .ensures) ∙ ap (lineAnswer (start .args .text .now)) (at-a .a .given .1)))
+    in omega (arith, (start .pre .0))
 
 add-insert : tie.Need-add-insert Inv-loop μ-loop
-add-insert c = let g = (link-below (c .before .before .before .before .before .before .before .before .before .before .args .n) (edgesIn (c .before .before .before .before .before .before .before .loop .bits)) (drop (c .before .before .before .before .before .before .before .loop .next) (c .before .before .before .before .before .before .before .before .before .before .args .text .now)) (c .before .before .a .given .0 .0) (c .before .before .a .given .0 .1 .0) (drop (c .before .before .a .given .0 .1 .1 .0) (c .before .before .before .before .before .before .before .before .before .before .args .text .now)) (sym (c .before .before .before .before .link-at .ensures) ∙ ap (lineAnswer (c .before .before .before .before .before .before .before .before .before .before .args .text .now)) (c .before .before .a .given .1))) in omega (arith, (c .before .before .before .before .before .before .before .before .before .before .pre .0))
+add-insert c =
+    let start = c .before .before .before .before .before .before .before .before .before .before in
+    let at-loop = c .before .before .before .before .before .before .before in
+    let at-a = c .before .before in
+    let g = (link-below (start .args .n) (edgesIn (at-loop .loop .bits)) (drop (at-loop .loop .next) (start .args .text .now))
+    (at-a .a .given .0 .0) (at-a .a .given .0 .1 .0) (drop (at-a .a .given .0 .1 .1 .0) (start .args .text .now))
+    (sym (c .before .before .before .before .link-at .ensures) ∙ ap (lineAnswer (start .args .text .now)) (at-a .a .given .1)))
+    in omega (arith, (start .pre .0))
 
 insert-requires : tie.Need-insert-requires Inv-loop μ-loop
-insert-requires c κs = let g = (link-below (c .before .before .before .before .before .before .before .before .before .before .args .n) (edgesIn (c .before .before .before .before .before .before .before .loop .bits)) (drop (c .before .before .before .before .before .before .before .loop .next) (c .before .before .before .before .before .before .before .before .before .before .args .text .now)) (c .before .before .a .given .0 .0) (c .before .before .a .given .0 .1 .0) (drop (c .before .before .a .given .0 .1 .1 .0) (c .before .before .before .before .before .before .before .before .before .before .args .text .now)) (sym (c .before .before .before .before .link-at .ensures) ∙ ap (lineAnswer (c .before .before .before .before .before .before .before .before .before .before .args .text .now)) (c .before .before .a .given .1))) in omega (arith, (c .before .before .before .before .before .before .before .before .before .before .pre .0), ((c .before .before .before .before .before .before .before .loop .inv) .held .long))
+insert-requires c κs =
+    let start = c .before .before .before .before .before .before .before .before .before .before in
+    let at-loop = c .before .before .before .before .before .before .before in
+    let at-a = c .before .before in
+    let g = (link-below (start .args .n) (edgesIn (at-loop .loop .bits)) (drop (at-loop .loop .next) (start .args .text .now))
+    (at-a .a .given .0 .0) (at-a .a .given .0 .1 .0) (drop (at-a .a .given .0 .1 .1 .0) (start .args .text .now))
+    (sym (c .before .before .before .before .link-at .ensures) ∙ ap (lineAnswer (start .args .text .now)) (at-a .a .given .1)))
+    in omega (arith, (start .pre .0), ((at-loop .loop .inv) .held .long))
 
 mul-insert-2 : tie.Need-mul-insert-2 Inv-loop μ-loop
-mul-insert-2 c = let g = (link-below (c .before .before .before .before .before .before .before .before .before .before .before .before .before .before .args .n) (edgesIn (c .before .before .before .before .before .before .before .before .before .before .before .loop .bits)) (drop (c .before .before .before .before .before .before .before .before .before .before .before .loop .next) (c .before .before .before .before .before .before .before .before .before .before .before .before .before .before .args .text .now)) (c .before .before .before .before .before .before .a .given .0 .0) (c .before .before .before .before .before .before .a .given .0 .1 .0) (drop (c .before .before .before .before .before .before .a .given .0 .1 .1 .0) (c .before .before .before .before .before .before .before .before .before .before .before .before .before .before .args .text .now)) (sym (c .before .before .before .before .before .before .before .before .link-at .ensures) ∙ ap (lineAnswer (c .before .before .before .before .before .before .before .before .before .before .before .before .before .before .args .text .now)) (c .before .before .before .before .before .before .a .given .1))) in omega (arith, (c .before .before .before .before .before .before .before .before .before .before .before .before .before .before .pre .0))
+mul-insert-2 c =
+    let start = c .before .before .before .before .before .before .before .before .before .before .before .before .before .before in
+    let at-loop = c .before .before .before .before .before .before .before .before .before .before .before in
+    let at-link-at = c .before .before .before .before .before .before .before .before in
+    let at-a = c .before .before .before .before .before .before in
+    let g = (link-below (start .args .n) (edgesIn (at-loop .loop .bits)) (drop (at-loop .loop .next) (start .args .text .now))
+    (at-a .a .given .0 .0) (at-a .a .given .0 .1 .0) (drop (at-a .a .given .0 .1 .1 .0) (start .args .text .now))
+    (sym (at-link-at .link-at .ensures) ∙ ap (lineAnswer (start .args .text .now)) (at-a .a .given .1))) in omega
+    (arith, (start .pre .0))
 
 add-insert-2 : tie.Need-add-insert-2 Inv-loop μ-loop
-add-insert-2 c = let g = (link-below (c .before .before .before .before .before .before .before .before .before .before .before .before .before .before .args .n) (edgesIn (c .before .before .before .before .before .before .before .before .before .before .before .loop .bits)) (drop (c .before .before .before .before .before .before .before .before .before .before .before .loop .next) (c .before .before .before .before .before .before .before .before .before .before .before .before .before .before .args .text .now)) (c .before .before .before .before .before .before .a .given .0 .0) (c .before .before .before .before .before .before .a .given .0 .1 .0) (drop (c .before .before .before .before .before .before .a .given .0 .1 .1 .0) (c .before .before .before .before .before .before .before .before .before .before .before .before .before .before .args .text .now)) (sym (c .before .before .before .before .before .before .before .before .link-at .ensures) ∙ ap (lineAnswer (c .before .before .before .before .before .before .before .before .before .before .before .before .before .before .args .text .now)) (c .before .before .before .before .before .before .a .given .1))) in omega (arith, (c .before .before .before .before .before .before .before .before .before .before .before .before .before .before .pre .0))
+add-insert-2 c =
+    let start = c .before .before .before .before .before .before .before .before .before .before .before .before .before .before in
+    let at-loop = c .before .before .before .before .before .before .before .before .before .before .before in
+    let at-link-at = c .before .before .before .before .before .before .before .before in
+    let at-a = c .before .before .before .before .before .before in
+    let g = (link-below (start .args .n) (edgesIn (at-loop .loop .bits)) (drop (at-loop .loop .next) (start .args .text .now))
+    (at-a .a .given .0 .0) (at-a .a .given .0 .1 .0) (drop (at-a .a .given .0 .1 .1 .0) (start .args .text .now))
+    (sym (at-link-at .link-at .ensures) ∙ ap (lineAnswer (start .args .text .now)) (at-a .a .given .1))) in omega
+    (arith, (start .pre .0))
 
 insert-requires-2 : tie.Need-insert-requires-2 Inv-loop μ-loop
-insert-requires-2 c κs = let g = (link-below (c .before .before .before .before .before .before .before .before .before .before .before .before .before .before .args .n) (edgesIn (c .before .before .before .before .before .before .before .before .before .before .before .loop .bits)) (drop (c .before .before .before .before .before .before .before .before .before .before .before .loop .next) (c .before .before .before .before .before .before .before .before .before .before .before .before .before .before .args .text .now)) (c .before .before .before .before .before .before .a .given .0 .0) (c .before .before .before .before .before .before .a .given .0 .1 .0) (drop (c .before .before .before .before .before .before .a .given .0 .1 .1 .0) (c .before .before .before .before .before .before .before .before .before .before .before .before .before .before .args .text .now)) (sym (c .before .before .before .before .before .before .before .before .link-at .ensures) ∙ ap (lineAnswer (c .before .before .before .before .before .before .before .before .before .before .before .before .before .before .args .text .now)) (c .before .before .before .before .before .before .a .given .1))) in omega (arith, (c .before .before .before .before .before .before .before .before .before .before .before .before .before .before .pre .0), ((c .before .before .before .before .before .before .before .before .before .before .before .loop .inv) .held .long), (c .before .before .before .insert .kept .0))
+insert-requires-2 c κs =
+    let start = c .before .before .before .before .before .before .before .before .before .before .before .before .before .before in
+    let at-loop = c .before .before .before .before .before .before .before .before .before .before .before in
+    let at-link-at = c .before .before .before .before .before .before .before .before in
+    let at-a = c .before .before .before .before .before .before in
+    let g = (link-below (start .args .n) (edgesIn (at-loop .loop .bits)) (drop (at-loop .loop .next) (start .args .text .now))
+    (at-a .a .given .0 .0) (at-a .a .given .0 .1 .0) (drop (at-a .a .given .0 .1 .1 .0) (start .args .text .now))
+    (sym (at-link-at .link-at .ensures) ∙ ap (lineAnswer (start .args .text .now)) (at-a .a .given .1))) in omega
+    (arith, (start .pre .0), ((at-loop .loop .inv) .held .long), (c .before .before .before .insert .kept .0))
 
 add-k : tie.Need-add-k Inv-loop μ-loop
 add-k c = search needs
@@ -61,19 +118,43 @@ loop-less : tie.Need-loop-less Inv-loop μ-loop
 loop-less c = search needs
 
 loop-again : tie.Need-loop-again Inv-loop μ-loop
-loop-again c = progress-taken (c .before .before .before .before .before .before .before .before .before .before .before .before .before .before .before .before .before .args .n) (c .before .before .before .before .before .before .before .before .before .before .before .before .before .before .before .before .before .args .m) (c .before .before .before .before .before .before .before .before .before .before .before .before .before .before .before .before .before .args .text .now) (c .before .before .before .before .before .before .before .before .before .before .before .before .before .before .before .before .before .args .at) (c .before .before .before .before .before .before .before .before .before .before .before .before .before .before .loop .bits) (c .before .before .before .before .before .before .before .before .before .before .before .before .before .before .loop .next) (c .before .before .before .before .before .before .before .before .before .before .before .before .before .before .loop .k) (c .before .before .before .before .before .before .before .before .before .before .before .before .before .before .before .before .before .pre .0) (c .before .before .before .before .before .before .before .before .before .before .before .before .before .before .loop .inv) (c .before .before .before .before .before .before .before .before .before .before .before .before .before .loop-test .taken) (c .before .before .before .before .before .before .before .before .before .a .given .0 .0) (c .before .before .before .before .before .before .before .before .before .a .given .0 .1 .0) (c .before .before .before .before .before .before .before .before .before .a .given .0 .1 .1 .0) (c .before .before .before .before .before .before .insert .last .0) (c .before .before .insert2 .last .0) (sym (c .before .before .before .before .before .before .before .before .before .before .before .link-at .ensures) ∙ ap (lineAnswer (c .before .before .before .before .before .before .before .before .before .before .before .before .before .before .before .before .before .args .text .now)) (c .before .before .before .before .before .before .before .before .before .a .given .1)) ((c .before .before .insert2 .kept .0) ∙ (c .before .before .before .before .before .before .insert .kept .0)) (c .before .before .before .before .before .before .insert .ensures) (c .before .before .insert2 .ensures)
+loop-again c =
+    let start = c .before .before .before .before .before .before .before .before .before .before .before .before .before .before .before .before .before in
+    let at-loop = c .before .before .before .before .before .before .before .before .before .before .before .before .before .before in
+    let at-loop-test = c .before .before .before .before .before .before .before .before .before .before .before .before .before in
+    let at-link-at = c .before .before .before .before .before .before .before .before .before .before .before in
+    let at-a = c .before .before .before .before .before .before .before .before .before in
+    let at-insert = c .before .before .before .before .before .before in
+    let at-insert2 = c .before .before in
+    progress-taken (start .args .n) (start .args .m) (start .args .text .now) (start .args .at) (at-loop .loop .bits) (at-loop .loop .next)
+    (at-loop .loop .k) (start .pre .0) (at-loop .loop .inv) (at-loop-test .loop-test .taken) (at-a .a .given .0 .0)
+    (at-a .a .given .0 .1 .0) (at-a .a .given .0 .1 .1 .0) (at-insert .insert .last .0) (at-insert2 .insert2 .last .0)
+    (sym (at-link-at .link-at .ensures) ∙ ap (lineAnswer (start .args .text .now)) (at-a .a .given .1))
+    ((at-insert2 .insert2 .kept .0) ∙ (at-insert .insert .kept .0)) (at-insert .insert .ensures) (at-insert2 .insert2 .ensures)
 
 same-length-2 : tie.Need-same-length-2 Inv-loop μ-loop
-same-length-2 c = ((c .before .before .loop .inv) .held .long) ∙ sym (ap length (c .before .before .before .before .before .pre .1) ∙ length-replicate {A = ℕ} 16384 0)
+same-length-2 c = ((c .before .before .loop .inv) .held .long) ∙ sym
+    (ap length (c .before .before .before .before .before .pre .1) ∙ length-replicate {A = ℕ} 16384 0)
 
 returns-2 : tie.Need-returns-2 Inv-loop μ-loop
-returns-2 c = told-refused _ LineCount _ (progress-more (c .before .before .before .before .before .args .n) (c .before .before .before .before .before .args .m) (c .before .before .before .before .before .args .text .now) (c .before .before .before .before .before .args .at) (c .before .before .loop .bits) (c .before .before .loop .next) (c .before .before .loop .k) (c .before .before .before .before .before .pre .0) (c .before .before .loop .inv) (c .before .loop-test .left) (c .if1 .taken))
+returns-2 c =
+    let start = c .before .before .before .before .before in
+    let at-loop = c .before .before in
+    told-refused _ LineCount _ (progress-more (start .args .n) (start .args .m) (start .args .text .now) (start .args .at)
+    (at-loop .loop .bits) (at-loop .loop .next) (at-loop .loop .k) (start .pre .0) (at-loop .loop .inv) (c .before .loop-test .left)
+    (c .if1 .taken))
 
 same-length-3 : tie.Need-same-length-3 Inv-loop μ-loop
-same-length-3 c = ((c .before .before .loop .inv) .held .long) ∙ sym (ap length (c .before .before .before .before .before .pre .1) ∙ length-replicate {A = ℕ} 16384 0)
+same-length-3 c = ((c .before .before .loop .inv) .held .long) ∙ sym
+    (ap length (c .before .before .before .before .before .pre .1) ∙ length-replicate {A = ℕ} 16384 0)
 
 returns-3 : tie.Need-returns-3 Inv-loop μ-loop
-returns-3 c = let d = progress-done (c .before .before .before .before .before .args .n) (c .before .before .before .before .before .args .m) (c .before .before .before .before .before .args .text .now) (c .before .before .before .before .before .args .at) (c .before .before .loop .bits) (c .before .before .loop .next) (c .before .before .loop .k) (c .before .before .before .before .before .pre .0) (c .before .before .loop .inv) (c .before .loop-test .left) (c .if1 .left) in told-taken _ _ _ (d .0) (d .1)
+returns-3 c =
+    let start = c .before .before .before .before .before in
+    let at-loop = c .before .before in
+    let d = progress-done (start .args .n) (start .args .m) (start .args .text .now) (start .args .at) (at-loop .loop .bits)
+    (at-loop .loop .next) (at-loop .loop .k) (start .pre .0) (at-loop .loop .inv) (c .before .loop-test .left) (c .if1 .left)
+    in told-taken _ _ _ (d .0) (d .1)
 
 pub read-links-spec : {M : Type 1} → statement M
 read-links-spec =

@@ -16,46 +16,126 @@ abbrev μ-loop : tie.MeasureT-loop
 μ-loop bits n starts₀ neighbours₀ pos₀ v₀ starts neighbours pos v = n - v
 
 loop-holds : tie.Need-loop-holds Inv-loop μ-loop
-loop-holds c = lists-none (rowsIn ((c .before .before .before .args .bits .now))) ((c .before .before .before .args .n)) ((c .before .before .before .args .starts .now)) ((c .before .before .before .args .neighbours .now)) ((c .before .before .before .pre .0 .2)) ((c .before .before .before .pre .1 .0))
+loop-holds c =
+    let start = c .before .before .before in
+    lists-none (rowsIn (start .args .bits .now)) (start .args .n) (start .args .starts .now) (start .args .neighbours .now)
+    (start .pre .0 .2) (start .pre .1 .0)
 
 cast-starts : tie.Need-cast-starts Inv-loop μ-loop
-cast-starts c = omega (arith, position (rowsIn ((c .before .before .before .before .before .args .bits .now))) ((c .before .before .before .before .before .args .n)) ((c .before .before .before .before .before .args .starts .now)) ((c .before .before .before .before .before .args .neighbours .now)) ((c .before .before .before .before .before .pre .0 .2)) ((c .before .before .before .before .before .pre .1 .0)) ((c .before .loop .starts)) ((c .before .loop .neighbours)) ((c .before .loop .pos)) ((c .before .loop .v)) ((c .before .loop .inv)) .1, (c .before .before .before .before .before .pre .1 .1))
+cast-starts c =
+    let start = c .before .before .before .before .before in
+    let at-loop = c .before in
+    omega (
+      arith,
+      position (rowsIn (start .args .bits .now)) (start .args .n) (start .args .starts .now) (start .args .neighbours .now)
+          (start .pre .0 .2) (start .pre .1 .0) (at-loop .loop .starts) (at-loop .loop .neighbours) (at-loop .loop .pos) (at-loop .loop .v)
+          (at-loop .loop .inv) .1,
+      (start .pre .1 .1),
+    )
 
 mul-starts : tie.Need-mul-starts Inv-loop μ-loop
-mul-starts c = omega (arith, start-here (rowsIn ((c .before .before .before .before .before .args .bits .now))) ((c .before .before .before .before .before .args .n)) ((c .before .before .before .before .before .args .starts .now)) ((c .before .before .before .before .before .args .neighbours .now)) ((c .before .before .before .before .before .pre .0 .2)) ((c .before .before .before .before .before .pre .1 .0)) ((c .before .loop .starts)) ((c .before .loop .neighbours)) ((c .before .loop .pos)) ((c .before .loop .v)) ((c .before .loop .inv)) .0)
+mul-starts c =
+    let start = c .before .before .before .before .before in
+    let at-loop = c .before in
+    omega (
+      arith,
+      start-here (rowsIn (start .args .bits .now)) (start .args .n) (start .args .starts .now) (start .args .neighbours .now)
+          (start .pre .0 .2) (start .pre .1 .0) (at-loop .loop .starts) (at-loop .loop .neighbours) (at-loop .loop .pos) (at-loop .loop .v)
+          (at-loop .loop .inv) .0,
+    )
 
 slice-write-starts : tie.Need-slice-write-starts Inv-loop μ-loop
-slice-write-starts c = omega (arith, start-here (rowsIn ((c .before .before .before .before .before .args .bits .now))) ((c .before .before .before .before .before .args .n)) ((c .before .before .before .before .before .args .starts .now)) ((c .before .before .before .before .before .args .neighbours .now)) ((c .before .before .before .before .before .pre .0 .2)) ((c .before .before .before .before .before .pre .1 .0)) ((c .before .loop .starts)) ((c .before .loop .neighbours)) ((c .before .loop .pos)) ((c .before .loop .v)) ((c .before .loop .inv)) .0)
+slice-write-starts c =
+    let start = c .before .before .before .before .before in
+    let at-loop = c .before in
+    omega (
+      arith,
+      start-here (rowsIn (start .args .bits .now)) (start .args .n) (start .args .starts .now) (start .args .neighbours .now)
+          (start .pre .0 .2) (start .pre .1 .0) (at-loop .loop .starts) (at-loop .loop .neighbours) (at-loop .loop .pos) (at-loop .loop .v)
+          (at-loop .loop .inv) .0,
+    )
 
 write-row-requires : tie.Need-write-row-requires Inv-loop μ-loop
-write-row-requires c κs = (omega (arith, (c .before .before .before .before .before .before .pre .0 .0), (c .before .loop-test .taken)), (c .before .before .before .before .before .before .pre .0 .1), row-fits (rowsIn ((c .before .before .before .before .before .before .args .bits .now))) ((c .before .before .before .before .before .before .args .n)) ((c .before .before .before .before .before .before .args .starts .now)) ((c .before .before .before .before .before .before .args .neighbours .now)) ((c .before .before .before .before .before .before .pre .0 .2)) ((c .before .before .before .before .before .before .pre .1 .0)) ((c .before .before .loop .starts)) ((c .before .before .loop .neighbours)) ((c .before .before .loop .pos)) ((c .before .before .loop .v)) ((c .before .before .loop .inv)) ((c .before .loop-test .taken)))
+write-row-requires c κs =
+    let start = c .before .before .before .before .before .before in
+    let at-loop = c .before .before in
+    let at-loop-test = c .before in (
+      omega (arith, (start .pre .0 .0), (at-loop-test .loop-test .taken)),
+      (start .pre .0 .1),
+      row-fits (rowsIn (start .args .bits .now))
+          (start .args .n) (start .args .starts .now) (start .args .neighbours .now) (start .pre .0 .2) (start .pre .1 .0)
+          (at-loop .loop .starts) (at-loop .loop .neighbours) (at-loop .loop .pos) (at-loop .loop .v) (at-loop .loop .inv)
+          (at-loop-test .loop-test .taken),
+    )
 
 add-v : tie.Need-add-v Inv-loop μ-loop
-add-v c = omega (arith, (c .before .before .before .before .before .before .before .before .before .pre .0 .0))
+add-v c =
+    let start = c .before .before .before .before .before .before .before .before .before in
+    omega (arith, (start .pre .0 .0))
 
 loop-less : tie.Need-loop-less Inv-loop μ-loop
 loop-less c = omega arith
 
 loop-again : tie.Need-loop-again Inv-loop μ-loop
-loop-again c = lists-more (rowsIn ((c .before .before .before .before .before .before .before .before .before .args .bits .now))) ((c .before .before .before .before .before .before .before .before .before .args .n)) ((c .before .before .before .before .before .before .before .before .before .args .starts .now)) ((c .before .before .before .before .before .before .before .before .before .args .neighbours .now)) ((c .before .before .before .before .before .before .before .before .before .pre .0 .2)) ((c .before .before .before .before .before .before .before .before .before .pre .1 .0)) ((c .before .before .before .before .before .loop .starts)) ((c .before .before .before .before .before .loop .neighbours)) ((c .before .before .before .before .before .loop .pos)) ((c .before .before .before .before .before .loop .v)) ((c .before .before .before .before .before .loop .inv)) ((c .before .before .before .before .loop-test .taken)) ((c .before .before .write-row .last .1 .1 .0)) _ ((c .before .before .write-row .ensures))
+loop-again c =
+    let start = c .before .before .before .before .before .before .before .before .before in
+    let at-loop = c .before .before .before .before .before in
+    let at-write-row = c .before .before in
+    lists-more (rowsIn (start .args .bits .now)) (start .args .n) (start .args .starts .now) (start .args .neighbours .now)
+    (start .pre .0 .2) (start .pre .1 .0) (at-loop .loop .starts) (at-loop .loop .neighbours) (at-loop .loop .pos) (at-loop .loop .v)
+    (at-loop .loop .inv) (c .before .before .before .before .loop-test .taken) (at-write-row .write-row .last .1 .1 .0) _
+    (at-write-row .write-row .ensures)
 
 cast-starts-2 : tie.Need-cast-starts-2 Inv-loop μ-loop
-cast-starts-2 c = omega (arith, position (rowsIn ((c .before .before .before .before .before .args .bits .now))) ((c .before .before .before .before .before .args .n)) ((c .before .before .before .before .before .args .starts .now)) ((c .before .before .before .before .before .args .neighbours .now)) ((c .before .before .before .before .before .pre .0 .2)) ((c .before .before .before .before .before .pre .1 .0)) ((c .before .loop .starts)) ((c .before .loop .neighbours)) ((c .before .loop .pos)) ((c .before .loop .v)) ((c .before .loop .inv)) .1, (c .before .before .before .before .before .pre .1 .1))
+cast-starts-2 c =
+    let start = c .before .before .before .before .before in
+    let at-loop = c .before in
+    omega (
+      arith,
+      position (rowsIn (start .args .bits .now)) (start .args .n) (start .args .starts .now) (start .args .neighbours .now)
+          (start .pre .0 .2) (start .pre .1 .0) (at-loop .loop .starts) (at-loop .loop .neighbours) (at-loop .loop .pos) (at-loop .loop .v)
+          (at-loop .loop .inv) .1,
+      (start .pre .1 .1),
+    )
 
 mul-starts-2 : tie.Need-mul-starts-2 Inv-loop μ-loop
 mul-starts-2 c = omega (arith, (c .before .before .before .before .before .pre .0 .0))
 
 slice-write-starts-2 : tie.Need-slice-write-starts-2 Inv-loop μ-loop
-slice-write-starts-2 c = omega (arith, start-here (rowsIn ((c .before .before .before .before .before .args .bits .now))) ((c .before .before .before .before .before .args .n)) ((c .before .before .before .before .before .args .starts .now)) ((c .before .before .before .before .before .args .neighbours .now)) ((c .before .before .before .before .before .pre .0 .2)) ((c .before .before .before .before .before .pre .1 .0)) ((c .before .loop .starts)) ((c .before .loop .neighbours)) ((c .before .loop .pos)) ((c .before .loop .v)) ((c .before .loop .inv)) .1, (c .before .before .before .before .before .pre .0 .2))
+slice-write-starts-2 c =
+    let start = c .before .before .before .before .before in
+    let at-loop = c .before in
+    omega (
+      arith,
+      start-here (rowsIn (start .args .bits .now)) (start .args .n) (start .args .starts .now) (start .args .neighbours .now)
+          (start .pre .0 .2) (start .pre .1 .0) (at-loop .loop .starts) (at-loop .loop .neighbours) (at-loop .loop .pos) (at-loop .loop .v)
+          (at-loop .loop .inv) .1,
+      (start .pre .0 .2),
+    )
 
 same-length : tie.Need-same-length Inv-loop μ-loop
-same-length c = length-set (c .before .loop .starts) _ _ ∙ start-here (rowsIn ((c .before .before .before .before .before .args .bits .now))) ((c .before .before .before .before .before .args .n)) ((c .before .before .before .before .before .args .starts .now)) ((c .before .before .before .before .before .args .neighbours .now)) ((c .before .before .before .before .before .pre .0 .2)) ((c .before .before .before .before .before .pre .1 .0)) ((c .before .loop .starts)) ((c .before .loop .neighbours)) ((c .before .loop .pos)) ((c .before .loop .v)) ((c .before .loop .inv)) .1
+same-length c =
+    let start = c .before .before .before .before .before in
+    let at-loop = c .before in
+    length-set (at-loop .loop .starts) _ _ ∙ start-here (rowsIn (start .args .bits .now)) (start .args .n) (start .args .starts .now)
+    (start .args .neighbours .now) (start .pre .0 .2) (start .pre .1 .0) (at-loop .loop .starts) (at-loop .loop .neighbours)
+    (at-loop .loop .pos) (at-loop .loop .v) (at-loop .loop .inv) .1
 
 same-length-2 : tie.Need-same-length-2 Inv-loop μ-loop
-same-length-2 c = lists-long (rowsIn ((c .before .before .before .before .before .args .bits .now))) ((c .before .before .before .before .before .args .n)) ((c .before .before .before .before .before .args .starts .now)) ((c .before .before .before .before .before .args .neighbours .now)) ((c .before .before .before .before .before .pre .0 .2)) ((c .before .before .before .before .before .pre .1 .0)) ((c .before .loop .starts)) ((c .before .loop .neighbours)) ((c .before .loop .pos)) ((c .before .loop .v)) ((c .before .loop .inv))
+same-length-2 c =
+    let start = c .before .before .before .before .before in
+    let at-loop = c .before in
+    lists-long (rowsIn (start .args .bits .now)) (start .args .n) (start .args .starts .now) (start .args .neighbours .now)
+    (start .pre .0 .2) (start .pre .1 .0) (at-loop .loop .starts) (at-loop .loop .neighbours) (at-loop .loop .pos) (at-loop .loop .v)
+    (at-loop .loop .inv)
 
 returns : tie.Need-returns Inv-loop μ-loop
-returns c = lists-done (rowsIn ((c .before .before .before .before .before .args .bits .now))) ((c .before .before .before .before .before .args .n)) ((c .before .before .before .before .before .args .starts .now)) ((c .before .before .before .before .before .args .neighbours .now)) ((c .before .before .before .before .before .pre .0 .2)) ((c .before .before .before .before .before .pre .1 .0)) ((c .before .loop .starts)) ((c .before .loop .neighbours)) ((c .before .loop .pos)) ((c .before .loop .v)) ((c .before .loop .inv)) (omega (arith, (c .loop-test .left), (c .before .loop .inv .within)))
+returns c =
+    let start = c .before .before .before .before .before in
+    let at-loop = c .before in
+    lists-done (rowsIn (start .args .bits .now)) (start .args .n) (start .args .starts .now) (start .args .neighbours .now)
+    (start .pre .0 .2) (start .pre .1 .0) (at-loop .loop .starts) (at-loop .loop .neighbours) (at-loop .loop .pos) (at-loop .loop .v)
+    (at-loop .loop .inv) (omega (arith, (c .loop-test .left), (at-loop .loop .inv .within)))
 
 pub write-lists-spec : {M : Type 1} → statement M
 write-lists-spec =

@@ -14,7 +14,9 @@ abbrev μ-loop : tie.MeasureT-loop
 μ-loop bits v neighbours₀ at pos₀ w₀ neighbours pos w = 16 - w
 
 loop-holds : tie.Need-loop-holds Inv-loop μ-loop
-loop-holds c = (omega arith, row-none ((c .before .before .args .bits .now)) ((c .before .before .args .v)) ((c .before .before .args .neighbours .now)) ((c .before .before .args .at)))
+loop-holds c =
+    let start = c .before .before in
+    (omega arith, row-none (start .args .bits .now) (start .args .v) (start .args .neighbours .now) (start .args .at))
 
 mul-word : tie.Need-mul-word Inv-loop μ-loop
 mul-word c = omega (arith, (c .before .before .before .before .pre .0))
@@ -23,16 +25,27 @@ add-word : tie.Need-add-word Inv-loop μ-loop
 add-word c = omega (arith, (c .before .before .before .before .pre .0))
 
 mul-word-2 : tie.Need-mul-word-2 Inv-loop μ-loop
-mul-word-2 c = omega (arith, (c .before .before .before .before .pre .0), (c .before .before .before .before .pre .1))
+mul-word-2 c =
+    let start = c .before .before .before .before in
+    omega (arith, (start .pre .0), (start .pre .1))
 
 shared-slice-read-word : tie.Need-shared-slice-read-word Inv-loop μ-loop
-shared-slice-read-word c = omega (arith, (c .before .before .before .before .before .pre .0), (c .before .before .before .before .before .pre .1))
+shared-slice-read-word c =
+    let start = c .before .before .before .before .before in
+    omega (arith, (start .pre .0), (start .pre .1))
 
 mul-write-word : tie.Need-mul-write-word Inv-loop μ-loop
 mul-write-word c = omega arith
 
 write-word-requires : tie.Need-write-word-requires Inv-loop μ-loop
-write-word-requires c κs = (omega arith, word-fits ((c .before .before .before .before .before .before .args .bits .now)) ((c .before .before .before .before .before .before .args .v)) ((c .before .before .before .loop .w)) ((c .before .before .loop-test .taken)) ((c .before .before .before .before .before .before .args .neighbours .now)) ((c .before .before .before .loop .neighbours)) ((c .before .before .before .before .before .before .args .at)) ((c .before .before .before .loop .pos)) ((c .before .before .before .before .before .before .pre .2)) ((c .before .before .before .loop .inv .1)))
+write-word-requires c κs =
+    let start = c .before .before .before .before .before .before in
+    let at-loop = c .before .before .before in (
+      omega arith,
+      word-fits (start .args .bits .now) (start .args .v) (at-loop .loop .w) (c .before .before .loop-test .taken)
+          (start .args .neighbours .now) (at-loop .loop .neighbours) (start .args .at) (at-loop .loop .pos) (start .pre .2)
+          (at-loop .loop .inv .1),
+    )
 
 add-w : tie.Need-add-w Inv-loop μ-loop
 add-w c = omega arith
@@ -41,13 +54,30 @@ loop-less : tie.Need-loop-less Inv-loop μ-loop
 loop-less c = omega arith
 
 loop-again : tie.Need-loop-again Inv-loop μ-loop
-loop-again c = (omega arith, word-more ((c .before .before .before .before .before .before .before .before .before .args .bits .now)) ((c .before .before .before .before .before .before .before .before .before .args .v)) ((c .before .before .before .before .before .before .loop .w)) ((c .before .before .before .before .before .loop-test .taken)) ((c .before .before .before .before .before .before .before .before .before .args .neighbours .now)) ((c .before .before .before .before .before .before .loop .neighbours)) ((c .before .before .before .before .before .before .before .before .before .args .at)) ((c .before .before .before .before .before .before .loop .pos)) ((c .before .before .before .before .before .before .before .before .before .pre .2)) ((c .before .before .before .before .before .before .loop .inv .1)) ((c .before .before .write-word .last .1 .1 .0)) _ ((c .before .before .write-word .ensures)))
+loop-again c =
+    let start = c .before .before .before .before .before .before .before .before .before in
+    let at-loop = c .before .before .before .before .before .before in
+    let at-write-word = c .before .before in (
+      omega arith,
+      word-more (start .args .bits .now) (start .args .v) (at-loop .loop .w)
+          (c .before .before .before .before .before .loop-test .taken) (start .args .neighbours .now) (at-loop .loop .neighbours)
+          (start .args .at) (at-loop .loop .pos) (start .pre .2) (at-loop .loop .inv .1) (at-write-word .write-word .last .1 .1 .0) _
+          (at-write-word .write-word .ensures),
+    )
 
 same-length : tie.Need-same-length Inv-loop μ-loop
-same-length c = row-long ((c .before .before .before .before .args .bits .now)) ((c .before .before .before .before .args .v)) ((c .before .before .before .before .args .neighbours .now)) ((c .before .before .before .before .args .at)) ((c .before .loop .w)) ((c .before .loop .neighbours)) ((c .before .loop .pos)) ((c .before .loop .inv .0)) ((c .before .before .before .before .pre .2)) ((c .before .loop .inv .1))
+same-length c =
+    let start = c .before .before .before .before in
+    let at-loop = c .before in
+    row-long (start .args .bits .now) (start .args .v) (start .args .neighbours .now) (start .args .at) (at-loop .loop .w)
+    (at-loop .loop .neighbours) (at-loop .loop .pos) (at-loop .loop .inv .0) (start .pre .2) (at-loop .loop .inv .1)
 
 returns : tie.Need-returns Inv-loop μ-loop
-returns c = row-whole ((c .before .before .before .before .args .bits .now)) ((c .before .before .before .before .args .v)) ((c .before .before .before .before .args .neighbours .now)) ((c .before .before .before .before .args .at)) ((c .before .loop .w)) ((c .before .loop .neighbours)) ((c .before .loop .pos)) ((c .before .loop .inv .0)) ((c .loop-test .left)) ((c .before .loop .inv .1))
+returns c =
+    let start = c .before .before .before .before in
+    let at-loop = c .before in
+    row-whole (start .args .bits .now) (start .args .v) (start .args .neighbours .now) (start .args .at) (at-loop .loop .w)
+    (at-loop .loop .neighbours) (at-loop .loop .pos) (at-loop .loop .inv .0) (c .loop-test .left) (at-loop .loop .inv .1)
 
 pub write-row-spec : {M : Type 1} → statement M
 write-row-spec =

@@ -21,19 +21,37 @@ cast-u : tie.Need-cast-u Inv-loop μ-loop
 cast-u c = omega (arith, (low _ _ _ _ _ _ _ (c .before .before .pre .1) (c .before .loop .inv) (omega arith)) .below)
 
 add-u : tie.Need-add-u Inv-loop μ-loop
-add-u c = omega (arith, (low _ _ _ _ _ _ _ (c .before .before .pre .1) (c .before .loop .inv) (omega arith)) .below, (c .before .before .pre .0))
+add-u c =
+    let start = c .before .before in
+    omega (arith, (low _ _ _ _ _ _ _ (start .pre .1) (c .before .loop .inv) (omega arith)) .below, (start .pre .0))
 
 cast-neighbours : tie.Need-cast-neighbours Inv-loop μ-loop
-cast-neighbours c = omega (arith, (low _ _ _ _ _ _ _ (c .before .before .pre .1) (c .before .loop .inv) (omega arith)) .below, (c .before .before .pre .0))
+cast-neighbours c =
+    let start = c .before .before in
+    omega (arith, (low _ _ _ _ _ _ _ (start .pre .1) (c .before .loop .inv) (omega arith)) .below, (start .pre .0))
 
 mul-neighbours : tie.Need-mul-neighbours Inv-loop μ-loop
-mul-neighbours c = omega (arith, (some-here _ _ _ _ _ _ _ (c .before .before .pre .1) (c .before .loop .inv) (omega arith)), (some-long _ _ _ _ _ _ _ (c .before .before .pre .1) (c .before .loop .inv)))
+mul-neighbours c =
+    let start = c .before .before in
+    let at-loop = c .before in
+    omega (
+      arith,
+      (some-here _ _ _ _ _ _ _ (start .pre .1) (at-loop .loop .inv) (omega arith)),
+      (some-long _ _ _ _ _ _ _ (start .pre .1) (at-loop .loop .inv)),
+    )
 
 slice-write-neighbours : tie.Need-slice-write-neighbours Inv-loop μ-loop
 slice-write-neighbours c = omega (arith, (some-here _ _ _ _ _ _ _ (c .before .before .pre .1) (c .before .loop .inv) (omega arith)))
 
 add-pos : tie.Need-add-pos Inv-loop μ-loop
-add-pos c = omega (arith, (some-here _ _ _ _ _ _ _ (c .before .before .pre .1) (c .before .loop .inv) (omega arith)), (some-long _ _ _ _ _ _ _ (c .before .before .pre .1) (c .before .loop .inv)))
+add-pos c =
+    let start = c .before .before in
+    let at-loop = c .before in
+    omega (
+      arith,
+      (some-here _ _ _ _ _ _ _ (start .pre .1) (at-loop .loop .inv) (omega arith)),
+      (some-long _ _ _ _ _ _ _ (start .pre .1) (at-loop .loop .inv)),
+    )
 
 cast-left : tie.Need-cast-left Inv-loop μ-loop
 cast-left c = omega (arith, (low _ _ _ _ _ _ _ (c .before .before .pre .1) (c .before .loop .inv) (omega arith)) .below)
@@ -42,13 +60,30 @@ shl-left : tie.Need-shl-left Inv-loop μ-loop
 shl-left c = (low _ _ _ _ _ _ _ (c .before .before .pre .1) (c .before .loop .inv) (omega arith)) .below
 
 sub-left : tie.Need-sub-left Inv-loop μ-loop
-sub-left c = rw (shifted (trailingZeros 64 (c .before .loop .left)) ((low _ _ _ _ _ _ _ (c .before .before .pre .1) (c .before .loop .inv) (omega arith)) .below)) ((low _ _ _ _ _ _ _ (c .before .before .pre .1) (c .before .loop .inv) (omega arith)) .holds)
+sub-left c =
+    let start = c .before .before in
+    let at-loop = c .before in
+    rw (shifted (trailingZeros 64 (at-loop .loop .left)) ((low _ _ _ _ _ _ _ (start .pre .1) (at-loop .loop .inv) (omega arith)) .below))
+    ((low _ _ _ _ _ _ _ (start .pre .1) (at-loop .loop .inv) (omega arith)) .holds)
 
 loop-less : tie.Need-loop-less Inv-loop μ-loop
-loop-less c = rw (shifted (trailingZeros 64 (c .before .loop .left)) ((low _ _ _ _ _ _ _ (c .before .before .pre .1) (c .before .loop .inv) (omega arith)) .below)) (omega (arith, (low _ _ _ _ _ _ _ (c .before .before .pre .1) (c .before .loop .inv) (omega arith)) .holds, pow-pos (trailingZeros 64 (c .before .loop .left))))
+loop-less c =
+    let start = c .before .before in
+    let at-loop = c .before in
+    rw (shifted (trailingZeros 64 (at-loop .loop .left)) ((low _ _ _ _ _ _ _ (start .pre .1) (at-loop .loop .inv) (omega arith)) .below))
+    (omega (
+      arith,
+      (low _ _ _ _ _ _ _ (start .pre .1) (at-loop .loop .inv) (omega arith)) .holds,
+      pow-pos
+          (trailingZeros 64 (at-loop .loop .left)),
+    ))
 
 loop-again : tie.Need-loop-again Inv-loop μ-loop
-loop-again c = rw (shifted (trailingZeros 64 (c .before .loop .left)) ((low _ _ _ _ _ _ _ (c .before .before .pre .1) (c .before .loop .inv) (omega arith)) .below)) (some-more _ _ _ _ _ _ _ (c .before .before .pre .1) (c .before .loop .inv) (omega arith))
+loop-again c =
+    let start = c .before .before in
+    let at-loop = c .before in
+    rw (shifted (trailingZeros 64 (at-loop .loop .left)) ((low _ _ _ _ _ _ _ (start .pre .1) (at-loop .loop .inv) (omega arith)) .below))
+    (some-more _ _ _ _ _ _ _ (start .pre .1) (at-loop .loop .inv) (omega arith))
 
 same-length : tie.Need-same-length Inv-loop μ-loop
 same-length c = (some-long _ _ _ _ _ _ _ (c .before .before .pre .1) (c .before .loop .inv))

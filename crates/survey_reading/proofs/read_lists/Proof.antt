@@ -28,10 +28,29 @@ slice-aggregate-write-lists : tie.Need-slice-aggregate-write-lists
 slice-aggregate-write-lists c = search needs
 
 write-lists-requires : tie.Need-write-lists-requires
-write-lists-requires c κs = let d = (links-taken ((c .before .before .before .before .before .before .before .before .before .before .before .args .n)) ((c .before .before .before .before .before .before .before .before .before .before .before .args .m)) (length ((c .before .before .before .before .before .before .before .before .before .before .before .args .starts .now))) (length ((c .before .before .before .before .before .before .before .before .before .before .before .args .neighbours .now))) (drop ((c .before .before .before .before .before .before .before .before .before .before .before .args .at)) ((c .before .before .before .before .before .before .before .before .before .before .before .args .text .now))) ((c .before .before .before .before .before .before .read-links .last .1 .1 .1 .1 .0)) ((c .before .before .before .before .before .before .before .before .before .before .before .pre .0 .0)) (subst (λ (r : Links). Told (readLinks ((c .before .before .before .before .before .before .before .before .before .before .before .args .n)) ((c .before .before .before .before .before .before .before .before .before .before .before .args .m)) [] (drop ((c .before .before .before .before .before .before .before .before .before .before .before .args .at)) ((c .before .before .before .before .before .before .before .before .before .before .before .args .text .now)))) r ((c .before .before .before .before .before .before .read-links .last .1 .1 .1 .1 .0))) ((c .before .before .before .enum-told .given .1)) ((c .before .before .before .before .before .before .read-links .ensures)))) in (((c .before .before .before .before .before .before .before .before .before .before .before .pre .0 .0), d .long, (c .before .before .before .before .before .before .before .before .before .before .before .pre .0 .2)), (omega (arith, d .few, (c .before .before .before .before .before .before .before .before .before .before .before .pre .0 .3)), omega (arith, d .few, (c .before .before .before .before .before .before .before .before .before .before .before .pre .0 .1))))
+write-lists-requires c κs =
+    let start = c .before .before .before .before .before .before .before .before .before .before .before in
+    let at-read-links = c .before .before .before .before .before .before in
+    let d = (links-taken (start .args .n) (start .args .m) (length (start .args .starts .now)) (length (start .args .neighbours .now))
+    (drop (start .args .at) (start .args .text .now)) (at-read-links .read-links .last .1 .1 .1 .1 .0) (start .pre .0 .0)
+    (subst (λ (r : Links). Told (readLinks (start .args .n) (start .args .m) [] (drop (start .args .at) (start .args .text .now))) r
+    (at-read-links .read-links .last .1 .1 .1 .1 .0)) (c .before .before .before .enum-told .given .1)
+    (at-read-links .read-links .ensures))) in (
+      ((start .pre .0 .0), d .long, (start .pre .0 .2)),
+      (omega (arith, d .few, (start .pre .0 .3)), omega (arith, d .few, (start .pre .0 .1))),
+    )
 
 returns : tie.Need-returns
-returns c = read-refused (length ((c .before .before .before .before .before .before .before .before .before .args .starts .now))) (length ((c .before .before .before .before .before .before .before .before .before .args .neighbours .now))) ((c .before .r .given .0 .0)) ((c .before .before .before .before .before .before .before .before .before .args .starts .now)) ((c .before .before .before .before .before .before .before .before .before .args .neighbours .now)) ((c .before .before .before .before .before .before .before .before .before .pre .1 .0)) ((c .before .before .before .before .before .before .before .before .before .pre .1 .1)) ∙ links-refused ((c .before .before .before .before .before .before .before .before .before .args .n)) ((c .before .before .before .before .before .before .before .before .before .args .m)) (length ((c .before .before .before .before .before .before .before .before .before .args .starts .now))) (length ((c .before .before .before .before .before .before .before .before .before .args .neighbours .now))) (drop ((c .before .before .before .before .before .before .before .before .before .args .at)) ((c .before .before .before .before .before .before .before .before .before .args .text .now))) ((c .before .before .before .before .read-links .last .1 .1 .1 .1 .0)) ((c .before .r .given .0 .0)) (subst (λ (r : Links). Told (readLinks ((c .before .before .before .before .before .before .before .before .before .args .n)) ((c .before .before .before .before .before .before .before .before .before .args .m)) [] (drop ((c .before .before .before .before .before .before .before .before .before .args .at)) ((c .before .before .before .before .before .before .before .before .before .args .text .now)))) r ((c .before .before .before .before .read-links .last .1 .1 .1 .1 .0))) ((c .before .r .given .1)) ((c .before .before .before .before .read-links .ensures)))
+returns c =
+    let start = c .before .before .before .before .before .before .before .before .before in
+    let at-read-links = c .before .before .before .before in
+    let at-r = c .before in
+    read-refused (length (start .args .starts .now)) (length (start .args .neighbours .now)) (at-r .r .given .0 .0)
+    (start .args .starts .now) (start .args .neighbours .now) (start .pre .1 .0) (start .pre .1 .1) ∙ links-refused (start .args .n)
+    (start .args .m) (length (start .args .starts .now)) (length (start .args .neighbours .now))
+    (drop (start .args .at) (start .args .text .now)) (at-read-links .read-links .last .1 .1 .1 .1 .0) (at-r .r .given .0 .0)
+    (subst (λ (r : Links). Told (readLinks (start .args .n) (start .args .m) [] (drop (start .args .at) (start .args .text .now))) r
+    (at-read-links .read-links .last .1 .1 .1 .1 .0)) (at-r .r .given .1) (at-read-links .read-links .ensures))
 
 same-length : tie.Need-same-length
 same-length c = search needs
@@ -40,7 +59,20 @@ same-length-2 : tie.Need-same-length-2
 same-length-2 c = search needs
 
 returns-2 : tie.Need-returns-2
-returns-2 c = read-written ((c .before .before .before .before .before .before .before .before .before .before .before .before .before .before .before .before .args .n)) ((c .before .before .before .before .before .before .before .before .before .before .before .before .before .before .before .before .args .m)) (length ((c .before .before .before .before .before .before .before .before .before .before .before .before .before .before .before .before .args .starts .now))) (length ((c .before .before .before .before .before .before .before .before .before .before .before .before .before .before .before .before .args .neighbours .now))) (drop ((c .before .before .before .before .before .before .before .before .before .before .before .before .before .before .before .before .args .at)) ((c .before .before .before .before .before .before .before .before .before .before .before .before .before .before .before .before .args .text .now))) ((c .before .before .before .before .before .before .before .before .before .before .before .read-links .last .1 .1 .1 .1 .0)) (links-taken ((c .before .before .before .before .before .before .before .before .before .before .before .before .before .before .before .before .args .n)) ((c .before .before .before .before .before .before .before .before .before .before .before .before .before .before .before .before .args .m)) (length ((c .before .before .before .before .before .before .before .before .before .before .before .before .before .before .before .before .args .starts .now))) (length ((c .before .before .before .before .before .before .before .before .before .before .before .before .before .before .before .before .args .neighbours .now))) (drop ((c .before .before .before .before .before .before .before .before .before .before .before .before .before .before .before .before .args .at)) ((c .before .before .before .before .before .before .before .before .before .before .before .before .before .before .before .before .args .text .now))) ((c .before .before .before .before .before .before .before .before .before .before .before .read-links .last .1 .1 .1 .1 .0)) ((c .before .before .before .before .before .before .before .before .before .before .before .before .before .before .before .before .pre .0 .0)) (subst (λ (r : Links). Told (readLinks ((c .before .before .before .before .before .before .before .before .before .before .before .before .before .before .before .before .args .n)) ((c .before .before .before .before .before .before .before .before .before .before .before .before .before .before .before .before .args .m)) [] (drop ((c .before .before .before .before .before .before .before .before .before .before .before .before .before .before .before .before .args .at)) ((c .before .before .before .before .before .before .before .before .before .before .before .before .before .before .before .before .args .text .now)))) r ((c .before .before .before .before .before .before .before .before .before .before .before .read-links .last .1 .1 .1 .1 .0))) ((c .before .before .before .before .before .before .before .before .enum-told .given .1)) ((c .before .before .before .before .before .before .before .before .before .before .before .read-links .ensures)))) ((c .before .before .before .before .before .before .before .before .before .before .before .before .before .before .before .before .args .starts .now)) ((c .before .before .before .before .before .before .before .before .before .before .before .before .before .before .before .before .args .neighbours .now)) ((c .before .before .before .before .write-lists .last .1 .1 .0)) ((c .before .before .before .before .write-lists .last .1 .1 .1 .0)) ((c .before .before .before .before .before .before .before .before .before .before .before .before .before .before .before .before .pre .1 .0)) ((c .before .before .before .before .before .before .before .before .before .before .before .before .before .before .before .before .pre .1 .1)) ((c .before .before .before .before .write-lists .ensures .0)) ((c .before .before .before .before .write-lists .ensures .1))
+returns-2 c =
+    let start = c .before .before .before .before .before .before .before .before .before .before .before .before .before .before .before .before in
+    let at-read-links = c .before .before .before .before .before .before .before .before .before .before .before in
+    let at-enum-told = c .before .before .before .before .before .before .before .before in
+    let at-write-lists = c .before .before .before .before in
+    read-written (start .args .n) (start .args .m) (length (start .args .starts .now)) (length (start .args .neighbours .now))
+    (drop (start .args .at) (start .args .text .now)) (at-read-links .read-links .last .1 .1 .1 .1 .0)
+    (links-taken (start .args .n) (start .args .m) (length (start .args .starts .now)) (length (start .args .neighbours .now))
+    (drop (start .args .at) (start .args .text .now)) (at-read-links .read-links .last .1 .1 .1 .1 .0) (start .pre .0 .0)
+    (subst (λ (r : Links). Told (readLinks (start .args .n) (start .args .m) [] (drop (start .args .at) (start .args .text .now))) r
+    (at-read-links .read-links .last .1 .1 .1 .1 .0)) (at-enum-told .enum-told .given .1) (at-read-links .read-links .ensures)))
+    (start .args .starts .now) (start .args .neighbours .now) (at-write-lists .write-lists .last .1 .1 .0)
+    (at-write-lists .write-lists .last .1 .1 .1 .0) (start .pre .1 .0) (start .pre .1 .1) (at-write-lists .write-lists .ensures .0)
+    (at-write-lists .write-lists .ensures .1)
 
 pub read-lists-spec : {M : Type 1} → statement M
 read-lists-spec =

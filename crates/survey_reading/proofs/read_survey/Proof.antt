@@ -16,7 +16,10 @@ same-length-2 : tie.Need-same-length-2
 same-length-2 c = search needs
 
 returns : tie.Need-returns
-returns c = read-is ((c .before .before .before .before .before .before .before .before .before .before .args .text .now)) (length ((c .before .before .before .before .before .before .before .before .before .before .args .starts .now))) (length ((c .before .before .before .before .before .before .before .before .before .before .args .neighbours .now))) _ ((c .before .before .before .before .read-within .ensures))
+returns c =
+    let start = c .before .before .before .before .before .before .before .before .before .before in
+    read-is (start .args .text .now) (length (start .args .starts .now)) (length (start .args .neighbours .now)) _
+    (c .before .before .before .before .read-within .ensures)
 
 pub read-survey-spec : {M : Type 1} → statement M
 read-survey-spec = tie.close (tie.spec read-within-requires same-length same-length-2 returns)

@@ -26,7 +26,22 @@ enum-known-n : tie.Need-enum-known-n
 enum-known-n c = search needs
 
 read-lists-requires : tie.Need-read-lists-requires
-read-lists-requires c κs = let w = counts-within ((c .before .before .before .before .before .before .before .before .before .before .before .before .before .before .before .before .before .args .most-nodes)) ((c .before .before .before .before .before .before .before .before .before .before .before .before .before .before .before .before .before .args .most-links)) (length ((c .before .before .before .before .before .before .before .before .before .before .before .before .fill32 .last .0))) (length ((c .before .before .before .before .before .before .before .before .fill16 .last .0))) ((c .before .before .before .before .before .before .before .before .before .before .before .before .before .before .before .before .before .args .text .now)) _ _ _ (sym (sym (ap (lineAnswer ((c .before .before .before .before .before .before .before .before .before .before .before .before .before .before .before .before .before .args .text .now))) ((c .before .before .before .n .given .1))) ∙ ((c .before .before .before .before .before .first-line .ensures)))) in ((omega (arith, w .size, (c .before .before .before .before .before .before .before .before .before .before .before .before .before .before .before .before .before .pre .0)), omega (arith, w .few, (c .before .before .before .before .before .before .before .before .before .before .before .before .before .before .before .before .before .pre .1)), w .room, w .list-room), (filled-own 0 (length (c .before .before .before .before .before .before .before .before .before .before .before .before .before .before .before .before .before .args .starts .now)) (c .before .before .before .before .before .before .before .before .before .before .before .before .fill32 .ensures), filled-own 0 (length (c .before .before .before .before .before .before .before .before .before .before .before .before .before .before .before .before .before .args .neighbours .now)) (c .before .before .before .before .before .before .before .before .fill16 .ensures)))
+read-lists-requires c κs =
+    let start = c .before .before .before .before .before .before .before .before .before .before .before .before .before .before .before .before .before in
+    let at-fill32 = c .before .before .before .before .before .before .before .before .before .before .before .before in
+    let at-fill16 = c .before .before .before .before .before .before .before .before in
+    let w = counts-within (start .args .most-nodes) (start .args .most-links) (length (at-fill32 .fill32 .last .0))
+    (length (at-fill16 .fill16 .last .0)) (start .args .text .now) _ _ _
+    (sym (sym (ap (lineAnswer (start .args .text .now)) (c .before .before .before .n .given .1)) ∙
+    (c .before .before .before .before .before .first-line .ensures)))
+    in (
+      (omega (arith, w .size, (start .pre .0)), omega (arith, w .few, (start .pre .1)), w .room, w .list-room),
+      (
+        filled-own 0 (length (start .args .starts .now)) (at-fill32 .fill32 .ensures),
+        filled-own 0
+            (length (start .args .neighbours .now)) (at-fill16 .fill16 .ensures),
+      ),
+    )
 
 same-length : tie.Need-same-length
 same-length c = search needs
@@ -35,7 +50,15 @@ same-length-2 : tie.Need-same-length-2
 same-length-2 c = search needs
 
 returns : tie.Need-returns
-returns c = first-refused ((c .before .before .before .before .before .before .before .before .before .before .before .before .before .before .before .args .most-nodes)) ((c .before .before .before .before .before .before .before .before .before .before .before .before .before .before .before .args .most-links)) ((c .before .before .before .before .before .before .before .before .before .before .before .before .before .before .before .args .text .now)) ((c .before .before .before .before .before .before .before .before .before .before .before .before .before .before .before .args .starts .now)) ((c .before .before .before .before .before .before .before .before .before .before .before .before .before .before .before .args .neighbours .now)) ((c .before .before .before .before .before .before .before .before .before .before .fill32 .last .0)) ((c .before .before .before .before .before .before .fill16 .last .0)) ((c .before .before .before .before .before .before .before .before .before .before .fill32 .ensures)) ((c .before .before .before .before .before .before .fill16 .ensures)) ((c .before .r .given .0 .0)) (sym (ap (lineAnswer ((c .before .before .before .before .before .before .before .before .before .before .before .before .before .before .before .args .text .now))) ((c .before .r .given .1))) ∙ ((c .before .before .before .first-line .ensures)))
+returns c =
+    let start = c .before .before .before .before .before .before .before .before .before .before .before .before .before .before .before in
+    let at-fill32 = c .before .before .before .before .before .before .before .before .before .before in
+    let at-fill16 = c .before .before .before .before .before .before in
+    let at-r = c .before in
+    first-refused (start .args .most-nodes) (start .args .most-links) (start .args .text .now) (start .args .starts .now)
+    (start .args .neighbours .now) (at-fill32 .fill32 .last .0) (at-fill16 .fill16 .last .0) (at-fill32 .fill32 .ensures)
+    (at-fill16 .fill16 .ensures) (at-r .r .given .0 .0)
+    (sym (ap (lineAnswer (start .args .text .now)) (at-r .r .given .1)) ∙ (c .before .before .before .first-line .ensures))
 
 same-length-3 : tie.Need-same-length-3
 same-length-3 c = search needs
@@ -44,7 +67,16 @@ same-length-4 : tie.Need-same-length-4
 same-length-4 c = search needs
 
 returns-2 : tie.Need-returns-2
-returns-2 c = first-read ((c .before .before .before .before .before .before .before .before .before .before .before .before .before .before .before .before .before .before .before .before .before .before .args .most-nodes)) ((c .before .before .before .before .before .before .before .before .before .before .before .before .before .before .before .before .before .before .before .before .before .before .args .most-links)) ((c .before .before .before .before .before .before .before .before .before .before .before .before .before .before .before .before .before .before .before .before .before .before .args .text .now)) ((c .before .before .before .before .before .before .before .before .before .before .before .before .before .before .before .before .before .before .before .before .before .before .args .starts .now)) ((c .before .before .before .before .before .before .before .before .before .before .before .before .before .before .before .before .before .before .before .before .before .before .args .neighbours .now)) ((c .before .before .before .before .before .before .before .before .before .before .before .before .before .before .before .before .before .fill32 .last .0)) ((c .before .before .before .before .before .before .before .before .before .before .before .before .before .fill16 .last .0)) ((c .before .before .before .before .before .before .before .before .before .before .before .before .before .before .before .before .before .fill32 .ensures)) ((c .before .before .before .before .before .before .before .before .before .before .before .before .before .fill16 .ensures)) _ _ _ (sym (ap (lineAnswer ((c .before .before .before .before .before .before .before .before .before .before .before .before .before .before .before .before .before .before .before .before .before .before .args .text .now))) ((c .before .before .before .before .before .before .before .before .n .given .1))) ∙ ((c .before .before .before .before .before .before .before .before .before .before .first-line .ensures))) _ ((c .before .before .before .before .read-lists .ensures))
+returns-2 c =
+    let start = c .before .before .before .before .before .before .before .before .before .before .before .before .before .before .before .before .before .before .before .before .before .before in
+    let at-fill32 = c .before .before .before .before .before .before .before .before .before .before .before .before .before .before .before .before .before in
+    let at-fill16 = c .before .before .before .before .before .before .before .before .before .before .before .before .before in
+    let at-first-line = c .before .before .before .before .before .before .before .before .before .before in
+    let at-n = c .before .before .before .before .before .before .before .before in
+    first-read (start .args .most-nodes) (start .args .most-links) (start .args .text .now) (start .args .starts .now)
+    (start .args .neighbours .now) (at-fill32 .fill32 .last .0) (at-fill16 .fill16 .last .0) (at-fill32 .fill32 .ensures)
+    (at-fill16 .fill16 .ensures) _ _ _ (sym (ap (lineAnswer (start .args .text .now)) (at-n .n .given .1)) ∙
+    (at-first-line .first-line .ensures)) _ (c .before .before .before .before .read-lists .ensures)
 
 pub read-within-spec : {M : Type 1} → statement M
 read-within-spec =

@@ -15,10 +15,16 @@ line-length-requires : tie.Need-line-length-requires
 line-length-requires c κs = search needs
 
 returns : tie.Need-returns
-returns c = (((c .line-length .ensures .0)) 76 ∙ ap length (sym (line-taken ((c .before .before .args .a)) ((c .before .before .args .b)) ((c .before .if1 .taken)))), (c .line-length .ensures .1))
+returns c =
+    let start = c .before .before in (
+      (c .line-length .ensures .0) 76 ∙ ap length (sym (line-taken (start .args .a) (start .args .b) (c .before .if1 .taken))),
+      (c .line-length .ensures .1),
+    )
 
 returns-2 : tie.Need-returns-2
-returns-2 c = (ap length (sym (line-left ((c .before .args .a)) ((c .before .args .b)) ((c .if1 .left)))), omega arith)
+returns-2 c =
+    let start = c .before in
+    (ap length (sym (line-left (start .args .a) (start .args .b) (c .if1 .left))), omega arith)
 
 pub link-length-spec : {M : Type 1} → statement M
 link-length-spec = tie.close (tie.spec cast-line-length line-length-requires returns returns-2)

@@ -15,7 +15,9 @@ abbrev μ-loop : tie.MeasureT-loop
 μ-loop a row total₀ i₀ total i = length row - i
 
 loop-holds : tie.Need-loop-holds Inv-loop μ-loop
-loop-holds c = (omega arith, row-none ((c .before .args .a)) ((c .before .args .row .now)))
+loop-holds c =
+    let start = c .before in
+    (omega arith, row-none (start .args .a) (start .args .row .now))
 
 mul-link-length : tie.Need-mul-link-length Inv-loop μ-loop
 mul-link-length c = omega arith
@@ -27,7 +29,12 @@ link-length-requires : tie.Need-link-length-requires Inv-loop μ-loop
 link-length-requires c κs = omega arith
 
 add-total : tie.Need-add-total Inv-loop μ-loop
-add-total c = omega (arith, (c .before .before .before .loop .inv .1 .few), (c .link-length .ensures .1), (c .before .before .before .before .before .pre .1))
+add-total c = omega (
+  arith,
+  (c .before .before .before .loop .inv .1 .few),
+  (c .link-length .ensures .1),
+  (c .before .before .before .before .before .pre .1),
+)
 
 add-i : tie.Need-add-i Inv-loop μ-loop
 add-i c = omega arith
@@ -36,10 +43,20 @@ loop-less : tie.Need-loop-less Inv-loop μ-loop
 loop-less c = omega arith
 
 loop-again : tie.Need-loop-again Inv-loop μ-loop
-loop-again c = (omega arith, row-more ((c .before .before .before .before .before .args .a)) ((c .before .before .before .before .before .args .row .now)) ((c .before .before .before .loop .total)) ((c .before .before .before .loop .i)) _ ((c .before .before .loop-test .taken)) ((c .before .before .before .loop .inv .1)) ((c .link-length .ensures)))
+loop-again c =
+    let start = c .before .before .before .before .before in
+    let at-loop = c .before .before .before in (
+      omega arith,
+      row-more (start .args .a) (start .args .row .now) (at-loop .loop .total) (at-loop .loop .i) _
+          (c .before .before .loop-test .taken) (at-loop .loop .inv .1) (c .link-length .ensures),
+    )
 
 returns : tie.Need-returns Inv-loop μ-loop
-returns c = row-done ((c .before .before .before .args .a)) ((c .before .before .before .args .row .now)) ((c .before .loop .total)) ((c .before .loop .i)) ((c .loop-test .left)) ((c .before .loop .inv .0)) ((c .before .loop .inv .1))
+returns c =
+    let start = c .before .before .before in
+    let at-loop = c .before in
+    row-done (start .args .a) (start .args .row .now) (at-loop .loop .total) (at-loop .loop .i) (c .loop-test .left)
+    (at-loop .loop .inv .0) (at-loop .loop .inv .1)
 
 pub row-length-spec : {M : Type 1} → statement M
 row-length-spec =

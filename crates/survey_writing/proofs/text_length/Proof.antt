@@ -34,28 +34,76 @@ line-length-requires : tie.Need-line-length-requires Inv-loop μ-loop
 line-length-requires c κs = omega arith
 
 loop-holds : tie.Need-loop-holds Inv-loop μ-loop
-loop-holds c = (omega arith, text-none ((c .before .before .before .before .args .n)) ((c .before .before .before .before .args .starts .now)) ((c .before .before .before .before .args .neighbours .now)) ((c .before .before .before .before .pre)) _ 0 (((c .line-length .ensures .0)) 83) ((c .line-length .ensures .1)))
+loop-holds c =
+    let start = c .before .before .before .before in (
+      omega arith,
+      text-none (start .args .n) (start .args .starts .now) (start .args .neighbours .now) (start .pre) _ 0
+          ((c .line-length .ensures .0) 83) (c .line-length .ensures .1),
+    )
 
 own-requires : tie.Need-own-requires Inv-loop μ-loop
-own-requires c κs = (rows-of ((c .before .before .before .before .before .before .pre)), (c .loop-test .taken))
+own-requires c κs =
+    let start = c .before .before .before .before .before .before in
+    (rows-of (start .pre), (c .loop-test .taken))
 
 row-length-requires : tie.Need-row-length-requires Inv-loop μ-loop
-row-length-requires c κs = (omega (arith, (c .before .before .before .before .before .before .before .pre .size), (c .before .loop-test .taken)), subst (λ (l : List ℕ). length l ≤ 32768) (sym ((c .own .ensures))) (omega (arith, own-end ((c .before .before .before .before .before .before .before .args .n)) ((c .before .before .before .before .before .before .before .args .starts .now)) ((c .before .before .before .before .before .before .before .args .neighbours .now)) ((c .before .before .before .before .before .before .before .pre)) ((c .before .before .loop .v)) ((c .before .loop-test .taken)), own-few ((c .before .before .before .before .before .before .before .args .n)) ((c .before .before .before .before .before .before .before .args .starts .now)) ((c .before .before .before .before .before .before .before .args .neighbours .now)) ((c .before .before .before .before .before .before .before .pre)) ((c .before .before .loop .v) + 1) (omega (arith, (c .before .loop-test .taken))))))
+row-length-requires c κs =
+    let start = c .before .before .before .before .before .before .before in
+    let at-loop = c .before .before in
+    let at-loop-test = c .before in (
+      omega (arith, (start .pre .size), (at-loop-test .loop-test .taken)),
+      subst (λ (l : List ℕ). length l ≤ 32768) (sym (c .own .ensures))
+          (omega (
+            arith,
+            own-end (start .args .n) (start .args .starts .now) (start .args .neighbours .now) (start .pre) (at-loop .loop .v)
+                (at-loop-test .loop-test .taken),
+            own-few (start .args .n) (start .args .starts .now) (start .args .neighbours .now) (start .pre)
+                ((at-loop .loop .v) + 1) (omega (arith, (at-loop-test .loop-test .taken))),
+          )),
+    )
 
 add-total : tie.Need-add-total Inv-loop μ-loop
-add-total c = omega (arith, (c .before .before .before .loop .inv .1 .few), (c .row-length .ensures .1), ap length ((c .before .own .ensures)), own-end ((c .before .before .before .before .before .before .before .before .args .n)) ((c .before .before .before .before .before .before .before .before .args .starts .now)) ((c .before .before .before .before .before .before .before .before .args .neighbours .now)) ((c .before .before .before .before .before .before .before .before .pre)) ((c .before .before .before .loop .v)) ((c .before .before .loop-test .taken)), own-few ((c .before .before .before .before .before .before .before .before .args .n)) ((c .before .before .before .before .before .before .before .before .args .starts .now)) ((c .before .before .before .before .before .before .before .before .args .neighbours .now)) ((c .before .before .before .before .before .before .before .before .pre)) ((c .before .before .before .loop .v) + 1) (omega (arith, (c .before .before .loop-test .taken))))
+add-total c =
+    let start = c .before .before .before .before .before .before .before .before in
+    let at-loop = c .before .before .before in
+    let at-loop-test = c .before .before in
+    omega (
+      arith,
+      (at-loop .loop .inv .1 .few),
+      (c .row-length .ensures .1),
+      ap length (c .before .own .ensures),
+      own-end (start .args .n)
+          (start .args .starts .now) (start .args .neighbours .now) (start .pre) (at-loop .loop .v) (at-loop-test .loop-test .taken),
+      own-few
+          (start .args .n) (start .args .starts .now) (start .args .neighbours .now) (start .pre) ((at-loop .loop .v) + 1)
+          (omega (arith, (at-loop-test .loop-test .taken))),
+    )
 
 add-v : tie.Need-add-v Inv-loop μ-loop
-add-v c = omega (arith, (c .before .before .before .before .before .before .before .before .pre .size))
+add-v c =
+    let start = c .before .before .before .before .before .before .before .before in
+    omega (arith, (start .pre .size))
 
 loop-less : tie.Need-loop-less Inv-loop μ-loop
 loop-less c = omega arith
 
 loop-again : tie.Need-loop-again Inv-loop μ-loop
-loop-again c = (omega arith, text-more ((c .before .before .before .before .before .before .before .before .args .n)) ((c .before .before .before .before .before .before .before .before .args .starts .now)) ((c .before .before .before .before .before .before .before .before .args .neighbours .now)) ((c .before .before .before .before .before .before .before .before .pre)) ((c .before .before .before .loop .total)) ((c .before .before .before .loop .v)) _ ((c .before .before .loop-test .taken)) ((c .before .before .before .loop .inv .1)) (subst (λ (l : List ℕ). (((c .row-length .result)) ≡ length (linesOf ((c .before .before .before .loop .v)) l)) × (((c .row-length .result)) ≤ 24 * length l)) ((c .before .own .ensures)) ((c .row-length .ensures))))
+loop-again c =
+    let start = c .before .before .before .before .before .before .before .before in
+    let at-loop = c .before .before .before in (
+      omega arith,
+      text-more (start .args .n) (start .args .starts .now) (start .args .neighbours .now) (start .pre) (at-loop .loop .total)
+          (at-loop .loop .v) _ (c .before .before .loop-test .taken) (at-loop .loop .inv .1)
+          (subst (λ (l : List ℕ). ((c .row-length .result) ≡ length (linesOf (at-loop .loop .v) l)) ×
+          ((c .row-length .result) ≤ 24 * length l)) (c .before .own .ensures) (c .row-length .ensures)),
+    )
 
 returns : tie.Need-returns Inv-loop μ-loop
-returns c = text-done ((c .before .before .before .before .before .before .args .n)) ((c .before .before .before .before .before .before .args .starts .now)) ((c .before .before .before .before .before .before .args .neighbours .now)) ((c .before .before .before .before .before .before .pre)) ((c .before .loop .total)) ((c .before .loop .v)) ((c .loop-test .left)) ((c .before .loop .inv .1))
+returns c =
+    let start = c .before .before .before .before .before .before in
+    let at-loop = c .before in
+    text-done (start .args .n) (start .args .starts .now) (start .args .neighbours .now) (start .pre) (at-loop .loop .total)
+    (at-loop .loop .v) (c .loop-test .left) (at-loop .loop .inv .1)
 
 pub text-length-spec : {M : Type 1} → statement M
 text-length-spec =

@@ -12,19 +12,30 @@ use Rattle.survey_writing.proofs.write_link.Statement.{statement}
 use Rattle.survey_writing.proofs.write_link.Tie as tie
 
 returns : tie.Need-returns
-returns c = subst (λ (t : List ℕ). Wrote ((c .before .before .args .buffer .now)) ((c .before .before .args .buffer .now)) ((c .before .before .args .at)) ((c .before .before .args .at)) t) (sym (line-left ((c .before .before .args .a)) ((c .before .before .args .b)) ((c .if1 .taken)))) (wrote-none ((c .before .before .args .buffer .now)) ((c .before .before .args .at)))
+returns c =
+    let start = c .before .before in
+    subst (λ (t : List ℕ). Wrote (start .args .buffer .now) (start .args .buffer .now) (start .args .at) (start .args .at) t)
+    (sym (line-left (start .args .a) (start .args .b) (c .if1 .taken))) (wrote-none (start .args .buffer .now) (start .args .at))
 
 cast-write-line : tie.Need-cast-write-line
 cast-write-line c = search needs
 
 write-line-requires : tie.Need-write-line-requires
-write-line-requires c κs = subst (λ (t : List ℕ). ((c .before .before .before .args .at)) + length t ≤ length ((c .before .before .before .args .buffer .now))) (line-taken ((c .before .before .before .args .a)) ((c .before .before .before .args .b)) ((c .before .if1 .left))) ((c .before .before .before .pre .1))
+write-line-requires c κs =
+    let start = c .before .before .before in
+    subst (λ (t : List ℕ). (start .args .at) + length t ≤ length (start .args .buffer .now))
+    (line-taken (start .args .a) (start .args .b) (c .before .if1 .left)) (start .pre .1)
 
 same-length : tie.Need-same-length
 same-length c = search needs
 
 returns-2 : tie.Need-returns-2
-returns-2 c = subst (λ (t : List ℕ). Wrote ((c .before .before .before .before .before .before .args .buffer .now)) ((c .before .before .write-line .last .0)) ((c .before .before .before .before .before .before .args .at)) (c .before .before .write-line .result) t) (sym (line-taken ((c .before .before .before .before .before .before .args .a)) ((c .before .before .before .before .before .before .args .b)) ((c .before .before .before .before .if1 .left)))) ((c .before .before .write-line .ensures))
+returns-2 c =
+    let start = c .before .before .before .before .before .before in
+    let at-write-line = c .before .before in
+    subst (λ (t : List ℕ). Wrote (start .args .buffer .now) (at-write-line .write-line .last .0) (start .args .at)
+    (at-write-line .write-line .result) t) (sym
+    (line-taken (start .args .a) (start .args .b) (c .before .before .before .before .if1 .left))) (at-write-line .write-line .ensures)
 
 pub write-link-spec : {M : Type 1} → statement M
 write-link-spec =

@@ -18,7 +18,9 @@ abbrev μ-loop : tie.MeasureT-loop
 μ-loop a row buffer₀ at pos₀ i₀ buffer pos i = length row - i
 
 loop-holds : tie.Need-loop-holds Inv-loop μ-loop
-loop-holds c = (omega arith, left-all ((c .before .before .args .buffer .now)) ((c .before .before .args .at)) (linesOf ((c .before .before .args .a)) ((c .before .before .args .row .now))))
+loop-holds c =
+    let start = c .before .before in
+    (omega arith, left-all (start .args .buffer .now) (start .args .at) (linesOf (start .args .a) (start .args .row .now)))
 
 mul-write-link : tie.Need-mul-write-link Inv-loop μ-loop
 mul-write-link c = omega arith
@@ -27,7 +29,22 @@ shared-slice-read-write-link : tie.Need-shared-slice-read-write-link Inv-loop μ
 shared-slice-read-write-link c = omega arith
 
 write-link-requires : tie.Need-write-link-requires Inv-loop μ-loop
-write-link-requires c κs = ((c .before .before .before .before .before .before .pre .0), omega (arith, left-room ((c .before .before .before .before .before .before .args .buffer .now)) ((c .before .before .before .before .before .before .args .at)) (linesOf ((c .before .before .before .before .before .before .args .a)) ((c .before .before .before .before .before .before .args .row .now))) ((c .before .before .before .before .before .before .pre .1)) ((c .before .before .before .loop .buffer)) ((c .before .before .before .loop .pos)) _ (subst (λ (t : List ℕ). Left ((c .before .before .before .before .before .before .args .buffer .now)) ((c .before .before .before .loop .buffer)) ((c .before .before .before .before .before .before .args .at)) ((c .before .before .before .loop .pos)) (linesOf ((c .before .before .before .before .before .before .args .a)) ((c .before .before .before .before .before .before .args .row .now))) t) (line-next ((c .before .before .before .before .before .before .args .a)) ((c .before .before .before .before .before .before .args .row .now)) ((c .before .before .before .loop .i)) ((c .before .before .loop-test .taken))) ((c .before .before .before .loop .inv .1))), length-append (linesOf ((c .before .before .before .before .before .before .args .a)) (getD ((c .before .before .before .before .before .before .args .row .now)) ((c .before .before .before .loop .i)) 0 ∷ [])) (linesOf ((c .before .before .before .before .before .before .args .a)) (drop ((c .before .before .before .loop .i) + 1) ((c .before .before .before .before .before .before .args .row .now))))))
+write-link-requires c κs =
+    let start = c .before .before .before .before .before .before in
+    let at-loop = c .before .before .before in (
+      (start .pre .0),
+      omega (
+        arith,
+        left-room (start .args .buffer .now) (start .args .at)
+            (linesOf (start .args .a) (start .args .row .now)) (start .pre .1) (at-loop .loop .buffer) (at-loop .loop .pos) _
+            (subst (λ (t : List ℕ). Left (start .args .buffer .now) (at-loop .loop .buffer) (start .args .at) (at-loop .loop .pos)
+            (linesOf (start .args .a) (start .args .row .now)) t)
+            (line-next (start .args .a) (start .args .row .now) (at-loop .loop .i) (c .before .before .loop-test .taken))
+            (at-loop .loop .inv .1)),
+        length-append (linesOf (start .args .a) (getD (start .args .row .now) (at-loop .loop .i) 0 ∷ []))
+            (linesOf (start .args .a) (drop ((at-loop .loop .i) + 1) (start .args .row .now))),
+      ),
+    )
 
 add-i : tie.Need-add-i Inv-loop μ-loop
 add-i c = omega arith
@@ -36,13 +53,36 @@ loop-less : tie.Need-loop-less Inv-loop μ-loop
 loop-less c = omega arith
 
 loop-again : tie.Need-loop-again Inv-loop μ-loop
-loop-again c = (omega arith, left-more ((c .before .before .before .before .before .before .before .before .before .args .buffer .now)) ((c .before .before .before .before .before .before .before .before .before .args .at)) (linesOf ((c .before .before .before .before .before .before .before .before .before .args .a)) ((c .before .before .before .before .before .before .before .before .before .args .row .now))) ((c .before .before .before .before .before .before .before .before .before .pre .1)) ((c .before .before .before .before .before .before .loop .buffer)) ((c .before .before .before .before .before .before .loop .pos)) _ _ (subst (λ (t : List ℕ). Left ((c .before .before .before .before .before .before .before .before .before .args .buffer .now)) ((c .before .before .before .before .before .before .loop .buffer)) ((c .before .before .before .before .before .before .before .before .before .args .at)) ((c .before .before .before .before .before .before .loop .pos)) (linesOf ((c .before .before .before .before .before .before .before .before .before .args .a)) ((c .before .before .before .before .before .before .before .before .before .args .row .now))) t) (line-next ((c .before .before .before .before .before .before .before .before .before .args .a)) ((c .before .before .before .before .before .before .before .before .before .args .row .now)) ((c .before .before .before .before .before .before .loop .i)) ((c .before .before .before .before .before .loop-test .taken))) ((c .before .before .before .before .before .before .loop .inv .1))) ((c .before .before .write-link .last .1 .1 .0)) _ ((c .before .before .write-link .ensures)))
+loop-again c =
+    let start = c .before .before .before .before .before .before .before .before .before in
+    let at-loop = c .before .before .before .before .before .before in
+    let at-write-link = c .before .before in (
+      omega arith,
+      left-more (start .args .buffer .now) (start .args .at) (linesOf (start .args .a) (start .args .row .now)) (start .pre .1)
+          (at-loop .loop .buffer) (at-loop .loop .pos) _ _
+          (subst (λ (t : List ℕ). Left (start .args .buffer .now) (at-loop .loop .buffer) (start .args .at) (at-loop .loop .pos)
+          (linesOf (start .args .a) (start .args .row .now)) t)
+          (line-next (start .args .a) (start .args .row .now) (at-loop .loop .i)
+          (c .before .before .before .before .before .loop-test .taken)) (at-loop .loop .inv .1)) (at-write-link .write-link .last .1 .1 .0)
+          _ (at-write-link .write-link .ensures),
+    )
 
 same-length : tie.Need-same-length Inv-loop μ-loop
-same-length c = left-length ((c .before .before .before .before .args .buffer .now)) ((c .before .before .before .before .args .at)) (linesOf ((c .before .before .before .before .args .a)) ((c .before .before .before .before .args .row .now))) ((c .before .before .before .before .pre .1)) ((c .before .loop .buffer)) ((c .before .loop .pos)) _ ((c .before .loop .inv .1))
+same-length c =
+    let start = c .before .before .before .before in
+    let at-loop = c .before in
+    left-length (start .args .buffer .now) (start .args .at) (linesOf (start .args .a) (start .args .row .now)) (start .pre .1)
+    (at-loop .loop .buffer) (at-loop .loop .pos) _ (at-loop .loop .inv .1)
 
 returns : tie.Need-returns Inv-loop μ-loop
-returns c = left-none ((c .before .before .before .before .args .buffer .now)) ((c .before .before .before .before .args .at)) (linesOf ((c .before .before .before .before .args .a)) ((c .before .before .before .before .args .row .now))) ((c .before .before .before .before .pre .1)) ((c .before .loop .buffer)) ((c .before .loop .pos)) (subst (λ (t : List ℕ). Left ((c .before .before .before .before .args .buffer .now)) ((c .before .loop .buffer)) ((c .before .before .before .before .args .at)) ((c .before .loop .pos)) (linesOf ((c .before .before .before .before .args .a)) ((c .before .before .before .before .args .row .now))) t) (line-end ((c .before .before .before .before .args .a)) ((c .before .before .before .before .args .row .now)) ((c .before .loop .i)) ((c .loop-test .left))) ((c .before .loop .inv .1)))
+returns c =
+    let start = c .before .before .before .before in
+    let at-loop = c .before in
+    left-none (start .args .buffer .now) (start .args .at) (linesOf (start .args .a) (start .args .row .now)) (start .pre .1)
+    (at-loop .loop .buffer) (at-loop .loop .pos)
+    (subst (λ (t : List ℕ). Left (start .args .buffer .now) (at-loop .loop .buffer) (start .args .at) (at-loop .loop .pos)
+    (linesOf (start .args .a) (start .args .row .now)) t)
+    (line-end (start .args .a) (start .args .row .now) (at-loop .loop .i) (c .loop-test .left)) (at-loop .loop .inv .1))
 
 pub write-row-spec : {M : Type 1} → statement M
 write-row-spec =

@@ -30,31 +30,79 @@ shared-slice-read-write-line : tie.Need-shared-slice-read-write-line Inv-loop μ
 shared-slice-read-write-line c = omega (arith, (c .before .before .before .before .before .pre .0 .room))
 
 write-line-requires : tie.Need-write-line-requires Inv-loop μ-loop
-write-line-requires c κs = omega (arith, all-room ((c .before .before .before .before .before .args .n)) ((c .before .before .before .before .before .args .starts .now)) ((c .before .before .before .before .before .args .neighbours .now)) ((c .before .before .before .before .before .pre .0)) ((c .before .before .before .before .before .args .buffer .now)) ((c .before .before .before .before .before .pre .1)))
+write-line-requires c κs =
+    let start = c .before .before .before .before .before in
+    omega (
+      arith,
+      all-room (start .args .n) (start .args .starts .now) (start .args .neighbours .now) (start .pre .0)
+          (start .args .buffer .now) (start .pre .1),
+    )
 
 loop-holds : tie.Need-loop-holds Inv-loop μ-loop
 loop-holds c = (omega arith, left-all _ _ _)
 
 own-requires : tie.Need-own-requires Inv-loop μ-loop
-own-requires c κs = (rows-of ((c .before .before .before .before .before .before .before .before .before .before .pre .0)), (c .loop-test .taken))
+own-requires c κs =
+    let start = c .before .before .before .before .before .before .before .before .before .before in
+    (rows-of (start .pre .0), (c .loop-test .taken))
 
 write-row-requires : tie.Need-write-row-requires Inv-loop μ-loop
-write-row-requires c κs = (omega (arith, (c .before .before .before .before .before .before .before .before .before .before .before .before .pre .0 .size), (c .before .before .loop-test .taken)), subst (λ (l : List ℕ). ((c .before .before .before .loop .pos)) + length (linesOf ((c .before .before .before .loop .v)) l) ≤ length ((c .before .before .before .loop .buffer))) (sym ((c .before .own .ensures))) (next-room ((c .before .before .before .before .before .before .before .before .before .before .before .before .args .n)) ((c .before .before .before .before .before .before .before .before .before .before .before .before .args .starts .now)) ((c .before .before .before .before .before .before .before .before .before .before .before .before .args .neighbours .now)) ((c .before .before .before .before .before .before .before .before .before .before .before .before .pre .0)) ((c .before .before .before .before .before .before .before .before .before .before .before .before .args .buffer .now)) ((c .before .before .before .before .before .before .before .before .before .before .before .before .pre .1)) ((c .before .before .before .before .before .before .write-line .last .0)) ((c .before .before .before .before .before .before .write-line .result)) ((c .before .before .before .before .before .before .write-line .ensures)) ((c .before .before .before .loop .buffer)) ((c .before .before .before .loop .pos)) ((c .before .before .before .loop .v)) ((c .before .before .before .loop .inv .1)) ((c .before .before .loop-test .taken))))
+write-row-requires c κs =
+    let start = c .before .before .before .before .before .before .before .before .before .before .before .before in
+    let at-write-line = c .before .before .before .before .before .before in
+    let at-loop = c .before .before .before in
+    let at-loop-test = c .before .before in (
+      omega (arith, (start .pre .0 .size), (at-loop-test .loop-test .taken)),
+      subst
+          (λ (l : List ℕ). (at-loop .loop .pos) + length (linesOf (at-loop .loop .v) l) ≤ length (at-loop .loop .buffer))
+          (sym (c .before .own .ensures)) (next-room (start .args .n) (start .args .starts .now) (start .args .neighbours .now)
+          (start .pre .0) (start .args .buffer .now) (start .pre .1) (at-write-line .write-line .last .0) (at-write-line .write-line .result)
+          (at-write-line .write-line .ensures) (at-loop .loop .buffer) (at-loop .loop .pos) (at-loop .loop .v) (at-loop .loop .inv .1)
+          (at-loop-test .loop-test .taken)),
+    )
 
 add-v : tie.Need-add-v Inv-loop μ-loop
-add-v c = omega (arith, (c .before .before .before .before .before .before .before .before .before .before .before .before .before .before .before .pre .0 .size))
+add-v c =
+    let start = c .before .before .before .before .before .before .before .before .before .before .before .before .before .before .before in
+    omega (arith, (start .pre .0 .size))
 
 loop-less : tie.Need-loop-less Inv-loop μ-loop
 loop-less c = omega arith
 
 loop-again : tie.Need-loop-again Inv-loop μ-loop
-loop-again c = (omega arith, next-written ((c .before .before .before .before .before .before .before .before .before .before .before .before .before .before .before .args .n)) ((c .before .before .before .before .before .before .before .before .before .before .before .before .before .before .before .args .starts .now)) ((c .before .before .before .before .before .before .before .before .before .before .before .before .before .before .before .args .neighbours .now)) ((c .before .before .before .before .before .before .before .before .before .before .before .before .before .before .before .pre .0)) ((c .before .before .before .before .before .before .before .before .before .before .before .before .before .before .before .args .buffer .now)) ((c .before .before .before .before .before .before .before .before .before .before .before .before .before .before .before .pre .1)) ((c .before .before .before .before .before .before .before .before .before .write-line .last .0)) ((c .before .before .before .before .before .before .before .before .before .write-line .result)) ((c .before .before .before .before .before .before .before .before .before .write-line .ensures)) ((c .before .before .before .before .before .before .loop .buffer)) ((c .before .before .before .before .before .before .loop .pos)) ((c .before .before .before .before .before .before .loop .v)) ((c .before .before .before .before .before .before .loop .inv .1)) ((c .before .before .before .before .before .loop-test .taken)) ((c .before .before .write-row .last .1 .1 .0)) ((c .before .before .write-row .result)) (subst (λ (l : List ℕ). Wrote ((c .before .before .before .before .before .before .loop .buffer)) ((c .before .before .write-row .last .1 .1 .0)) ((c .before .before .before .before .before .before .loop .pos)) ((c .before .before .write-row .result)) (linesOf ((c .before .before .before .before .before .before .loop .v)) l)) ((c .before .before .before .before .own .ensures)) ((c .before .before .write-row .ensures))))
+loop-again c =
+    let start = c .before .before .before .before .before .before .before .before .before .before .before .before .before .before .before in
+    let at-write-line = c .before .before .before .before .before .before .before .before .before in
+    let at-loop = c .before .before .before .before .before .before in
+    let at-write-row = c .before .before in (
+      omega arith,
+      next-written (start .args .n) (start .args .starts .now) (start .args .neighbours .now) (start .pre .0)
+          (start .args .buffer .now) (start .pre .1) (at-write-line .write-line .last .0) (at-write-line .write-line .result)
+          (at-write-line .write-line .ensures) (at-loop .loop .buffer) (at-loop .loop .pos) (at-loop .loop .v) (at-loop .loop .inv .1)
+          (c .before .before .before .before .before .loop-test .taken) (at-write-row .write-row .last .1 .1 .0)
+          (at-write-row .write-row .result) (subst
+          (λ (l : List ℕ). Wrote (at-loop .loop .buffer) (at-write-row .write-row .last .1 .1 .0) (at-loop .loop .pos)
+          (at-write-row .write-row .result) (linesOf (at-loop .loop .v) l)) (c .before .before .before .before .own .ensures)
+          (at-write-row .write-row .ensures)),
+    )
 
 same-length : tie.Need-same-length Inv-loop μ-loop
-same-length c = rows-length ((c .before .before .before .before .before .before .before .before .before .before .args .n)) ((c .before .before .before .before .before .before .before .before .before .before .args .starts .now)) ((c .before .before .before .before .before .before .before .before .before .before .args .neighbours .now)) ((c .before .before .before .before .before .before .before .before .before .before .pre .0)) ((c .before .before .before .before .before .before .before .before .before .before .args .buffer .now)) ((c .before .before .before .before .before .before .before .before .before .before .pre .1)) ((c .before .before .before .before .write-line .last .0)) ((c .before .before .before .before .write-line .result)) ((c .before .before .before .before .write-line .ensures)) ((c .before .loop .buffer)) ((c .before .loop .pos)) ((c .before .loop .v)) ((c .before .loop .inv .1))
+same-length c =
+    let start = c .before .before .before .before .before .before .before .before .before .before in
+    let at-write-line = c .before .before .before .before in
+    let at-loop = c .before in
+    rows-length (start .args .n) (start .args .starts .now) (start .args .neighbours .now) (start .pre .0) (start .args .buffer .now)
+    (start .pre .1) (at-write-line .write-line .last .0) (at-write-line .write-line .result) (at-write-line .write-line .ensures)
+    (at-loop .loop .buffer) (at-loop .loop .pos) (at-loop .loop .v) (at-loop .loop .inv .1)
 
 returns : tie.Need-returns Inv-loop μ-loop
-returns c = text-written ((c .before .before .before .before .before .before .before .before .before .before .args .n)) ((c .before .before .before .before .before .before .before .before .before .before .args .starts .now)) ((c .before .before .before .before .before .before .before .before .before .before .args .neighbours .now)) ((c .before .before .before .before .before .before .before .before .before .before .pre .0)) ((c .before .before .before .before .before .before .before .before .before .before .args .buffer .now)) ((c .before .before .before .before .before .before .before .before .before .before .pre .1)) ((c .before .before .before .before .write-line .last .0)) ((c .before .before .before .before .write-line .result)) ((c .before .before .before .before .write-line .ensures)) ((c .before .loop .buffer)) ((c .before .loop .pos)) ((c .before .loop .v)) ((c .before .loop .inv .1)) ((c .loop-test .left))
+returns c =
+    let start = c .before .before .before .before .before .before .before .before .before .before in
+    let at-write-line = c .before .before .before .before in
+    let at-loop = c .before in
+    text-written (start .args .n) (start .args .starts .now) (start .args .neighbours .now) (start .pre .0) (start .args .buffer .now)
+    (start .pre .1) (at-write-line .write-line .last .0) (at-write-line .write-line .result) (at-write-line .write-line .ensures)
+    (at-loop .loop .buffer) (at-loop .loop .pos) (at-loop .loop .v) (at-loop .loop .inv .1) (c .loop-test .left)
 
 pub write-text-spec : {M : Type 1} → statement M
 write-text-spec =

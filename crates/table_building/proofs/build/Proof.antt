@@ -9,28 +9,78 @@ use Rattle.table_building.proofs.build.Statement.{statement}
 use Rattle.table_building.proofs.build.Tie as tie
 
 returns : tie.Need-returns
-returns c = build-size ((c .before .before .before .before .before .before .before .args .n)) ((c .before .before .before .before .before .before .before .args .starts .now)) ((c .before .before .before .before .before .before .before .args .neighbours .now)) ((c .before .before .before .before .before .before .before .args .full .now)) ((c .before .before .before .before .before .before .before .args .low .now)) ((c .before .before .before .before .before .before .before .args .report .now)) ((c .before .before .before .before .before .before .before .args .hubs .now)) (small-size ((c .before .before .before .before .before .before .before .args .n)) ((c .if1 .taken)))
+returns c =
+    let start = c .before .before .before .before .before .before .before in
+    build-size (start .args .n) (start .args .starts .now) (start .args .neighbours .now) (start .args .full .now) (start .args .low .now)
+    (start .args .report .now) (start .args .hubs .now) (small-size (start .args .n) (c .if1 .taken))
 
 returns-2 : tie.Need-returns-2
-returns-2 c = build-size ((c .before .before .before .before .before .before .before .before .args .n)) ((c .before .before .before .before .before .before .before .before .args .starts .now)) ((c .before .before .before .before .before .before .before .before .args .neighbours .now)) ((c .before .before .before .before .before .before .before .before .args .full .now)) ((c .before .before .before .before .before .before .before .before .args .low .now)) ((c .before .before .before .before .before .before .before .before .args .report .now)) ((c .before .before .before .before .before .before .before .before .args .hubs .now)) (large-size ((c .before .before .before .before .before .before .before .before .args .n)) ((c .if2 .taken)))
+returns-2 c =
+    let start = c .before .before .before .before .before .before .before .before in
+    build-size (start .args .n) (start .args .starts .now) (start .args .neighbours .now) (start .args .full .now) (start .args .low .now)
+    (start .args .report .now) (start .args .hubs .now) (large-size (start .args .n) (c .if2 .taken))
 
 has-room-requires : tie.Need-has-room-requires
 has-room-requires c κs = (c .if2 .left)
 
 returns-3 : tie.Need-returns-3
-returns-3 c = build-short ((c .before .before .before .before .before .before .before .before .before .before .args .n)) ((c .before .before .before .before .before .before .before .before .before .before .args .starts .now)) ((c .before .before .before .before .before .before .before .before .before .before .args .neighbours .now)) ((c .before .before .before .before .before .before .before .before .before .before .args .full .now)) ((c .before .before .before .before .before .before .before .before .before .before .args .low .now)) ((c .before .before .before .before .before .before .before .before .before .before .args .report .now)) ((c .before .before .before .before .before .before .before .before .before .before .args .hubs .now)) ((c .before .before .before .if1 .left), (c .before .before .if2 .left)) (sym ((c .before .has-room .ensures)) ∙ ((c .if3 .taken)))
+returns-3 c =
+    let start = c .before .before .before .before .before .before .before .before .before .before in
+    build-short (start .args .n) (start .args .starts .now) (start .args .neighbours .now) (start .args .full .now) (start .args .low .now)
+    (start .args .report .now) (start .args .hubs .now) ((c .before .before .before .if1 .left), (c .before .before .if2 .left))
+    (sym (c .before .has-room .ensures) ∙ (c .if3 .taken))
 
 is-survey-requires : tie.Need-is-survey-requires
-is-survey-requires c κs = ((c .before .before .before .if1 .left), (c .before .before .if2 .left), (build-room ((c .before .before .before .before .before .before .before .before .before .before .args .n)) ((c .before .before .before .before .before .before .before .before .before .before .args .starts .now)) ((c .before .before .before .before .before .before .before .before .before .before .args .neighbours .now)) ((c .before .before .before .before .before .before .before .before .before .before .args .full .now)) ((c .before .before .before .before .before .before .before .before .before .before .args .low .now)) ((c .before .before .before .before .before .before .before .before .before .before .args .report .now)) ((c .before .before .before .before .before .before .before .before .before .before .args .hubs .now)) ((c .before .before .before .if1 .left), (c .before .before .if2 .left)) (sym ((c .before .has-room .ensures)) ∙ ((c .if3 .left)))) .0)
+is-survey-requires c κs =
+    let start = c .before .before .before .before .before .before .before .before .before .before in
+    let at-if1 = c .before .before .before in
+    let at-if2 = c .before .before in (
+      (at-if1 .if1 .left),
+      (at-if2 .if2 .left),
+      (build-room (start .args .n) (start .args .starts .now) (start .args .neighbours .now)
+          (start .args .full .now) (start .args .low .now) (start .args .report .now) (start .args .hubs .now)
+          ((at-if1 .if1 .left), (at-if2 .if2 .left)) (sym (c .before .has-room .ensures) ∙ (c .if3 .left))) .0,
+    )
 
 returns-4 : tie.Need-returns-4
-returns-4 c = build-other ((c .before .before .before .before .before .before .before .before .before .before .before .before .args .n)) ((c .before .before .before .before .before .before .before .before .before .before .before .before .args .starts .now)) ((c .before .before .before .before .before .before .before .before .before .before .before .before .args .neighbours .now)) ((c .before .before .before .before .before .before .before .before .before .before .before .before .args .full .now)) ((c .before .before .before .before .before .before .before .before .before .before .before .before .args .low .now)) ((c .before .before .before .before .before .before .before .before .before .before .before .before .args .report .now)) ((c .before .before .before .before .before .before .before .before .before .before .before .before .args .hubs .now)) ((c .before .before .before .before .before .if1 .left), (c .before .before .before .before .if2 .left)) (sym ((c .before .before .before .has-room .ensures)) ∙ ((c .before .before .if3 .left))) (sym ((c .before .is-survey .ensures)) ∙ not-true _ ((c .if4 .taken)))
+returns-4 c =
+    let start = c .before .before .before .before .before .before .before .before .before .before .before .before in
+    build-other (start .args .n) (start .args .starts .now) (start .args .neighbours .now) (start .args .full .now) (start .args .low .now)
+    (start .args .report .now) (start .args .hubs .now)
+    ((c .before .before .before .before .before .if1 .left), (c .before .before .before .before .if2 .left))
+    (sym (c .before .before .before .has-room .ensures) ∙ (c .before .before .if3 .left))
+    (sym (c .before .is-survey .ensures) ∙ not-true _ (c .if4 .taken))
 
 threshold-at-requires : tie.Need-threshold-at-requires
 threshold-at-requires c κs = search needs
 
 build-tables-requires : tie.Need-build-tables-requires
-build-tables-requires c κs = ((build-accepted ((c .before .before .before .before .before .before .before .before .before .before .before .before .before .before .before .before .before .args .n)) ((c .before .before .before .before .before .before .before .before .before .before .before .before .before .before .before .before .before .args .starts .now)) ((c .before .before .before .before .before .before .before .before .before .before .before .before .before .before .before .before .before .args .neighbours .now)) ((c .before .before .before .before .before .before .before .before .before .before .before .before .before .before .before .before .before .args .full .now)) ((c .before .before .before .before .before .before .before .before .before .before .before .before .before .before .before .before .before .args .low .now)) ((c .before .before .before .before .before .before .before .before .before .before .before .before .before .before .before .before .before .args .report .now)) ((c .before .before .before .before .before .before .before .before .before .before .before .before .before .before .before .before .before .args .hubs .now)) ((c .before .before .before .before .before .before .before .before .before .before .if1 .left), (c .before .before .before .before .before .before .before .before .before .if2 .left)) (sym ((c .before .before .before .before .before .before .before .before .has-room .ensures)) ∙ ((c .before .before .before .before .before .before .before .if3 .left))) (sym ((c .before .before .before .before .before .before .is-survey .ensures)) ∙ not-false _ ((c .before .before .before .before .before .if4 .left)))), ((build-room ((c .before .before .before .before .before .before .before .before .before .before .before .before .before .before .before .before .before .args .n)) ((c .before .before .before .before .before .before .before .before .before .before .before .before .before .before .before .before .before .args .starts .now)) ((c .before .before .before .before .before .before .before .before .before .before .before .before .before .before .before .before .before .args .neighbours .now)) ((c .before .before .before .before .before .before .before .before .before .before .before .before .before .before .before .before .before .args .full .now)) ((c .before .before .before .before .before .before .before .before .before .before .before .before .before .before .before .before .before .args .low .now)) ((c .before .before .before .before .before .before .before .before .before .before .before .before .before .before .before .before .before .args .report .now)) ((c .before .before .before .before .before .before .before .before .before .before .before .before .before .before .before .before .before .args .hubs .now)) ((c .before .before .before .before .before .before .before .before .before .before .if1 .left), (c .before .before .before .before .before .before .before .before .before .if2 .left)) (sym ((c .before .before .before .before .before .before .before .before .has-room .ensures)) ∙ ((c .before .before .before .before .before .before .before .if3 .left)))) .1, (build-room ((c .before .before .before .before .before .before .before .before .before .before .before .before .before .before .before .before .before .args .n)) ((c .before .before .before .before .before .before .before .before .before .before .before .before .before .before .before .before .before .args .starts .now)) ((c .before .before .before .before .before .before .before .before .before .before .before .before .before .before .before .before .before .args .neighbours .now)) ((c .before .before .before .before .before .before .before .before .before .before .before .before .before .before .before .before .before .args .full .now)) ((c .before .before .before .before .before .before .before .before .before .before .before .before .before .before .before .before .before .args .low .now)) ((c .before .before .before .before .before .before .before .before .before .before .before .before .before .before .before .before .before .args .report .now)) ((c .before .before .before .before .before .before .before .before .before .before .before .before .before .before .before .before .before .args .hubs .now)) ((c .before .before .before .before .before .before .before .before .before .before .if1 .left), (c .before .before .before .before .before .before .before .before .before .if2 .left)) (sym ((c .before .before .before .before .before .before .before .before .has-room .ensures)) ∙ ((c .before .before .before .before .before .before .before .if3 .left)))) .2, (build-room ((c .before .before .before .before .before .before .before .before .before .before .before .before .before .before .before .before .before .args .n)) ((c .before .before .before .before .before .before .before .before .before .before .before .before .before .before .before .before .before .args .starts .now)) ((c .before .before .before .before .before .before .before .before .before .before .before .before .before .before .before .before .before .args .neighbours .now)) ((c .before .before .before .before .before .before .before .before .before .before .before .before .before .before .before .before .before .args .full .now)) ((c .before .before .before .before .before .before .before .before .before .before .before .before .before .before .before .before .before .args .low .now)) ((c .before .before .before .before .before .before .before .before .before .before .before .before .before .before .before .before .before .args .report .now)) ((c .before .before .before .before .before .before .before .before .before .before .before .before .before .before .before .before .before .args .hubs .now)) ((c .before .before .before .before .before .before .before .before .before .before .if1 .left), (c .before .before .before .before .before .before .before .before .before .if2 .left)) (sym ((c .before .before .before .before .before .before .before .before .has-room .ensures)) ∙ ((c .before .before .before .before .before .before .before .if3 .left)))) .3, (build-room ((c .before .before .before .before .before .before .before .before .before .before .before .before .before .before .before .before .before .args .n)) ((c .before .before .before .before .before .before .before .before .before .before .before .before .before .before .before .before .before .args .starts .now)) ((c .before .before .before .before .before .before .before .before .before .before .before .before .before .before .before .before .before .args .neighbours .now)) ((c .before .before .before .before .before .before .before .before .before .before .before .before .before .before .before .before .before .args .full .now)) ((c .before .before .before .before .before .before .before .before .before .before .before .before .before .before .before .before .before .args .low .now)) ((c .before .before .before .before .before .before .before .before .before .before .before .before .before .before .before .before .before .args .report .now)) ((c .before .before .before .before .before .before .before .before .before .before .before .before .before .before .before .before .before .args .hubs .now)) ((c .before .before .before .before .before .before .before .before .before .before .if1 .left), (c .before .before .before .before .before .before .before .before .before .if2 .left)) (sym ((c .before .before .before .before .before .before .before .before .has-room .ensures)) ∙ ((c .before .before .before .before .before .before .before .if3 .left)))) .4))
+build-tables-requires c κs =
+    let start = c .before .before .before .before .before .before .before .before .before .before .before .before .before .before .before .before .before in
+    let at-if1 = c .before .before .before .before .before .before .before .before .before .before in
+    let at-if2 = c .before .before .before .before .before .before .before .before .before in
+    let at-has-room = c .before .before .before .before .before .before .before .before in
+    let at-if3 = c .before .before .before .before .before .before .before in
+    let at-is-survey = c .before .before .before .before .before .before in (
+      (build-accepted (start .args .n) (start .args .starts .now) (start .args .neighbours .now) (start .args .full .now)
+          (start .args .low .now) (start .args .report .now) (start .args .hubs .now) ((at-if1 .if1 .left), (at-if2 .if2 .left))
+          (sym (at-has-room .has-room .ensures) ∙ (at-if3 .if3 .left))
+          (sym (at-is-survey .is-survey .ensures) ∙ not-false _ (c .before .before .before .before .before .if4 .left))),
+      (
+        (build-room (start .args .n) (start .args .starts .now) (start .args .neighbours .now) (start .args .full .now)
+            (start .args .low .now) (start .args .report .now) (start .args .hubs .now) ((at-if1 .if1 .left), (at-if2 .if2 .left))
+            (sym (at-has-room .has-room .ensures) ∙ (at-if3 .if3 .left))) .1,
+        (build-room (start .args .n) (start .args .starts .now) (start .args .neighbours .now) (start .args .full .now)
+            (start .args .low .now) (start .args .report .now) (start .args .hubs .now) ((at-if1 .if1 .left), (at-if2 .if2 .left))
+            (sym (at-has-room .has-room .ensures) ∙ (at-if3 .if3 .left))) .2,
+        (build-room (start .args .n) (start .args .starts .now) (start .args .neighbours .now) (start .args .full .now)
+            (start .args .low .now) (start .args .report .now) (start .args .hubs .now) ((at-if1 .if1 .left), (at-if2 .if2 .left))
+            (sym (at-has-room .has-room .ensures) ∙ (at-if3 .if3 .left))) .3,
+        (build-room (start .args .n) (start .args .starts .now) (start .args .neighbours .now) (start .args .full .now)
+            (start .args .low .now) (start .args .report .now) (start .args .hubs .now) ((at-if1 .if1 .left), (at-if2 .if2 .left))
+            (sym (at-has-room .has-room .ensures) ∙ (at-if3 .if3 .left))) .4,
+      ),
+    )
 
 same-length : tie.Need-same-length
 same-length c = search needs
@@ -45,7 +95,23 @@ same-length-4 : tie.Need-same-length-4
 same-length-4 c = search needs
 
 returns-5 : tie.Need-returns-5
-returns-5 c = build-done ((c .before .before .before .before .before .before .before .before .before .before .before .before .before .before .before .before .before .before .before .before .before .before .before .before .before .before .args .n)) ((c .before .before .before .before .before .before .before .before .before .before .before .before .before .before .before .before .before .before .before .before .before .before .before .before .before .before .args .starts .now)) ((c .before .before .before .before .before .before .before .before .before .before .before .before .before .before .before .before .before .before .before .before .before .before .before .before .before .before .args .neighbours .now)) ((c .before .before .before .before .before .before .before .before .before .before .before .before .before .before .before .before .before .before .before .before .before .before .before .before .before .before .args .full .now)) ((c .before .before .before .before .before .before .before .before .before .before .before .before .before .before .before .before .before .before .before .before .before .before .before .before .before .before .args .low .now)) ((c .before .before .before .before .before .before .before .before .before .before .before .before .before .before .before .before .before .before .before .before .before .before .before .before .before .before .args .report .now)) ((c .before .before .before .before .before .before .before .before .before .before .before .before .before .before .before .before .before .before .before .before .before .before .before .before .before .before .args .hubs .now)) ((c .before .before .before .before .before .before .before .before .before .before .before .before .before .before .before .before .before .before .before .if1 .left), (c .before .before .before .before .before .before .before .before .before .before .before .before .before .before .before .before .before .before .if2 .left)) (sym ((c .before .before .before .before .before .before .before .before .before .before .before .before .before .before .before .before .before .has-room .ensures)) ∙ ((c .before .before .before .before .before .before .before .before .before .before .before .before .before .before .before .before .if3 .left))) (sym ((c .before .before .before .before .before .before .before .before .before .before .before .before .before .before .before .is-survey .ensures)) ∙ not-false _ ((c .before .before .before .before .before .before .before .before .before .before .before .before .before .before .if4 .left))) ((c .before .before .before .before .before .before .before .before .build-tables .last .1 .1 .1 .1 .0)) ((c .before .before .before .before .before .before .before .before .build-tables .last .1 .1 .1 .1 .1 .0)) ((c .before .before .before .before .before .before .before .before .build-tables .last .1 .1 .1 .1 .1 .1 .0)) ((c .before .before .before .before .before .before .before .before .build-tables .last .1 .1 .1 .1 .1 .1 .1 .0)) _ _ ((c .before .before .before .before .before .before .before .before .before .before .before .before .before .threshold-at .ensures)) ((c .before .before .before .before .before .before .before .before .build-tables .ensures))
+returns-5 c =
+    let start = c .before .before .before .before .before .before .before .before .before .before .before .before .before .before .before .before .before .before .before .before .before .before .before .before .before .before in
+    let at-if1 = c .before .before .before .before .before .before .before .before .before .before .before .before .before .before .before .before .before .before .before in
+    let at-if2 = c .before .before .before .before .before .before .before .before .before .before .before .before .before .before .before .before .before .before in
+    let at-has-room = c .before .before .before .before .before .before .before .before .before .before .before .before .before .before .before .before .before in
+    let at-if3 = c .before .before .before .before .before .before .before .before .before .before .before .before .before .before .before .before in
+    let at-is-survey = c .before .before .before .before .before .before .before .before .before .before .before .before .before .before .before in
+    let at-if4 = c .before .before .before .before .before .before .before .before .before .before .before .before .before .before in
+    let at-threshold-at = c .before .before .before .before .before .before .before .before .before .before .before .before .before in
+    let at-build-tables = c .before .before .before .before .before .before .before .before in
+    build-done (start .args .n) (start .args .starts .now) (start .args .neighbours .now) (start .args .full .now) (start .args .low .now)
+    (start .args .report .now) (start .args .hubs .now) ((at-if1 .if1 .left), (at-if2 .if2 .left))
+    (sym (at-has-room .has-room .ensures) ∙ (at-if3 .if3 .left))
+    (sym (at-is-survey .is-survey .ensures) ∙ not-false _ (at-if4 .if4 .left)) (at-build-tables .build-tables .last .1 .1 .1 .1 .0)
+    (at-build-tables .build-tables .last .1 .1 .1 .1 .1 .0) (at-build-tables .build-tables .last .1 .1 .1 .1 .1 .1 .0)
+    (at-build-tables .build-tables .last .1 .1 .1 .1 .1 .1 .1 .0) _ _ (at-threshold-at .threshold-at .ensures)
+    (at-build-tables .build-tables .ensures)
 
 pub build-spec : {M : Type 1} → statement M
 build-spec =

@@ -16,28 +16,100 @@ use Rattle.table_building.proofs.build_tables.Statement.{statement}
 use Rattle.table_building.proofs.build_tables.Tie as tie
 
 choose-hubs-requires : tie.Need-choose-hubs-requires
-choose-hubs-requires c κs = ((c .before .before .before .before .before .before .before .pre .0), (c .before .before .before .before .before .before .before .pre .1 .3))
+choose-hubs-requires c κs =
+    let start = c .before .before .before .before .before .before .before in
+    ((start .pre .0), (start .pre .1 .3))
 
 slice-reshare-prefix-fill-full : tie.Need-slice-reshare-prefix-fill-full
-slice-reshare-prefix-fill-full c = (omega (arith, (c .before .before .choose-hubs .ensures .0), hubs-length ((c .before .before .before .before .before .before .before .before .before .before .args .n)) (neighboursOf ((c .before .before .before .before .before .before .before .before .before .before .args .starts .now)) ((c .before .before .before .before .before .before .before .before .before .before .args .neighbours .now))) ((c .before .before .before .before .before .before .before .before .before .before .args .s)), (c .before .before .choose-hubs .kept .1 .1 .1 .1 .0), (c .before .before .before .before .before .before .before .before .before .before .pre .1 .3)))
+slice-reshare-prefix-fill-full c =
+    let start = c .before .before .before .before .before .before .before .before .before .before in
+    let at-choose-hubs = c .before .before in
+    (omega (
+      arith,
+      (at-choose-hubs .choose-hubs .ensures .0),
+      hubs-length (start .args .n)
+          (neighboursOf (start .args .starts .now) (start .args .neighbours .now)) (start .args .s),
+      (at-choose-hubs .choose-hubs .kept .1 .1 .1 .1 .0),
+      (start .pre .1 .3),
+    ))
 
 slice-aggregate-fill-full : tie.Need-slice-aggregate-fill-full
-slice-aggregate-fill-full c = sym (length-take-le ((c .before .before .before .choose-hubs .result)) ((c .before .before .before .choose-hubs .last .1 .1 .1 .1 .0)) (omega (arith, (c .before .before .before .choose-hubs .ensures .0), hubs-length ((c .before .before .before .before .before .before .before .before .before .before .before .args .n)) (neighboursOf ((c .before .before .before .before .before .before .before .before .before .before .before .args .starts .now)) ((c .before .before .before .before .before .before .before .before .before .before .before .args .neighbours .now))) ((c .before .before .before .before .before .before .before .before .before .before .before .args .s)), (c .before .before .before .choose-hubs .kept .1 .1 .1 .1 .0), (c .before .before .before .before .before .before .before .before .before .before .before .pre .1 .3))))
+slice-aggregate-fill-full c =
+    let start = c .before .before .before .before .before .before .before .before .before .before .before in
+    let at-choose-hubs = c .before .before .before in
+    sym (length-take-le (at-choose-hubs .choose-hubs .result) (at-choose-hubs .choose-hubs .last .1 .1 .1 .1 .0)
+    (omega (
+      arith,
+      (at-choose-hubs .choose-hubs .ensures .0),
+      hubs-length (start .args .n)
+          (neighboursOf (start .args .starts .now) (start .args .neighbours .now)) (start .args .s),
+      (at-choose-hubs .choose-hubs .kept .1 .1 .1 .1 .0),
+      (start .pre .1 .3),
+    )))
 
 fill-full-requires : tie.Need-fill-full-requires
-fill-full-requires c κs = (((c .before .before .before .before .before .before .before .before .before .before .before .before .pre .0), (c .before .before .before .before .before .before .before .before .before .before .before .before .pre .1 .0)), (subst (λ (l : List ℕ). (h : ℕ) → T (has h l) → h < ((c .before .before .before .before .before .before .before .before .before .before .before .before .args .n))) (sym (hubs-front ((c .before .before .before .before .before .before .before .before .before .before .before .before .args .n)) ((c .before .before .before .before .before .before .before .before .before .before .before .before .args .s)) (neighboursOf ((c .before .before .before .before .before .before .before .before .before .before .before .before .args .starts .now)) ((c .before .before .before .before .before .before .before .before .before .before .before .before .args .neighbours .now))) ((c .before .before .before .before .before .before .before .before .before .before .before .before .args .hubs .now)) ((c .before .before .before .before .choose-hubs .last .1 .1 .1 .1 .0)) ((c .before .before .before .before .choose-hubs .result)) ((c .before .before .before .before .choose-hubs .ensures .0)) ((c .before .before .before .before .choose-hubs .ensures .1)))) (hubs-below ((c .before .before .before .before .before .before .before .before .before .before .before .before .args .n)) (neighboursOf ((c .before .before .before .before .before .before .before .before .before .before .before .before .args .starts .now)) ((c .before .before .before .before .before .before .before .before .before .before .before .before .args .neighbours .now))) ((c .before .before .before .before .before .before .before .before .before .before .before .before .args .s)))))
+fill-full-requires c κs =
+    let start = c .before .before .before .before .before .before .before .before .before .before .before .before in
+    let at-choose-hubs = c .before .before .before .before in (
+      ((start .pre .0), (start .pre .1 .0)),
+      (subst (λ (l : List ℕ). (h : ℕ) → T (has h l) → h < (start .args .n))
+          (sym (hubs-front (start .args .n) (start .args .s) (neighboursOf (start .args .starts .now) (start .args .neighbours .now))
+          (start .args .hubs .now) (at-choose-hubs .choose-hubs .last .1 .1 .1 .1 .0) (at-choose-hubs .choose-hubs .result)
+          (at-choose-hubs .choose-hubs .ensures .0) (at-choose-hubs .choose-hubs .ensures .1)))
+          (hubs-below (start .args .n) (neighboursOf (start .args .starts .now) (start .args .neighbours .now)) (start .args .s))),
+    )
 
 fill-low-requires : tie.Need-fill-low-requires
-fill-low-requires c κs = ((c .before .before .before .before .before .before .before .before .before .before .before .before .before .before .before .before .pre .0), (c .before .before .before .before .before .before .before .before .before .before .before .before .before .before .before .before .pre .1 .1))
+fill-low-requires c κs =
+    let start = c .before .before .before .before .before .before .before .before .before .before .before .before .before .before .before .before in
+    ((start .pre .0), (start .pre .1 .1))
 
 slice-reshare-prefix-fill-report : tie.Need-slice-reshare-prefix-fill-report
-slice-reshare-prefix-fill-report c = (omega (arith, (c .before .before .before .before .before .before .before .before .before .before .before .before .before .choose-hubs .ensures .0), hubs-length ((c .before .before .before .before .before .before .before .before .before .before .before .before .before .before .before .before .before .before .before .before .before .args .n)) (neighboursOf ((c .before .before .before .before .before .before .before .before .before .before .before .before .before .before .before .before .before .before .before .before .before .args .starts .now)) ((c .before .before .before .before .before .before .before .before .before .before .before .before .before .before .before .before .before .before .before .before .before .args .neighbours .now))) ((c .before .before .before .before .before .before .before .before .before .before .before .before .before .before .before .before .before .before .before .before .before .args .s)), (c .before .before .before .before .before .before .before .before .before .before .before .before .before .choose-hubs .kept .1 .1 .1 .1 .0), (c .before .before .before .before .before .before .before .before .before .before .before .before .before .before .before .before .before .before .before .before .before .pre .1 .3)))
+slice-reshare-prefix-fill-report c =
+    let start = c .before .before .before .before .before .before .before .before .before .before .before .before .before .before .before .before .before .before .before .before .before in
+    let at-choose-hubs = c .before .before .before .before .before .before .before .before .before .before .before .before .before in
+    (omega (
+      arith,
+      (at-choose-hubs .choose-hubs .ensures .0),
+      hubs-length (start .args .n)
+          (neighboursOf (start .args .starts .now) (start .args .neighbours .now)) (start .args .s),
+      (at-choose-hubs .choose-hubs .kept .1 .1 .1 .1 .0),
+      (start .pre .1 .3),
+    ))
 
 slice-aggregate-fill-report : tie.Need-slice-aggregate-fill-report
-slice-aggregate-fill-report c = sym (length-take-le ((c .before .before .before .before .before .before .before .before .before .before .before .before .before .before .choose-hubs .result)) ((c .before .before .before .before .before .before .before .before .before .before .before .before .before .before .choose-hubs .last .1 .1 .1 .1 .0)) (omega (arith, (c .before .before .before .before .before .before .before .before .before .before .before .before .before .before .choose-hubs .ensures .0), hubs-length ((c .before .before .before .before .before .before .before .before .before .before .before .before .before .before .before .before .before .before .before .before .before .before .args .n)) (neighboursOf ((c .before .before .before .before .before .before .before .before .before .before .before .before .before .before .before .before .before .before .before .before .before .before .args .starts .now)) ((c .before .before .before .before .before .before .before .before .before .before .before .before .before .before .before .before .before .before .before .before .before .before .args .neighbours .now))) ((c .before .before .before .before .before .before .before .before .before .before .before .before .before .before .before .before .before .before .before .before .before .before .args .s)), (c .before .before .before .before .before .before .before .before .before .before .before .before .before .before .choose-hubs .kept .1 .1 .1 .1 .0), (c .before .before .before .before .before .before .before .before .before .before .before .before .before .before .before .before .before .before .before .before .before .before .pre .1 .3))))
+slice-aggregate-fill-report c =
+    let start = c .before .before .before .before .before .before .before .before .before .before .before .before .before .before .before .before .before .before .before .before .before .before in
+    let at-choose-hubs = c .before .before .before .before .before .before .before .before .before .before .before .before .before .before in
+    sym (length-take-le (at-choose-hubs .choose-hubs .result) (at-choose-hubs .choose-hubs .last .1 .1 .1 .1 .0)
+    (omega (
+      arith,
+      (at-choose-hubs .choose-hubs .ensures .0),
+      hubs-length (start .args .n)
+          (neighboursOf (start .args .starts .now) (start .args .neighbours .now)) (start .args .s),
+      (at-choose-hubs .choose-hubs .kept .1 .1 .1 .1 .0),
+      (start .pre .1 .3),
+    )))
 
 fill-report-requires : tie.Need-fill-report-requires
-fill-report-requires c κs = (((c .before .before .before .before .before .before .before .before .before .before .before .before .before .before .before .before .before .before .before .before .before .before .before .pre .0 .size), omega (arith, (c .before .before .before .before .before .before .before .before .before .before .fill-full .kept .1 .1 .1 .1 .0), (c .before .before .before .before .before .before .before .before .before .before .before .before .before .before .before .before .before .before .before .before .before .before .before .pre .1 .0)), omega (arith, (c .before .before .before .before .before .before .fill-low .kept .1 .1 .1 .1 .0), (c .before .before .before .before .before .before .before .before .before .before .before .before .before .before .before .before .before .before .before .before .before .before .before .pre .1 .1)), (c .before .before .before .before .before .before .before .before .before .before .before .before .before .before .before .before .before .before .before .before .before .before .before .pre .1 .2)), (subst (λ (l : List ℕ). (h : ℕ) → T (has h l) → h < ((c .before .before .before .before .before .before .before .before .before .before .before .before .before .before .before .before .before .before .before .before .before .before .before .args .n))) (sym (hubs-front ((c .before .before .before .before .before .before .before .before .before .before .before .before .before .before .before .before .before .before .before .before .before .before .before .args .n)) ((c .before .before .before .before .before .before .before .before .before .before .before .before .before .before .before .before .before .before .before .before .before .before .before .args .s)) (neighboursOf ((c .before .before .before .before .before .before .before .before .before .before .before .before .before .before .before .before .before .before .before .before .before .before .before .args .starts .now)) ((c .before .before .before .before .before .before .before .before .before .before .before .before .before .before .before .before .before .before .before .before .before .before .before .args .neighbours .now))) ((c .before .before .before .before .before .before .before .before .before .before .before .before .before .before .before .before .before .before .before .before .before .before .before .args .hubs .now)) ((c .before .before .before .before .before .before .before .before .before .before .before .before .before .before .before .choose-hubs .last .1 .1 .1 .1 .0)) ((c .before .before .before .before .before .before .before .before .before .before .before .before .before .before .before .choose-hubs .result)) ((c .before .before .before .before .before .before .before .before .before .before .before .before .before .before .before .choose-hubs .ensures .0)) ((c .before .before .before .before .before .before .before .before .before .before .before .before .before .before .before .choose-hubs .ensures .1)))) (hubs-below ((c .before .before .before .before .before .before .before .before .before .before .before .before .before .before .before .before .before .before .before .before .before .before .before .args .n)) (neighboursOf ((c .before .before .before .before .before .before .before .before .before .before .before .before .before .before .before .before .before .before .before .before .before .before .before .args .starts .now)) ((c .before .before .before .before .before .before .before .before .before .before .before .before .before .before .before .before .before .before .before .before .before .before .before .args .neighbours .now))) ((c .before .before .before .before .before .before .before .before .before .before .before .before .before .before .before .before .before .before .before .before .before .before .before .args .s)))))
+fill-report-requires c κs =
+    let start = c .before .before .before .before .before .before .before .before .before .before .before .before .before .before .before .before .before .before .before .before .before .before .before in
+    let at-choose-hubs = c .before .before .before .before .before .before .before .before .before .before .before .before .before .before .before in
+    let at-fill-full = c .before .before .before .before .before .before .before .before .before .before in
+    let at-fill-low = c .before .before .before .before .before .before in (
+      (
+        (start .pre .0 .size),
+        omega (arith, (at-fill-full .fill-full .kept .1 .1 .1 .1 .0), (start .pre .1 .0)),
+        omega
+            (arith, (at-fill-low .fill-low .kept .1 .1 .1 .1 .0), (start .pre .1 .1)),
+        (start .pre .1 .2),
+      ),
+      (subst (λ (l : List ℕ). (h : ℕ) → T (has h l) → h < (start .args .n))
+          (sym (hubs-front (start .args .n) (start .args .s) (neighboursOf (start .args .starts .now) (start .args .neighbours .now))
+          (start .args .hubs .now) (at-choose-hubs .choose-hubs .last .1 .1 .1 .1 .0) (at-choose-hubs .choose-hubs .result)
+          (at-choose-hubs .choose-hubs .ensures .0) (at-choose-hubs .choose-hubs .ensures .1)))
+          (hubs-below (start .args .n) (neighboursOf (start .args .starts .now) (start .args .neighbours .now)) (start .args .s))),
+    )
 
 same-length : tie.Need-same-length
 same-length c = search needs
@@ -52,7 +124,18 @@ same-length-4 : tie.Need-same-length-4
 same-length-4 c = search needs
 
 returns : tie.Need-returns
-returns c = tables-built ((c .before .before .before .before .before .before .before .before .before .before .before .before .before .before .before .before .before .before .before .before .before .before .before .before .before .before .args .n)) ((c .before .before .before .before .before .before .before .before .before .before .before .before .before .before .before .before .before .before .before .before .before .before .before .before .before .before .args .s)) (neighboursOf ((c .before .before .before .before .before .before .before .before .before .before .before .before .before .before .before .before .before .before .before .before .before .before .before .before .before .before .args .starts .now)) ((c .before .before .before .before .before .before .before .before .before .before .before .before .before .before .before .before .before .before .before .before .before .before .before .before .before .before .args .neighbours .now))) ((c .before .before .before .before .before .before .before .before .before .before .before .before .before .before .before .before .before .before .before .before .before .before .before .before .before .before .args .full .now)) ((c .before .before .before .before .before .before .before .before .before .before .before .before .before .before .before .before .before .before .before .before .before .before .before .before .before .before .args .low .now)) ((c .before .before .before .before .before .before .before .before .before .before .before .before .before .before .before .before .before .before .before .before .before .before .before .before .before .before .args .report .now)) ((c .before .before .before .before .before .before .before .before .before .before .before .before .before .before .before .before .before .before .before .before .before .before .before .before .before .before .args .hubs .now)) ((c .before .before .before .before .before .before .before .before .before .before .before .before .before .fill-full .last .1 .1 .1 .1 .0)) ((c .before .before .before .before .before .before .before .before .before .fill-low .last .1 .1 .1 .1 .0)) ((c .before .before .fill-report .last .1 .1 .1 .1 .0)) ((c .before .before .before .before .before .before .before .before .before .before .before .before .before .before .before .before .before .before .choose-hubs .last .1 .1 .1 .1 .0)) ((c .before .before .before .before .before .before .before .before .before .before .before .before .before .before .before .before .before .before .choose-hubs .result)) ((c .before .before .before .before .before .before .before .before .before .before .before .before .before .before .before .before .before .before .choose-hubs .ensures .0)) ((c .before .before .before .before .before .before .before .before .before .before .before .before .before .before .before .before .before .before .choose-hubs .ensures .1)) ((c .before .before .before .before .before .before .before .before .before .before .before .before .before .fill-full .ensures)) ((c .before .before .before .before .before .before .before .before .before .fill-low .ensures)) ((c .before .before .fill-report .ensures))
+returns c =
+    let start = c .before .before .before .before .before .before .before .before .before .before .before .before .before .before .before .before .before .before .before .before .before .before .before .before .before .before in
+    let at-choose-hubs = c .before .before .before .before .before .before .before .before .before .before .before .before .before .before .before .before .before .before in
+    let at-fill-full = c .before .before .before .before .before .before .before .before .before .before .before .before .before in
+    let at-fill-low = c .before .before .before .before .before .before .before .before .before in
+    let at-fill-report = c .before .before in
+    tables-built (start .args .n) (start .args .s) (neighboursOf (start .args .starts .now) (start .args .neighbours .now))
+    (start .args .full .now) (start .args .low .now) (start .args .report .now) (start .args .hubs .now)
+    (at-fill-full .fill-full .last .1 .1 .1 .1 .0) (at-fill-low .fill-low .last .1 .1 .1 .1 .0)
+    (at-fill-report .fill-report .last .1 .1 .1 .1 .0) (at-choose-hubs .choose-hubs .last .1 .1 .1 .1 .0)
+    (at-choose-hubs .choose-hubs .result) (at-choose-hubs .choose-hubs .ensures .0) (at-choose-hubs .choose-hubs .ensures .1)
+    (at-fill-full .fill-full .ensures) (at-fill-low .fill-low .ensures) (at-fill-report .fill-report .ensures)
 
 pub build-tables-spec : {M : Type 1} → statement M
 build-tables-spec =

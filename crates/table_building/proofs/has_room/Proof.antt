@@ -7,10 +7,10 @@ use Rattle.table_building.proofs.has_room.Statement.{statement}
 use Rattle.table_building.proofs.has_room.Tie as tie
 
 mul-entries : tie.Need-mul-entries
-mul-entries c = omega (arith, square-small ((c .args .n)) ((c .pre)))
+mul-entries c = omega (arith, square-small (c .args .n) (c .pre))
 
 returns : tie.Need-returns
-returns c = room-is ((c .args .n)) ((c .args .starts)) ((c .args .full)) ((c .args .low)) ((c .args .report)) ((c .args .hubs))
+returns c = room-is (c .args .n) (c .args .starts) (c .args .full) (c .args .low) (c .args .report) (c .args .hubs)
 
 pub has-room-spec : {M : Type 1} → statement M
 has-room-spec = tie.close (tie.spec mul-entries returns)

@@ -27,36 +27,50 @@ mul-degree : tie.Need-mul-degree Inv-loop μ-loop
 mul-degree c = omega (arith, (c .before .before .before .before .before .pre .0) .size)
 
 shared-slice-read-degree : tie.Need-shared-slice-read-degree Inv-loop μ-loop
-shared-slice-read-degree c = omega (arith, (c .before .before .before .before .before .before .pre .0) .room)
+shared-slice-read-degree c =
+    let start = c .before .before .before .before .before .before in
+    omega (arith, (start .pre .0) .room)
 
 mul-degree-2 : tie.Need-mul-degree-2 Inv-loop μ-loop
-mul-degree-2 c = omega (arith, (c .before .before .before .before .before .before .pre .0) .size)
+mul-degree-2 c =
+    let start = c .before .before .before .before .before .before in
+    omega (arith, (start .pre .0) .size)
 
 shared-slice-read-degree-2 : tie.Need-shared-slice-read-degree-2 Inv-loop μ-loop
-shared-slice-read-degree-2 c = omega (arith, (c .before .before .before .before .before .before .before .pre .0) .room)
+shared-slice-read-degree-2 c =
+    let start = c .before .before .before .before .before .before .before in
+    omega (arith, (start .pre .0) .room)
 
 sub-degree : tie.Need-sub-degree Inv-loop μ-loop
-sub-degree c = (c .before .before .before .before .before .before .before .pre .0) .lists .rising (c .before .before .before .loop .v) (c .before .before .loop-test .taken)
+sub-degree c =
+    let start = c .before .before .before .before .before .before .before in
+    (start .pre .0) .lists .rising (c .before .before .before .loop .v) (c .before .before .loop-test .taken)
 
 cast-if1 : tie.Need-cast-if1 Inv-loop μ-loop
 cast-if1 c = omega (arith, (c .before .shared-slice-known3 .given) ((c .before .before .before .loop .v) + 1))
 
 insert-requires : tie.Need-insert-requires Inv-loop μ-loop
-insert-requires c κs = omega (arith, (c .before .before .before .before .before .loop .inv .1) .long, (c .before .before .before .before .before .before .before .before .before .pre .0) .size)
+insert-requires c κs =
+    let start = c .before .before .before .before .before .before .before .before .before in
+    omega (arith, (c .before .before .before .before .before .loop .inv .1) .long, (start .pre .0) .size)
 
 add-v : tie.Need-add-v Inv-loop μ-loop
-add-v c = omega (arith, (c .before .before .before .before .before .before .before .before .pre .0) .size)
+add-v c =
+    let start = c .before .before .before .before .before .before .before .before in
+    omega (arith, (start .pre .0) .size)
 
 loop-less : tie.Need-loop-less Inv-loop μ-loop
 loop-less c = omega arith
 
 loop-again : tie.Need-loop-again Inv-loop μ-loop
 loop-again c =
-    let d = own-length _ _ _ (rows-of (c .before .before .before .before .before .before .before .before .pre .0)) (c .before .before .before .before .loop .v) (c .before .before .before .loop-test .taken) in (
+    let start = c .before .before .before .before .before .before .before .before in
+    let at-loop = c .before .before .before .before in
+    let d = own-length _ _ _ (rows-of (start .pre .0)) (at-loop .loop .v) (c .before .before .before .loop-test .taken) in (
       omega arith,
       ⊎-elim
-          (λ w. rw (w .5) (high-with _ _ _ _ (c .before .before .before .before .loop .inv .1) _ (omega (arith, d, w .0 .taken)) (w .2 .kept .0) (w .2 .ensures)))
-          (λ w. rw (w .1) (high-without _ _ _ _ (c .before .before .before .before .loop .inv .1) (omega (arith, d, w .0 .left))))
+          (λ w. rw (w .5) (high-with _ _ _ _ (at-loop .loop .inv .1) _ (omega (arith, d, w .0 .taken)) (w .2 .kept .0) (w .2 .ensures)))
+          (λ w. rw (w .1) (high-without _ _ _ _ (at-loop .loop .inv .1) (omega (arith, d, w .0 .left))))
           (c .if1 .came),
     )
 

@@ -16,19 +16,32 @@ high-nodes-requires : tie.Need-high-nodes-requires
 high-nodes-requires c κs = ((c .before .before .before .before .pre .0), refl)
 
 insert-below-requires : tie.Need-insert-below-requires
-insert-below-requires c κs = ((c .before .before .before .before .before .before .before .pre .1), (c .before .before .before .before .before .before .before .pre .0 .size))
+insert-below-requires c κs =
+    let start = c .before .before .before .before .before .before .before in
+    ((start .pre .1), (start .pre .0 .size))
 
 slice-aggregate-subtract : tie.Need-slice-aggregate-subtract
-slice-aggregate-subtract c = sym (((c .before .before .before .before .before .before .before .high-nodes .kept .1 .1 .1 .1 .0)) ∙ length-replicate {A = ℕ} 16 0)
+slice-aggregate-subtract c =
+    let at-high-nodes = c .before .before .before .before .before .before .before in
+    sym ((at-high-nodes .high-nodes .kept .1 .1 .1 .1 .0) ∙ length-replicate {A = ℕ} 16 0)
 
 subtract-requires : tie.Need-subtract-requires
-subtract-requires c κs = ((c .before .before .before .before .insert-below .kept .0)) ∙ ap length ((c .before .before .before .before .before .before .before .before .before .before .before .before .pre .1)) ∙ length-replicate {A = ℕ} 16 0 ∙ sym (((c .before .before .before .before .before .before .before .high-nodes .kept .1 .1 .1 .1 .0)) ∙ length-replicate {A = ℕ} 16 0)
+subtract-requires c κs =
+    let start = c .before .before .before .before .before .before .before .before .before .before .before .before in
+    let at-high-nodes = c .before .before .before .before .before .before .before in
+    (c .before .before .before .before .insert-below .kept .0) ∙ ap length (start .pre .1) ∙ length-replicate {A = ℕ} 16 0 ∙ sym
+    ((at-high-nodes .high-nodes .kept .1 .1 .1 .1 .0) ∙ length-replicate {A = ℕ} 16 0)
 
 same-length : tie.Need-same-length
 same-length c = search needs
 
 returns : tie.Need-returns
-returns c = low-set ((c .before .before .before .before .before .before .before .before .before .before .before .before .before .before .before .args .n)) ((c .before .before .before .before .before .before .before .before .before .before .before .before .before .before .before .args .s)) (neighboursOf ((c .before .before .before .before .before .before .before .before .before .before .before .before .before .before .before .args .starts .now)) ((c .before .before .before .before .before .before .before .before .before .before .before .before .before .before .before .args .neighbours .now))) _ _ _ ((c .before .before .before .before .before .before .before .insert-below .ensures)) ((c .before .before .before .before .before .before .before .before .before .before .high-nodes .ensures)) ((c .before .before .subtract .ensures))
+returns c =
+    let start = c .before .before .before .before .before .before .before .before .before .before .before .before .before .before .before in
+    let at-high-nodes = c .before .before .before .before .before .before .before .before .before .before in
+    let at-insert-below = c .before .before .before .before .before .before .before in
+    low-set (start .args .n) (start .args .s) (neighboursOf (start .args .starts .now) (start .args .neighbours .now)) _ _ _
+    (at-insert-below .insert-below .ensures) (at-high-nodes .high-nodes .ensures) (c .before .before .subtract .ensures)
 
 pub low-nodes-spec : {M : Type 1} → statement M
 low-nodes-spec =

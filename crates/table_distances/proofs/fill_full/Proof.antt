@@ -33,22 +33,36 @@ insert-below-requires : tie.Need-insert-below-requires Inv-loop μ-loop
 insert-below-requires c κs = (refl, (c .before .before .before .before .before .pre .0 .0 .size))
 
 mul-size : tie.Need-mul-size Inv-loop μ-loop
-mul-size c = omega (arith, square-small ((c .before .before .before .before .before .before .before .args .n)) ((c .before .before .before .before .before .before .before .pre .0 .0 .size)))
+mul-size c =
+    let start = c .before .before .before .before .before .before .before in
+    omega (arith, square-small (start .args .n) (start .pre .0 .0 .size))
 
 slice-relend-prefix-fill16 : tie.Need-slice-relend-prefix-fill16 Inv-loop μ-loop
-slice-relend-prefix-fill16 c = omega (arith, (c .before .before .before .before .before .before .before .pre .0 .1))
+slice-relend-prefix-fill16 c =
+    let start = c .before .before .before .before .before .before .before in
+    omega (arith, (start .pre .0 .1))
 
 slice-aggregate-fill16 : tie.Need-slice-aggregate-fill16 Inv-loop μ-loop
-slice-aggregate-fill16 c = sym (length-take-le _ (c .before .before .before .before .before .before .before .before .args .full .now) (omega (arith, (c .before .before .before .before .before .before .before .before .pre .0 .1))))
+slice-aggregate-fill16 c =
+    let start = c .before .before .before .before .before .before .before .before in
+    sym (length-take-le _ (start .args .full .now) (omega (arith, (start .pre .0 .1))))
 
 fill16-requires : tie.Need-fill16-requires Inv-loop μ-loop
 fill16-requires c κs = search needs
 
 loop-holds : tie.Need-loop-holds Inv-loop μ-loop
-loop-holds c = (omega arith, full-none ((c .before .before .before .before .before .before .before .before .before .before .before .args .n)) (neighboursOf ((c .before .before .before .before .before .before .before .before .before .before .before .args .starts .now)) ((c .before .before .before .before .before .before .before .before .before .before .before .args .neighbours .now))) ((c .before .before .before .before .before .before .before .before .before .before .before .args .hubs .now)) ((c .before .before .before .before .before .before .before .before .before .before .before .args .full .now)) ((c .before .before .fill16 .last .0)) ((c .before .before .before .before .before .before .before .before .before .before .before .pre .0 .1)) ((c .before .before .fill16 .ensures)))
+loop-holds c =
+    let start = c .before .before .before .before .before .before .before .before .before .before .before in
+    let at-fill16 = c .before .before in (
+      omega arith,
+      full-none (start .args .n) (neighboursOf (start .args .starts .now) (start .args .neighbours .now))
+          (start .args .hubs .now) (start .args .full .now) (at-fill16 .fill16 .last .0) (start .pre .0 .1) (at-fill16 .fill16 .ensures),
+    )
 
 slice-aggregate-search-row : tie.Need-slice-aggregate-search-row Inv-loop μ-loop
-slice-aggregate-search-row c = sym ((c .before .before .before .before .before .before .before .before .insert-below .kept .0) ∙ length-replicate {A = ℕ} 16 0)
+slice-aggregate-search-row c =
+    let at-insert-below = c .before .before .before .before .before .before .before .before in
+    sym ((at-insert-below .insert-below .kept .0) ∙ length-replicate {A = ℕ} 16 0)
 
 mul-search-row : tie.Need-mul-search-row Inv-loop μ-loop
 mul-search-row c = search needs
@@ -57,10 +71,41 @@ shared-slice-read-search-row : tie.Need-shared-slice-read-search-row Inv-loop μ
 shared-slice-read-search-row c = search needs
 
 cast-search-row : tie.Need-cast-search-row Inv-loop μ-loop
-cast-search-row c = omega (arith, (c .shared-slice-known4 .given) ((c .before .before .before .loop .i)))
+cast-search-row c = omega (arith, (c .shared-slice-known4 .given) (c .before .before .before .loop .i))
 
 search-row-requires : tie.Need-search-row-requires Inv-loop μ-loop
-search-row-requires c κs = (((c .before .before .before .before .before .before .before .before .before .before .before .before .before .before .before .before .pre .0 .0), ((c .before .before .before .before .before .before .before .before .before .before .insert-below .kept .0)) ∙ length-replicate {A = ℕ} 16 0), (((c .before .before .before .before .before .before .before .before .before .before .before .before .before .before .before .before .pre .1) (getD ((c .before .before .before .before .before .before .before .before .before .before .before .before .before .before .before .before .args .hubs .now)) ((c .before .before .before .before .loop .i)) 0) (getD-has ((c .before .before .before .before .before .before .before .before .before .before .before .before .before .before .before .before .args .hubs .now)) ((c .before .before .before .before .loop .i)) ((c .before .before .before .loop-test .taken)))), subst T (sym (ap (λ (f : ℕ → Bool). f (getD ((c .before .before .before .before .before .before .before .before .before .before .before .before .before .before .before .before .args .hubs .now)) ((c .before .before .before .before .loop .i)) 0)) ((c .before .before .before .before .before .before .before .before .before .before .insert-below .ensures)))) (lt→ltb (getD ((c .before .before .before .before .before .before .before .before .before .before .before .before .before .before .before .before .args .hubs .now)) ((c .before .before .before .before .loop .i)) 0) ((c .before .before .before .before .before .before .before .before .before .before .before .before .before .before .before .before .args .n)) ((c .before .before .before .before .before .before .before .before .before .before .before .before .before .before .before .before .pre .1) (getD ((c .before .before .before .before .before .before .before .before .before .before .before .before .before .before .before .before .args .hubs .now)) ((c .before .before .before .before .loop .i)) 0) (getD-has ((c .before .before .before .before .before .before .before .before .before .before .before .before .before .before .before .before .args .hubs .now)) ((c .before .before .before .before .loop .i)) ((c .before .before .before .loop-test .taken))))), omega (arith, ((ap length ((c .before .before .before .before .loop .inv .1))) ∙ full-length ((c .before .before .before .before .before .before .before .before .before .before .before .before .before .before .before .before .args .n)) (neighboursOf ((c .before .before .before .before .before .before .before .before .before .before .before .before .before .before .before .before .args .starts .now)) ((c .before .before .before .before .before .before .before .before .before .before .before .before .before .before .before .before .args .neighbours .now))) ((c .before .before .before .before .before .before .before .before .before .before .before .before .before .before .before .before .args .hubs .now)) ((c .before .before .before .before .loop .i)) (((c .before .before .before .before .before .before .before .fill16 .last .0)) ++ drop (((c .before .before .before .before .before .before .before .before .before .before .before .before .before .before .before .before .args .n)) * ((c .before .before .before .before .before .before .before .before .before .before .before .before .before .before .before .before .args .n))) ((c .before .before .before .before .before .before .before .before .before .before .before .before .before .before .before .before .args .full .now))) (omega (arith, full-room ((c .before .before .before .before .before .before .before .before .before .before .before .before .before .before .before .before .args .n)) (neighboursOf ((c .before .before .before .before .before .before .before .before .before .before .before .before .before .before .before .before .args .starts .now)) ((c .before .before .before .before .before .before .before .before .before .before .before .before .before .before .before .before .args .neighbours .now))) ((c .before .before .before .before .before .before .before .before .before .before .before .before .before .before .before .before .args .hubs .now)) ((c .before .before .before .before .before .before .before .before .before .before .before .before .before .before .before .before .args .full .now)) ((c .before .before .before .before .before .before .before .fill16 .last .0)) ((c .before .before .before .before .before .before .before .before .before .before .before .before .before .before .before .before .pre .0 .1)) ((c .before .before .before .before .before .before .before .fill16 .ensures)), (c .before .before .before .before .before .before .before .before .before .before .before .before .before .before .before .before .pre .0 .1)))), full-room ((c .before .before .before .before .before .before .before .before .before .before .before .before .before .before .before .before .args .n)) (neighboursOf ((c .before .before .before .before .before .before .before .before .before .before .before .before .before .before .before .before .args .starts .now)) ((c .before .before .before .before .before .before .before .before .before .before .before .before .before .before .before .before .args .neighbours .now))) ((c .before .before .before .before .before .before .before .before .before .before .before .before .before .before .before .before .args .hubs .now)) ((c .before .before .before .before .before .before .before .before .before .before .before .before .before .before .before .before .args .full .now)) ((c .before .before .before .before .before .before .before .fill16 .last .0)) ((c .before .before .before .before .before .before .before .before .before .before .before .before .before .before .before .before .pre .0 .1)) ((c .before .before .before .before .before .before .before .fill16 .ensures)), (c .before .before .before .before .before .before .before .before .before .before .before .before .before .before .before .before .pre .0 .1))))
+search-row-requires c κs =
+    let start = c .before .before .before .before .before .before .before .before .before .before .before .before .before .before .before .before in
+    let at-insert-below = c .before .before .before .before .before .before .before .before .before .before in
+    let at-fill16 = c .before .before .before .before .before .before .before in
+    let at-loop = c .before .before .before .before in
+    let at-loop-test = c .before .before .before in (
+      ((start .pre .0 .0), (at-insert-below .insert-below .kept .0) ∙ length-replicate {A = ℕ} 16 0),
+      (
+        ((start .pre .1) (getD (start .args .hubs .now) (at-loop .loop .i) 0)
+            (getD-has (start .args .hubs .now) (at-loop .loop .i) (at-loop-test .loop-test .taken))),
+        subst T
+            (sym (ap (λ (f : ℕ → Bool). f (getD (start .args .hubs .now) (at-loop .loop .i) 0)) (at-insert-below .insert-below .ensures)))
+            (lt→ltb (getD (start .args .hubs .now) (at-loop .loop .i) 0) (start .args .n)
+            ((start .pre .1) (getD (start .args .hubs .now) (at-loop .loop .i) 0)
+            (getD-has (start .args .hubs .now) (at-loop .loop .i) (at-loop-test .loop-test .taken)))),
+        omega (
+          arith,
+          ((ap length (at-loop .loop .inv .1)) ∙ full-length (start .args .n)
+              (neighboursOf (start .args .starts .now) (start .args .neighbours .now)) (start .args .hubs .now) (at-loop .loop .i)
+              ((at-fill16 .fill16 .last .0) ++ drop ((start .args .n) * (start .args .n)) (start .args .full .now))
+              (omega (
+                arith,
+                full-room (start .args .n) (neighboursOf (start .args .starts .now) (start .args .neighbours .now))
+                    (start .args .hubs .now) (start .args .full .now) (at-fill16 .fill16 .last .0) (start .pre .0 .1) (at-fill16 .fill16 .ensures),
+                (start .pre .0 .1),
+              ))),
+          full-room (start .args .n) (neighboursOf (start .args .starts .now) (start .args .neighbours .now))
+              (start .args .hubs .now) (start .args .full .now) (at-fill16 .fill16 .last .0) (start .pre .0 .1) (at-fill16 .fill16 .ensures),
+          (start .pre .0 .1),
+        ),
+      ),
+    )
 
 add-i : tie.Need-add-i Inv-loop μ-loop
 add-i c = search needs
@@ -69,13 +114,52 @@ loop-less : tie.Need-loop-less Inv-loop μ-loop
 loop-less c = search needs
 
 loop-again : tie.Need-loop-again Inv-loop μ-loop
-loop-again c = (omega arith, ((c .before .before .search-row .ensures)) ∙ ap (λ (l : List ℕ). written l (getD ((c .before .before .before .before .before .before .before .before .before .before .before .before .before .before .before .before .before .before .before .args .hubs .now)) ((c .before .before .before .before .before .before .before .loop .i)) 0 * ((c .before .before .before .before .before .before .before .before .before .before .before .before .before .before .before .before .before .before .before .args .n))) (map (fewest (between (member ((c .before .before .before .before .before .before .before .before .before .before .before .before .before .insert-below .last .0))) (linked ((c .before .before .before .before .before .before .before .before .before .before .before .before .before .before .before .before .before .before .before .args .n)) (neighboursOf ((c .before .before .before .before .before .before .before .before .before .before .before .before .before .before .before .before .before .before .before .args .starts .now)) ((c .before .before .before .before .before .before .before .before .before .before .before .before .before .before .before .before .before .before .before .args .neighbours .now))))) ((c .before .before .before .before .before .before .before .before .before .before .before .before .before .before .before .before .before .before .before .args .n)) (getD ((c .before .before .before .before .before .before .before .before .before .before .before .before .before .before .before .before .before .before .before .args .hubs .now)) ((c .before .before .before .before .before .before .before .loop .i)) 0)) (upTo ((c .before .before .before .before .before .before .before .before .before .before .before .before .before .before .before .before .before .before .before .args .n))))) ((c .before .before .before .before .before .before .before .loop .inv .1)) ∙ full-next ((c .before .before .before .before .before .before .before .before .before .before .before .before .before .before .before .before .before .before .before .args .n)) (neighboursOf ((c .before .before .before .before .before .before .before .before .before .before .before .before .before .before .before .before .before .before .before .args .starts .now)) ((c .before .before .before .before .before .before .before .before .before .before .before .before .before .before .before .before .before .before .before .args .neighbours .now))) ((c .before .before .before .before .before .before .before .before .before .before .before .before .before .before .before .before .before .before .before .args .hubs .now)) ((c .before .before .before .before .before .before .before .loop .i)) ((c .before .before .before .before .before .before .loop-test .taken)) (((c .before .before .before .before .before .before .before .before .before .before .fill16 .last .0)) ++ drop (((c .before .before .before .before .before .before .before .before .before .before .before .before .before .before .before .before .before .before .before .args .n)) * ((c .before .before .before .before .before .before .before .before .before .before .before .before .before .before .before .before .before .before .before .args .n))) ((c .before .before .before .before .before .before .before .before .before .before .before .before .before .before .before .before .before .before .before .args .full .now))) ((c .before .before .before .before .before .before .before .before .before .before .before .before .before .before .before .before .before .before .before .pre .1) (getD ((c .before .before .before .before .before .before .before .before .before .before .before .before .before .before .before .before .before .before .before .args .hubs .now)) ((c .before .before .before .before .before .before .before .loop .i)) 0) (getD-has ((c .before .before .before .before .before .before .before .before .before .before .before .before .before .before .before .before .before .before .before .args .hubs .now)) ((c .before .before .before .before .before .before .before .loop .i)) ((c .before .before .before .before .before .before .loop-test .taken)))) (member ((c .before .before .before .before .before .before .before .before .before .before .before .before .before .insert-below .last .0))) ((c .before .before .before .before .before .before .before .before .before .before .before .before .before .insert-below .ensures)))
+loop-again c =
+    let start = c .before .before .before .before .before .before .before .before .before .before .before .before .before .before .before .before .before .before .before in
+    let at-insert-below = c .before .before .before .before .before .before .before .before .before .before .before .before .before in
+    let at-fill16 = c .before .before .before .before .before .before .before .before .before .before in
+    let at-loop = c .before .before .before .before .before .before .before in
+    let at-loop-test = c .before .before .before .before .before .before in (
+      omega arith,
+      (c .before .before .search-row .ensures) ∙ ap
+          (λ (l : List ℕ). written l (getD (start .args .hubs .now) (at-loop .loop .i) 0 * (start .args .n))
+          (map (fewest (between (member (at-insert-below .insert-below .last .0))
+          (linked (start .args .n) (neighboursOf (start .args .starts .now) (start .args .neighbours .now)))) (start .args .n)
+          (getD (start .args .hubs .now) (at-loop .loop .i) 0)) (upTo (start .args .n)))) (at-loop .loop .inv .1) ∙ full-next
+          (start .args .n) (neighboursOf (start .args .starts .now) (start .args .neighbours .now)) (start .args .hubs .now)
+          (at-loop .loop .i) (at-loop-test .loop-test .taken)
+          ((at-fill16 .fill16 .last .0) ++ drop ((start .args .n) * (start .args .n)) (start .args .full .now))
+          ((start .pre .1) (getD (start .args .hubs .now) (at-loop .loop .i) 0)
+          (getD-has (start .args .hubs .now) (at-loop .loop .i) (at-loop-test .loop-test .taken)))
+          (member (at-insert-below .insert-below .last .0)) (at-insert-below .insert-below .ensures),
+    )
 
 same-length : tie.Need-same-length Inv-loop μ-loop
-same-length c = ((ap length ((c .before .loop .inv .1))) ∙ full-length ((c .before .before .before .before .before .before .before .before .before .before .before .before .before .args .n)) (neighboursOf ((c .before .before .before .before .before .before .before .before .before .before .before .before .before .args .starts .now)) ((c .before .before .before .before .before .before .before .before .before .before .before .before .before .args .neighbours .now))) ((c .before .before .before .before .before .before .before .before .before .before .before .before .before .args .hubs .now)) ((c .before .loop .i)) (((c .before .before .before .before .fill16 .last .0)) ++ drop (((c .before .before .before .before .before .before .before .before .before .before .before .before .before .args .n)) * ((c .before .before .before .before .before .before .before .before .before .before .before .before .before .args .n))) ((c .before .before .before .before .before .before .before .before .before .before .before .before .before .args .full .now))) (omega (arith, full-room ((c .before .before .before .before .before .before .before .before .before .before .before .before .before .args .n)) (neighboursOf ((c .before .before .before .before .before .before .before .before .before .before .before .before .before .args .starts .now)) ((c .before .before .before .before .before .before .before .before .before .before .before .before .before .args .neighbours .now))) ((c .before .before .before .before .before .before .before .before .before .before .before .before .before .args .hubs .now)) ((c .before .before .before .before .before .before .before .before .before .before .before .before .before .args .full .now)) ((c .before .before .before .before .fill16 .last .0)) ((c .before .before .before .before .before .before .before .before .before .before .before .before .before .pre .0 .1)) ((c .before .before .before .before .fill16 .ensures)), (c .before .before .before .before .before .before .before .before .before .before .before .before .before .pre .0 .1)))) ∙ full-room ((c .before .before .before .before .before .before .before .before .before .before .before .before .before .args .n)) (neighboursOf ((c .before .before .before .before .before .before .before .before .before .before .before .before .before .args .starts .now)) ((c .before .before .before .before .before .before .before .before .before .before .before .before .before .args .neighbours .now))) ((c .before .before .before .before .before .before .before .before .before .before .before .before .before .args .hubs .now)) ((c .before .before .before .before .before .before .before .before .before .before .before .before .before .args .full .now)) ((c .before .before .before .before .fill16 .last .0)) ((c .before .before .before .before .before .before .before .before .before .before .before .before .before .pre .0 .1)) ((c .before .before .before .before .fill16 .ensures))
+same-length c =
+    let start = c .before .before .before .before .before .before .before .before .before .before .before .before .before in
+    let at-fill16 = c .before .before .before .before in
+    let at-loop = c .before in
+    ((ap length (at-loop .loop .inv .1)) ∙ full-length (start .args .n)
+    (neighboursOf (start .args .starts .now) (start .args .neighbours .now)) (start .args .hubs .now) (at-loop .loop .i)
+    ((at-fill16 .fill16 .last .0) ++ drop ((start .args .n) * (start .args .n)) (start .args .full .now))
+    (omega (
+      arith,
+      full-room (start .args .n) (neighboursOf (start .args .starts .now) (start .args .neighbours .now))
+          (start .args .hubs .now) (start .args .full .now) (at-fill16 .fill16 .last .0) (start .pre .0 .1) (at-fill16 .fill16 .ensures),
+      (start .pre .0 .1),
+    ))) ∙ full-room (start .args .n) (neighboursOf (start .args .starts .now) (start .args .neighbours .now))
+    (start .args .hubs .now) (start .args .full .now) (at-fill16 .fill16 .last .0) (start .pre .0 .1) (at-fill16 .fill16 .ensures)
 
 returns : tie.Need-returns Inv-loop μ-loop
-returns c = ((c .before .loop .inv .1)) ∙ full-done ((c .before .before .before .before .before .before .before .before .before .before .before .before .before .args .n)) (neighboursOf ((c .before .before .before .before .before .before .before .before .before .before .before .before .before .args .starts .now)) ((c .before .before .before .before .before .before .before .before .before .before .before .before .before .args .neighbours .now))) ((c .before .before .before .before .before .before .before .before .before .before .before .before .before .args .hubs .now)) ((c .before .loop .i)) (((c .before .before .before .before .fill16 .last .0)) ++ drop (((c .before .before .before .before .before .before .before .before .before .before .before .before .before .args .n)) * ((c .before .before .before .before .before .before .before .before .before .before .before .before .before .args .n))) ((c .before .before .before .before .before .before .before .before .before .before .before .before .before .args .full .now))) ((c .loop-test .left)) ∙ full-all ((c .before .before .before .before .before .before .before .before .before .before .before .before .before .args .n)) (neighboursOf ((c .before .before .before .before .before .before .before .before .before .before .before .before .before .args .starts .now)) ((c .before .before .before .before .before .before .before .before .before .before .before .before .before .args .neighbours .now))) ((c .before .before .before .before .before .before .before .before .before .before .before .before .before .args .hubs .now)) ((c .before .before .before .before .before .before .before .before .before .before .before .before .before .args .full .now)) ((c .before .before .before .before .fill16 .last .0)) ((c .before .before .before .before .before .before .before .before .before .before .before .before .before .pre .0 .1)) ((c .before .before .before .before .fill16 .ensures))
+returns c =
+    let start = c .before .before .before .before .before .before .before .before .before .before .before .before .before in
+    let at-fill16 = c .before .before .before .before in
+    let at-loop = c .before in
+    (at-loop .loop .inv .1) ∙ full-done (start .args .n) (neighboursOf (start .args .starts .now) (start .args .neighbours .now))
+    (start .args .hubs .now) (at-loop .loop .i)
+    ((at-fill16 .fill16 .last .0) ++ drop ((start .args .n) * (start .args .n)) (start .args .full .now)) (c .loop-test .left) ∙
+    full-all (start .args .n) (neighboursOf (start .args .starts .now) (start .args .neighbours .now)) (start .args .hubs .now)
+    (start .args .full .now) (at-fill16 .fill16 .last .0) (start .pre .0 .1) (at-fill16 .fill16 .ensures)
 
 pub fill-full-spec : {M : Type 1} → statement M
 fill-full-spec =

@@ -37,35 +37,93 @@ slice-aggregate-link-rows-2 : tie.Need-slice-aggregate-link-rows-2 Inv-loop μ-l
 slice-aggregate-link-rows-2 c = search needs
 
 link-rows-requires : tie.Need-link-rows-requires Inv-loop μ-loop
-link-rows-requires c κs = ((c .before .before .before .before .before .before .before .before .pre .0), ((c .before .before .before .low-nodes2 .kept .1 .1 .1 .1 .0) ∙ length-replicate {A = ℕ} 16 0), refl)
+link-rows-requires c κs =
+    let start = c .before .before .before .before .before .before .before .before in
+    ((start .pre .0), ((c .before .before .before .low-nodes2 .kept .1 .1 .1 .1 .0) ∙ length-replicate {A = ℕ} 16 0), refl)
 
 loop-holds : tie.Need-loop-holds Inv-loop μ-loop
-loop-holds c = (omega arith, rows-none (c .before .before .before .before .before .before .before .before .before .before .args .n) (lowEntry (c .before .before .before .before .before .before .before .before .before .before .args .n) (c .before .before .before .before .before .before .before .before .before .before .args .s) (neighboursOf (c .before .before .before .before .before .before .before .before .before .before .args .starts .now) (c .before .before .before .before .before .before .before .before .before .before .args .neighbours .now))) (c .before .before .before .before .before .before .before .before .before .before .args .low .now) (c .before .before .before .before .before .before .before .before .before .before .pre .1))
+loop-holds c =
+    let start = c .before .before .before .before .before .before .before .before .before .before in (
+      omega arith,
+      rows-none (start .args .n) (lowEntry (start .args .n) (start .args .s)
+          (neighboursOf (start .args .starts .now) (start .args .neighbours .now))) (start .args .low .now) (start .pre .1),
+    )
 
 slice-aggregate-low-row : tie.Need-slice-aggregate-low-row Inv-loop μ-loop
 slice-aggregate-low-row c = sym ((c .before .before .before .before .link-rows .kept .1 .1 .1 .1 .0) ∙ length-replicate {A = ℕ} 16384 0)
 
 slice-aggregate-low-row-2 : tie.Need-slice-aggregate-low-row-2 Inv-loop μ-loop
-slice-aggregate-low-row-2 c = sym ((c .before .before .before .before .before .before .before .before .before .low-nodes2 .kept .1 .1 .1 .1 .0) ∙ length-replicate {A = ℕ} 16 0)
+slice-aggregate-low-row-2 c =
+    let at-low-nodes2 = c .before .before .before .before .before .before .before .before .before in
+    sym ((at-low-nodes2 .low-nodes2 .kept .1 .1 .1 .1 .0) ∙ length-replicate {A = ℕ} 16 0)
 
 low-row-requires : tie.Need-low-row-requires Inv-loop μ-loop
-low-row-requires c κs = ((c .before .before .before .before .before .before .before .before .before .before .before .before .before .before .before .pre .0 .size), ((c .before .before .before .before .before .before .link-rows .kept .1 .1 .1 .1 .0) ∙ length-replicate {A = ℕ} 16384 0), ((c .before .before .before .before .before .before .before .before .before .before .low-nodes2 .kept .1 .1 .1 .1 .0) ∙ length-replicate {A = ℕ} 16 0), (c .before .before .before .loop-test .taken), omega (arith, (ap length (c .before .before .before .before .loop .inv .1) ∙ rows-length (c .before .before .before .before .before .before .before .before .before .before .before .before .before .before .before .args .n) (lowEntry (c .before .before .before .before .before .before .before .before .before .before .before .before .before .before .before .args .n) (c .before .before .before .before .before .before .before .before .before .before .before .before .before .before .before .args .s) (neighboursOf (c .before .before .before .before .before .before .before .before .before .before .before .before .before .before .before .args .starts .now) (c .before .before .before .before .before .before .before .before .before .before .before .before .before .before .before .args .neighbours .now))) (c .before .before .before .before .before .before .before .before .before .before .before .before .before .before .before .args .low .now) (c .before .before .before .before .loop .a) (c .before .before .before .before .before .before .before .before .before .before .before .before .before .before .before .pre .1)), (c .before .before .before .before .before .before .before .before .before .before .before .before .before .before .before .pre .1)))
+low-row-requires c κs =
+    let start = c .before .before .before .before .before .before .before .before .before .before .before .before .before .before .before in
+    let at-low-nodes2 = c .before .before .before .before .before .before .before .before .before .before in
+    let at-link-rows = c .before .before .before .before .before .before in
+    let at-loop = c .before .before .before .before in (
+      (start .pre .0 .size),
+      ((at-link-rows .link-rows .kept .1 .1 .1 .1 .0) ∙ length-replicate {A = ℕ} 16384 0),
+      ((at-low-nodes2 .low-nodes2 .kept .1 .1 .1 .1 .0) ∙ length-replicate {A = ℕ} 16 0),
+      (c .before .before .before .loop-test .taken),
+      omega (
+        arith,
+        (ap length (at-loop .loop .inv .1) ∙ rows-length (start .args .n)
+            (lowEntry (start .args .n) (start .args .s) (neighboursOf (start .args .starts .now) (start .args .neighbours .now)))
+            (start .args .low .now) (at-loop .loop .a) (start .pre .1)),
+        (start .pre .1),
+      ),
+    )
 
 add-a : tie.Need-add-a Inv-loop μ-loop
-add-a c = omega (arith, (c .before .before .before .before .before .before .loop-test .taken), (c .before .before .before .before .before .before .before .before .before .before .before .before .before .before .before .before .before .before .pre .0 .size))
+add-a c =
+    let start = c .before .before .before .before .before .before .before .before .before .before .before .before .before .before .before .before .before .before in
+    let at-loop-test = c .before .before .before .before .before .before in
+    omega (arith, (at-loop-test .loop-test .taken), (start .pre .0 .size))
 
 loop-less : tie.Need-loop-less Inv-loop μ-loop
-loop-less c = omega (arith, (c .before .before .before .before .before .before .loop-test .taken))
+loop-less c =
+    let at-loop-test = c .before .before .before .before .before .before in
+    omega (arith, (at-loop-test .loop-test .taken))
 
 loop-again : tie.Need-loop-again Inv-loop μ-loop
-loop-again c = (omega (arith, (c .before .before .before .before .before .before .loop-test .taken)), (c .before .before .low-row .ensures) ∙ ap₂ (λ (x y : List ℕ). written x ((c .before .before .before .before .before .before .before .loop .a) * (c .before .before .before .before .before .before .before .before .before .before .before .before .before .before .before .before .before .before .args .n)) y) (c .before .before .before .before .before .before .before .loop .inv .1) (ap (λ (E : Edges). map (λ b. if member (c .before .before .before .before .before .before .before .before .before .before .before .before .before .low-nodes2 .last .1 .1 .1 .1 .0) (c .before .before .before .before .before .before .before .loop .a) then fewest E (c .before .before .before .before .before .before .before .before .before .before .before .before .before .before .before .before .before .before .args .n) (c .before .before .before .before .before .before .before .loop .a) b else none) (upTo (c .before .before .before .before .before .before .before .before .before .before .before .before .before .before .before .before .before .before .args .n))) (c .before .before .before .before .before .before .before .before .before .link-rows .ensures) ∙ low-row-is (c .before .before .before .before .before .before .before .before .before .before .before .before .before .before .before .before .before .before .args .n) (c .before .before .before .before .before .before .before .before .before .before .before .before .before .before .before .before .before .before .args .s) (neighboursOf (c .before .before .before .before .before .before .before .before .before .before .before .before .before .before .before .before .before .before .args .starts .now) (c .before .before .before .before .before .before .before .before .before .before .before .before .before .before .before .before .before .before .args .neighbours .now)) (c .before .before .before .before .before .before .before .before .before .before .before .before .before .before .before .before .before .before .pre .0 .lists .graph) (member (c .before .before .before .before .before .before .before .before .before .before .before .before .before .low-nodes2 .last .1 .1 .1 .1 .0)) (low-are (c .before .before .before .before .before .before .before .before .before .before .before .before .before .before .before .before .before .before .args .n) (c .before .before .before .before .before .before .before .before .before .before .before .before .before .before .before .before .before .before .args .s) (neighboursOf (c .before .before .before .before .before .before .before .before .before .before .before .before .before .before .before .before .before .before .args .starts .now) (c .before .before .before .before .before .before .before .before .before .before .before .before .before .before .before .before .before .before .args .neighbours .now)) (member (c .before .before .before .before .before .before .before .before .before .before .before .before .before .low-nodes2 .last .1 .1 .1 .1 .0)) (c .before .before .before .before .before .before .before .before .before .before .before .before .before .low-nodes2 .ensures)) (c .before .before .before .before .before .before .before .loop .a) (c .before .before .before .before .before .before .loop-test .taken)) ∙ rows-next (c .before .before .before .before .before .before .before .before .before .before .before .before .before .before .before .before .before .before .args .n) (lowEntry (c .before .before .before .before .before .before .before .before .before .before .before .before .before .before .before .before .before .before .args .n) (c .before .before .before .before .before .before .before .before .before .before .before .before .before .before .before .before .before .before .args .s) (neighboursOf (c .before .before .before .before .before .before .before .before .before .before .before .before .before .before .before .before .before .before .args .starts .now) (c .before .before .before .before .before .before .before .before .before .before .before .before .before .before .before .before .before .before .args .neighbours .now))) (c .before .before .before .before .before .before .before .before .before .before .before .before .before .before .before .before .before .before .args .low .now) (c .before .before .before .before .before .before .before .loop .a) (c .before .before .before .before .before .before .loop-test .taken))
+loop-again c =
+    let start = c .before .before .before .before .before .before .before .before .before .before .before .before .before .before .before .before .before .before in
+    let at-low-nodes2 = c .before .before .before .before .before .before .before .before .before .before .before .before .before in
+    let at-link-rows = c .before .before .before .before .before .before .before .before .before in
+    let at-loop = c .before .before .before .before .before .before .before in
+    let at-loop-test = c .before .before .before .before .before .before in (
+      omega (arith, (at-loop-test .loop-test .taken)),
+      (c .before .before .low-row .ensures) ∙ ap₂
+          (λ (x y : List ℕ). written x ((at-loop .loop .a) * (start .args .n)) y) (at-loop .loop .inv .1)
+          (ap (λ (E : Edges). map (λ b. if member (at-low-nodes2 .low-nodes2 .last .1 .1 .1 .1 .0) (at-loop .loop .a) then fewest E
+          (start .args .n) (at-loop .loop .a) b else none) (upTo (start .args .n))) (at-link-rows .link-rows .ensures) ∙ low-row-is
+          (start .args .n) (start .args .s) (neighboursOf (start .args .starts .now) (start .args .neighbours .now))
+          (start .pre .0 .lists .graph) (member (at-low-nodes2 .low-nodes2 .last .1 .1 .1 .1 .0))
+          (low-are (start .args .n) (start .args .s) (neighboursOf (start .args .starts .now) (start .args .neighbours .now))
+          (member (at-low-nodes2 .low-nodes2 .last .1 .1 .1 .1 .0)) (at-low-nodes2 .low-nodes2 .ensures)) (at-loop .loop .a)
+          (at-loop-test .loop-test .taken)) ∙ rows-next (start .args .n)
+          (lowEntry (start .args .n) (start .args .s) (neighboursOf (start .args .starts .now) (start .args .neighbours .now)))
+          (start .args .low .now) (at-loop .loop .a) (at-loop-test .loop-test .taken),
+    )
 
 same-length : tie.Need-same-length Inv-loop μ-loop
-same-length c = (ap length (c .before .loop .inv .1) ∙ rows-length (c .before .before .before .before .before .before .before .before .before .before .before .before .args .n) (lowEntry (c .before .before .before .before .before .before .before .before .before .before .before .before .args .n) (c .before .before .before .before .before .before .before .before .before .before .before .before .args .s) (neighboursOf (c .before .before .before .before .before .before .before .before .before .before .before .before .args .starts .now) (c .before .before .before .before .before .before .before .before .before .before .before .before .args .neighbours .now))) (c .before .before .before .before .before .before .before .before .before .before .before .before .args .low .now) (c .before .loop .a) (c .before .before .before .before .before .before .before .before .before .before .before .before .pre .1))
+same-length c =
+    let start = c .before .before .before .before .before .before .before .before .before .before .before .before in
+    let at-loop = c .before in
+    (ap length (at-loop .loop .inv .1) ∙ rows-length (start .args .n)
+    (lowEntry (start .args .n) (start .args .s) (neighboursOf (start .args .starts .now) (start .args .neighbours .now)))
+    (start .args .low .now) (at-loop .loop .a) (start .pre .1))
 
 returns : tie.Need-returns Inv-loop μ-loop
 unfolding lowTable
-returns c = (c .before .loop .inv .1) ∙ rows-done (c .before .before .before .before .before .before .before .before .before .before .before .before .args .n) (lowEntry (c .before .before .before .before .before .before .before .before .before .before .before .before .args .n) (c .before .before .before .before .before .before .before .before .before .before .before .before .args .s) (neighboursOf (c .before .before .before .before .before .before .before .before .before .before .before .before .args .starts .now) (c .before .before .before .before .before .before .before .before .before .before .before .before .args .neighbours .now))) (c .before .before .before .before .before .before .before .before .before .before .before .before .args .low .now) (c .before .loop .a) (c .loop-test .left)
+returns c =
+    let start = c .before .before .before .before .before .before .before .before .before .before .before .before in
+    let at-loop = c .before in
+    (at-loop .loop .inv .1) ∙ rows-done (start .args .n)
+    (lowEntry (start .args .n) (start .args .s) (neighboursOf (start .args .starts .now) (start .args .neighbours .now)))
+    (start .args .low .now) (at-loop .loop .a) (c .loop-test .left)
 
 pub fill-low-spec : {M : Type 1} → statement M
 fill-low-spec =

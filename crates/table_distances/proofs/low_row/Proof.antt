@@ -16,16 +16,22 @@ use Rattle.table_distances.proofs.low_row.Statement.{statement}
 use Rattle.table_distances.proofs.low_row.Tie as tie
 
 mul-start : tie.Need-mul-start
-mul-start c = omega (arith, row-ends (c .before .before .before .args .n) (c .before .before .before .args .a) (c .before .before .before .args .low .now) (c .before .before .before .pre .3) (c .before .before .before .pre .4))
+mul-start c =
+    let start = c .before .before .before in
+    omega (arith, row-ends (start .args .n) (start .args .a) (start .args .low .now) (start .pre .3) (start .pre .4))
 
 add-end : tie.Need-add-end
-add-end c = omega (arith, row-ends (c .before .before .before .args .n) (c .before .before .before .args .a) (c .before .before .before .args .low .now) (c .before .before .before .pre .3) (c .before .before .before .pre .4))
+add-end c =
+    let start = c .before .before .before in
+    omega (arith, row-ends (start .args .n) (start .args .a) (start .args .low .now) (start .pre .3) (start .pre .4))
 
 contains-requires : tie.Need-contains-requires
 contains-requires c κs = search needs
 
 mul-search : tie.Need-mul-search
-mul-search c = omega (arith, row-ends (c .before .before .before .before .before .args .n) (c .before .before .before .before .before .args .a) (c .before .before .before .before .before .args .low .now) (c .before .before .before .before .before .pre .3) (c .before .before .before .before .before .pre .4))
+mul-search c =
+    let start = c .before .before .before .before .before in
+    omega (arith, row-ends (start .args .n) (start .args .a) (start .args .low .now) (start .pre .3) (start .pre .4))
 
 sub-search : tie.Need-sub-search
 sub-search c = search needs
@@ -34,19 +40,39 @@ part-search-start : tie.Need-part-search-start
 part-search-start c = search needs
 
 part-search-end : tie.Need-part-search-end
-part-search-end c = row-ends (c .before .before .before .before .before .args .n) (c .before .before .before .before .before .args .a) (c .before .before .before .before .before .args .low .now) (c .before .before .before .before .before .pre .3) (c .before .before .before .before .before .pre .4)
+part-search-end c =
+    let start = c .before .before .before .before .before in
+    row-ends (start .args .n) (start .args .a) (start .args .low .now) (start .pre .3) (start .pre .4)
 
 search-requires : tie.Need-search-requires
-search-requires c κs = ((c .before .before .before .before .before .before .pre .0), (c .before .before .before .before .before .before .pre .1), omega (arith, (c .before .before .before .before .before .before .pre .3)), part-length (c .before .before .before .before .before .before .args .n) (c .before .before .before .before .before .before .args .a) (c .before .before .before .before .before .before .args .low .now) (c .before .before .before .before .before .before .pre .3) (c .before .before .before .before .before .before .pre .4))
+search-requires c κs =
+    let start = c .before .before .before .before .before .before in (
+      (start .pre .0),
+      (start .pre .1),
+      omega (arith, (start .pre .3)),
+      part-length (start .args .n) (start .args .a)
+          (start .args .low .now) (start .pre .3) (start .pre .4),
+    )
 
 same-length : tie.Need-same-length
 same-length c = search needs
 
 returns : tie.Need-returns
-returns c = row-put ((c .before .before .before .before .before .before .before .before .before .args .a) * (c .before .before .before .before .before .before .before .before .before .args .n)) (c .before .before .before .before .before .before .before .before .before .args .n) (c .before .before .before .before .before .before .before .before .before .args .low .now) _ _ ((c .before .before .search .kept .1 .1 .1 .0) ∙ part-length (c .before .before .before .before .before .before .before .before .before .args .n) (c .before .before .before .before .before .before .before .before .before .args .a) (c .before .before .before .before .before .before .before .before .before .args .low .now) (c .before .before .before .before .before .before .before .before .before .pre .3) (c .before .before .before .before .before .before .before .before .before .pre .4)) (c .before .before .search .ensures) ∙ ap (λ (x : Bool). written (c .before .before .before .before .before .before .before .before .before .args .low .now) ((c .before .before .before .before .before .before .before .before .before .args .a) * (c .before .before .before .before .before .before .before .before .before .args .n)) (map (λ b. if x then fewest (edgesIn (c .before .before .before .before .before .before .before .before .before .args .rows .now)) (c .before .before .before .before .before .before .before .before .before .args .n) (c .before .before .before .before .before .before .before .before .before .args .a) b else none) (upTo (c .before .before .before .before .before .before .before .before .before .args .n)))) (sym (sym (c .before .before .before .before .before .contains .ensures) ∙ (c .before .before .before .before .if1 .taken)))
+returns c =
+    let start = c .before .before .before .before .before .before .before .before .before in
+    let at-search = c .before .before in
+    row-put ((start .args .a) * (start .args .n)) (start .args .n) (start .args .low .now) _ _
+    ((at-search .search .kept .1 .1 .1 .0) ∙ part-length (start .args .n) (start .args .a) (start .args .low .now) (start .pre .3)
+    (start .pre .4)) (at-search .search .ensures) ∙ ap
+    (λ (x : Bool). written (start .args .low .now) ((start .args .a) * (start .args .n))
+    (map (λ b. if x then fewest (edgesIn (start .args .rows .now)) (start .args .n) (start .args .a) b else none)
+    (upTo (start .args .n)))) (sym (sym (c .before .before .before .before .before .contains .ensures) ∙
+    (c .before .before .before .before .if1 .taken)))
 
 mul-fill16 : tie.Need-mul-fill16
-mul-fill16 c = omega (arith, row-ends (c .before .before .before .before .before .args .n) (c .before .before .before .before .before .args .a) (c .before .before .before .before .before .args .low .now) (c .before .before .before .before .before .pre .3) (c .before .before .before .before .before .pre .4))
+mul-fill16 c =
+    let start = c .before .before .before .before .before in
+    omega (arith, row-ends (start .args .n) (start .args .a) (start .args .low .now) (start .pre .3) (start .pre .4))
 
 sub-fill16 : tie.Need-sub-fill16
 sub-fill16 c = search needs
@@ -55,7 +81,9 @@ part-fill16-start : tie.Need-part-fill16-start
 part-fill16-start c = search needs
 
 part-fill16-end : tie.Need-part-fill16-end
-part-fill16-end c = row-ends (c .before .before .before .before .before .args .n) (c .before .before .before .before .before .args .a) (c .before .before .before .before .before .args .low .now) (c .before .before .before .before .before .pre .3) (c .before .before .before .before .before .pre .4)
+part-fill16-end c =
+    let start = c .before .before .before .before .before in
+    row-ends (start .args .n) (start .args .a) (start .args .low .now) (start .pre .3) (start .pre .4)
 
 fill16-requires : tie.Need-fill16-requires
 fill16-requires c κs = search needs
@@ -64,7 +92,17 @@ same-length-2 : tie.Need-same-length-2
 same-length-2 c = search needs
 
 returns-2 : tie.Need-returns-2
-returns-2 c = row-put ((c .before .before .before .before .before .before .before .before .before .args .a) * (c .before .before .before .before .before .before .before .before .before .args .n)) (c .before .before .before .before .before .before .before .before .before .args .n) (c .before .before .before .before .before .before .before .before .before .args .low .now) _ _ ((c .before .before .fill16 .kept .0) ∙ part-length (c .before .before .before .before .before .before .before .before .before .args .n) (c .before .before .before .before .before .before .before .before .before .args .a) (c .before .before .before .before .before .before .before .before .before .args .low .now) (c .before .before .before .before .before .before .before .before .before .pre .3) (c .before .before .before .before .before .before .before .before .before .pre .4)) ((c .before .before .fill16 .ensures) ∙ ap (λ (k : ℕ). replicate k none) (part-length (c .before .before .before .before .before .before .before .before .before .args .n) (c .before .before .before .before .before .before .before .before .before .args .a) (c .before .before .before .before .before .before .before .before .before .args .low .now) (c .before .before .before .before .before .before .before .before .before .pre .3) (c .before .before .before .before .before .before .before .before .before .pre .4)) ∙ none-row (c .before .before .before .before .before .before .before .before .before .args .n) none) ∙ ap (λ (x : Bool). written (c .before .before .before .before .before .before .before .before .before .args .low .now) ((c .before .before .before .before .before .before .before .before .before .args .a) * (c .before .before .before .before .before .before .before .before .before .args .n)) (map (λ b. if x then fewest (edgesIn (c .before .before .before .before .before .before .before .before .before .args .rows .now)) (c .before .before .before .before .before .before .before .before .before .args .n) (c .before .before .before .before .before .before .before .before .before .args .a) b else none) (upTo (c .before .before .before .before .before .before .before .before .before .args .n)))) (sym (sym (c .before .before .before .before .before .contains .ensures) ∙ (c .before .before .before .before .if1 .left)))
+returns-2 c =
+    let start = c .before .before .before .before .before .before .before .before .before in
+    let at-fill16 = c .before .before in
+    row-put ((start .args .a) * (start .args .n)) (start .args .n) (start .args .low .now) _ _
+    ((at-fill16 .fill16 .kept .0) ∙ part-length (start .args .n) (start .args .a) (start .args .low .now) (start .pre .3)
+    (start .pre .4)) ((at-fill16 .fill16 .ensures) ∙ ap (λ (k : ℕ). replicate k none)
+    (part-length (start .args .n) (start .args .a) (start .args .low .now) (start .pre .3) (start .pre .4)) ∙ none-row (start .args .n)
+    none) ∙ ap (λ (x : Bool). written (start .args .low .now) ((start .args .a) * (start .args .n))
+    (map (λ b. if x then fewest (edgesIn (start .args .rows .now)) (start .args .n) (start .args .a) b else none)
+    (upTo (start .args .n)))) (sym (sym (c .before .before .before .before .before .contains .ensures) ∙
+    (c .before .before .before .before .if1 .left)))
 
 pub low-row-spec : {M : Type 1} → statement M
 low-row-spec =

@@ -21,20 +21,27 @@ loop-holds : tie.Need-loop-holds Inv-loop μ-loop
 loop-holds c = leading-none _ _ ((c .before .before .before .pre .0) .some-node)
 
 gain-of-requires : tie.Need-gain-of-requires Inv-loop μ-loop
-gain-of-requires c κs = ((c .before .before .before .before .before .pre .0), (c .loop-test .taken), (c .before .before .before .before .before .pre .1))
+gain-of-requires c κs =
+    let start = c .before .before .before .before .before in
+    ((start .pre .0), (c .loop-test .taken), (start .pre .1))
 
 add-v : tie.Need-add-v Inv-loop μ-loop
-add-v c = omega (arith, (c .before .before .before .before .before .before .before .pre .0) .size)
+add-v c =
+    let start = c .before .before .before .before .before .before .before in
+    omega (arith, (start .pre .0) .size)
 
 loop-less : tie.Need-loop-less Inv-loop μ-loop
 loop-less c = omega arith
 
 loop-again : tie.Need-loop-again Inv-loop μ-loop
 loop-again c =
+    let at-loop = c .before .before .before in
+    let at-loop-test = c .before .before in
     let e = (c .before .gain-of .ensures) in
     ⊎-elim
-    (λ w. rw (w .1, w .2, e) (leading-taken _ _ _ _ _ (c .before .before .loop-test .taken) (c .before .before .before .loop .inv) (omega (arith, e, w .0 .taken))))
-    (λ w. rw (w .1, w .2) (leading-left _ _ _ _ _ (c .before .before .loop-test .taken) (c .before .before .before .loop .inv) (omega (arith, e, w .0 .left))))
+    (λ w. rw (w .1, w .2, e) (leading-taken _ _ _ _ _ (at-loop-test .loop-test .taken) (at-loop .loop .inv)
+    (omega (arith, e, w .0 .taken))))
+    (λ w. rw (w .1, w .2) (leading-left _ _ _ _ _ (at-loop-test .loop-test .taken) (at-loop .loop .inv) (omega (arith, e, w .0 .left))))
     (c .if1 .came)
 
 returns : tie.Need-returns Inv-loop μ-loop

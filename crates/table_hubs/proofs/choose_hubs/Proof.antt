@@ -22,7 +22,11 @@ high-nodes-requires : tie.Need-high-nodes-requires Inv-loop μ-loop
 high-nodes-requires c κs = ((c .before .before .before .before .pre .0), refl)
 
 loop-holds : tie.Need-loop-holds Inv-loop μ-loop
-loop-holds c = choosing-none _ _ _ _ _ ((c .before .before .before .before .before .before .pre .0) .size) (c .before .before .before .before .before .before .pre .1) (c .before .high-nodes .kept .1 .1 .1 .1 .0) (c .before .high-nodes .ensures)
+loop-holds c =
+    let start = c .before .before .before .before .before .before in
+    let at-high-nodes = c .before in
+    choosing-none _ _ _ _ _ ((start .pre .0) .size) (start .pre .1) (at-high-nodes .high-nodes .kept .1 .1 .1 .1 .0)
+    (at-high-nodes .high-nodes .ensures)
 
 slice-aggregate-smallest : tie.Need-slice-aggregate-smallest Inv-loop μ-loop
 slice-aggregate-smallest c = sym ((c .before .loop .inv) .long)
@@ -34,34 +38,83 @@ slice-aggregate-best-node : tie.Need-slice-aggregate-best-node Inv-loop μ-loop
 slice-aggregate-best-node c = sym ((c .before .before .before .before .loop .inv) .long)
 
 best-node-requires : tie.Need-best-node-requires Inv-loop μ-loop
-best-node-requires c κs = ((c .before .before .before .before .before .before .before .before .before .before .before .pre .0), (c .before .before .before .before .loop .inv) .long)
+best-node-requires c κs =
+    let start = c .before .before .before .before .before .before .before .before .before .before .before in
+    ((start .pre .0), (c .before .before .before .before .loop .inv) .long)
 
 cast-list : tie.Need-cast-list Inv-loop μ-loop
-cast-list c = omega (arith, choosing-node (c .before .before .before .before .before .loop .inv) (c .before .before .before .smallest .ensures) (c .before .before .if1 .left), (c .best-node .ensures), (c .before .before .before .before .before .loop .inv) .size)
+cast-list c =
+    let at-loop = c .before .before .before .before .before in
+    omega (
+      arith,
+      choosing-node (at-loop .loop .inv) (c .before .before .before .smallest .ensures) (c .before .before .if1 .left),
+      (c .best-node .ensures),
+      (at-loop .loop .inv) .size,
+    )
 
 mul-list : tie.Need-mul-list Inv-loop μ-loop
-mul-list c = omega (arith, choosing-room (c .before .before .before .before .before .loop .inv) (c .before .before .before .smallest .ensures) (c .before .before .if1 .left) .0, (c .before .before .before .before .before .loop .inv) .size)
+mul-list c =
+    let at-loop = c .before .before .before .before .before in
+    omega (
+      arith,
+      choosing-room (at-loop .loop .inv) (c .before .before .before .smallest .ensures) (c .before .before .if1 .left) .0,
+      (at-loop .loop .inv) .size,
+    )
 
 slice-write-list : tie.Need-slice-write-list Inv-loop μ-loop
-slice-write-list c = choosing-room (c .before .before .before .before .before .loop .inv) (c .before .before .before .smallest .ensures) (c .before .before .if1 .left) .1
+slice-write-list c = choosing-room (c .before .before .before .before .before .loop .inv) (c .before .before .before .smallest .ensures)
+    (c .before .before .if1 .left) .1
 
 add-count : tie.Need-add-count Inv-loop μ-loop
-add-count c = omega (arith, choosing-room (c .before .before .before .before .before .loop .inv) (c .before .before .before .smallest .ensures) (c .before .before .if1 .left) .0, (c .before .before .before .before .before .loop .inv) .size)
+add-count c =
+    let at-loop = c .before .before .before .before .before in
+    omega (
+      arith,
+      choosing-room (at-loop .loop .inv) (c .before .before .before .smallest .ensures) (c .before .before .if1 .left) .0,
+      (at-loop .loop .inv) .size,
+    )
 
 slice-aggregate-cover : tie.Need-slice-aggregate-cover Inv-loop μ-loop
-slice-aggregate-cover c = sym ((c .before .before .before .before .before .before .loop .inv) .long)
+slice-aggregate-cover c =
+    let at-loop = c .before .before .before .before .before .before in
+    sym ((at-loop .loop .inv) .long)
 
 cover-requires : tie.Need-cover-requires Inv-loop μ-loop
-cover-requires c κs = ((c .before .before .before .before .before .before .before .before .before .before .before .before .before .pre .0), omega (arith, choosing-node (c .before .before .before .before .before .before .loop .inv) (c .before .before .before .before .smallest .ensures) (c .before .before .before .if1 .left), (c .before .best-node .ensures)), (c .before .before .before .before .before .before .loop .inv) .long)
+cover-requires c κs =
+    let start = c .before .before .before .before .before .before .before .before .before .before .before .before .before in
+    let at-loop = c .before .before .before .before .before .before in (
+      (start .pre .0),
+      omega (
+        arith,
+        choosing-node (at-loop .loop .inv) (c .before .before .before .before .smallest .ensures)
+            (c .before .before .before .if1 .left),
+        (c .before .best-node .ensures),
+      ),
+      (at-loop .loop .inv) .long,
+    )
 
 loop-less : tie.Need-loop-less Inv-loop μ-loop
-loop-less c = omega (arith, choosing-room (c .before .before .before .before .before .before .before .before .loop .inv) (c .before .before .before .before .before .before .smallest .ensures) (c .before .before .before .before .before .if1 .left) .0)
+loop-less c =
+    let at-loop = c .before .before .before .before .before .before .before .before in
+    let at-smallest = c .before .before .before .before .before .before in
+    omega (
+      arith,
+      choosing-room (at-loop .loop .inv) (at-smallest .smallest .ensures)
+          (c .before .before .before .before .before .if1 .left) .0,
+    )
 
 loop-again : tie.Need-loop-again Inv-loop μ-loop
-loop-again c = choosing-more (c .before .before .before .before .before .before .before .before .loop .inv) (c .before .before .before .before .before .before .smallest .ensures) (c .before .before .before .before .before .if1 .left) (c .before .before .before .best-node .ensures) (c .before .cover .kept .1 .1 .1 .1 .0) (c .before .cover .ensures)
+loop-again c =
+    let at-loop = c .before .before .before .before .before .before .before .before in
+    let at-smallest = c .before .before .before .before .before .before in
+    let at-cover = c .before in
+    choosing-more (at-loop .loop .inv) (at-smallest .smallest .ensures) (c .before .before .before .before .before .if1 .left)
+    (c .before .before .before .best-node .ensures) (at-cover .cover .kept .1 .1 .1 .1 .0) (at-cover .cover .ensures)
 
 mul-fill16 : tie.Need-mul-fill16 Inv-loop μ-loop
-mul-fill16 c = omega (arith, choosing-part (c .before .before .before .loop .inv) .0, (c .before .before .before .loop .inv) .size)
+mul-fill16 c =
+    let at-loop = c .before .before .before in
+    omega (arith, choosing-part (at-loop .loop .inv) .0, (at-loop .loop .inv) .size)
 
 sub-fill16 : tie.Need-sub-fill16 Inv-loop μ-loop
 sub-fill16 c = choosing-part (c .before .before .before .loop .inv) .0
@@ -76,10 +129,17 @@ fill16-requires : tie.Need-fill16-requires Inv-loop μ-loop
 fill16-requires c κs = search needs
 
 same-length : tie.Need-same-length Inv-loop μ-loop
-same-length c = choosing-same (c .before .before .before .before .before .before .before .loop .inv) (c .before .before .fill16 .last .0) (c .before .before .fill16 .kept .0)
+same-length c =
+    let at-loop = c .before .before .before .before .before .before .before in
+    let at-fill16 = c .before .before in
+    choosing-same (at-loop .loop .inv) (at-fill16 .fill16 .last .0) (at-fill16 .fill16 .kept .0)
 
 returns : tie.Need-returns Inv-loop μ-loop
-returns c = choosing-all (c .before .before .before .before .before .before .before .loop .inv) (c .before .before .before .before .before .smallest .ensures) (c .before .before .before .before .if1 .taken) (c .before .before .fill16 .last .0) (c .before .before .fill16 .ensures)
+returns c =
+    let at-loop = c .before .before .before .before .before .before .before in
+    let at-fill16 = c .before .before in
+    choosing-all (at-loop .loop .inv) (c .before .before .before .before .before .smallest .ensures)
+    (c .before .before .before .before .if1 .taken) (at-fill16 .fill16 .last .0) (at-fill16 .fill16 .ensures)
 
 pub choose-hubs-spec : {M : Type 1} → statement M
 choose-hubs-spec =

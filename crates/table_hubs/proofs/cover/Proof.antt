@@ -22,7 +22,11 @@ same-length : tie.Need-same-length
 same-length c = search needs
 
 returns : tie.Need-returns
-returns c = (c .before .before .subtract .ensures) ∙ ap (difference (member (c .before .before .before .before .before .before .before .before .before .before .before .args .uncovered .now))) (c .before .before .before .before .before .before .insert-closed .ensures)
+returns c =
+    let start = c .before .before .before .before .before .before .before .before .before .before .before in
+    let at-insert-closed = c .before .before .before .before .before .before in
+    (c .before .before .subtract .ensures) ∙ ap (difference (member (start .args .uncovered .now)))
+    (at-insert-closed .insert-closed .ensures)
 
 pub cover-spec : {M : Type 1} → statement M
 cover-spec =

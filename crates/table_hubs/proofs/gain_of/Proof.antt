@@ -19,7 +19,10 @@ count-intersection-requires : tie.Need-count-intersection-requires
 count-intersection-requires c κs = search needs
 
 returns : tie.Need-returns
-returns c = (c .count-intersection .ensures) ∙ gain-words _ _ _ (c .before .before .before .before .before .before .before .before .pre .0) _ (c .before .before .before .before .before .before .before .before .pre .1) _ _ (search needs) (c .before .before .before .insert-closed .ensures)
+returns c =
+    let start = c .before .before .before .before .before .before .before .before in
+    (c .count-intersection .ensures) ∙ gain-words _ _ _ (start .pre .0) _ (start .pre .1) _ _ (search needs)
+    (c .before .before .before .insert-closed .ensures)
 
 pub gain-of-spec : {M : Type 1} → statement M
 gain-of-spec =

@@ -13,19 +13,34 @@ use Rattle.table_hubs.proofs.insert_closed.Statement.{statement}
 use Rattle.table_hubs.proofs.insert_closed.Tie as tie
 
 insert-requires : tie.Need-insert-requires
-insert-requires c κs = omega (arith, ap length (c .before .before .before .before .pre .2), (c .before .before .before .before .pre .1), (c .before .before .before .before .pre .0) .size)
+insert-requires c κs =
+    let start = c .before .before .before .before in
+    omega (arith, ap length (start .pre .2), (start .pre .1), (start .pre .0) .size)
 
 own-requires : tie.Need-own-requires
 own-requires c κs = search needs
 
 insert-list-requires : tie.Need-insert-list-requires
-insert-list-requires c κs = λ x t. omega (arith, own-below _ _ _ (c .before .before .before .before .before .before .before .before .before .pre .0) _ (c .before .before .before .before .before .before .before .before .before .pre .1) x (subst (λ (l : List ℕ). T (has x l)) (c .before .own .ensures) t), ap length (c .before .before .before .before .before .before .before .before .before .pre .2), (c .before .before .before .before .insert .kept .0), (c .before .before .before .before .before .before .before .before .before .pre .0) .size)
+insert-list-requires c κs =
+    let start = c .before .before .before .before .before .before .before .before .before in
+    λ x t. omega (
+      arith,
+      own-below _ _ _ (start .pre .0) _ (start .pre .1) x
+          (subst (λ (l : List ℕ). T (has x l)) (c .before .own .ensures) t),
+      ap length (start .pre .2),
+      (c .before .before .before .before .insert .kept .0),
+      (start .pre .0) .size,
+    )
 
 same-length : tie.Need-same-length
 same-length c = search needs
 
 returns : tie.Need-returns
-returns c = closed-words _ _ _ (c .before .before .before .before .before .before .before .before .before .before .before .before .pre .0) _ (c .before .before .before .before .before .before .before .before .before .before .before .before .pre .1) _ _ _ _ (c .before .before .before .before .before .before .before .before .before .before .before .before .pre .2) (c .before .before .before .before .before .before .before .insert .ensures) (c .before .before .before .before .own .ensures) (c .before .before .insert-list .ensures)
+returns c =
+    let start = c .before .before .before .before .before .before .before .before .before .before .before .before in
+    let at-insert = c .before .before .before .before .before .before .before in
+    closed-words _ _ _ (start .pre .0) _ (start .pre .1) _ _ _ _ (start .pre .2) (at-insert .insert .ensures)
+    (c .before .before .before .before .own .ensures) (c .before .before .insert-list .ensures)
 
 pub insert-closed-spec : {M : Type 1} → statement M
 insert-closed-spec =

@@ -28,7 +28,11 @@ cast-insert : tie.Need-cast-insert Inv-loop μ-loop
 cast-insert c = omega (arith, (c .shared-slice-known2 .given) (c .before .before .before .loop .i))
 
 insert-requires : tie.Need-insert-requires Inv-loop μ-loop
-insert-requires c κs = rw ((c .before .before .before .loop .inv .1) .same) ((c .before .before .before .before .before .before .pre) _ (getD-has (c .before .before .before .before .before .before .args .list .now) (c .before .before .before .loop .i) (c .before .before .loop-test .taken)))
+insert-requires c κs =
+    let start = c .before .before .before .before .before .before in
+    let at-loop = c .before .before .before in
+    rw ((at-loop .loop .inv .1) .same) ((start .pre) _
+    (getD-has (start .args .list .now) (at-loop .loop .i) (c .before .before .loop-test .taken)))
 
 add-i : tie.Need-add-i Inv-loop μ-loop
 add-i c = search needs
@@ -37,7 +41,13 @@ loop-less : tie.Need-loop-less Inv-loop μ-loop
 loop-less c = search needs
 
 loop-again : tie.Need-loop-again Inv-loop μ-loop
-loop-again c = (omega arith, inserted-more _ _ _ _ (c .before .before .before .before .before .before .loop .inv .1) _ (c .before .before .before .before .before .loop-test .taken) (c .before .before .insert .kept .0) (c .before .before .insert .ensures))
+loop-again c =
+    let at-loop = c .before .before .before .before .before .before in
+    let at-insert = c .before .before in (
+      omega arith,
+      inserted-more _ _ _ _ (at-loop .loop .inv .1) _ (c .before .before .before .before .before .loop-test .taken)
+          (at-insert .insert .kept .0) (at-insert .insert .ensures),
+    )
 
 same-length : tie.Need-same-length Inv-loop μ-loop
 same-length c = (c .before .loop .inv .1) .same

@@ -21,16 +21,27 @@ abbrev μ-loop : tie.MeasureT-loop
 μ-loop n full low hubs report₀ a₀ report a = n - a
 
 loop-holds : tie.Need-loop-holds Inv-loop μ-loop
-loop-holds c = (omega arith, rows-none ((c .before .before .before .before .args .n)) (reportEntry ((c .before .before .before .before .args .n)) ((c .before .before .before .before .args .full .now)) ((c .before .before .before .before .args .low .now)) ((c .before .before .before .before .args .hubs .now))) ((c .before .before .before .before .args .report .now)) ((c .before .before .before .before .pre .0 .3)))
+loop-holds c =
+    let start = c .before .before .before .before in (
+      omega arith,
+      rows-none (start .args .n) (reportEntry (start .args .n) (start .args .full .now) (start .args .low .now)
+          (start .args .hubs .now)) (start .args .report .now) (start .pre .0 .3),
+    )
 
 mul-start : tie.Need-mul-start Inv-loop μ-loop
-mul-start c = omega (arith, row-within ((c .before .before .before .before .before .before .args .n)) ((c .before .loop .a)) ((c .loop-test .taken)), square-small ((c .before .before .before .before .before .before .args .n)) ((c .before .before .before .before .before .before .pre .0 .0)))
+mul-start c =
+    let start = c .before .before .before .before .before .before in
+    omega (arith, row-within (start .args .n) (c .before .loop .a) (c .loop-test .taken), square-small (start .args .n) (start .pre .0 .0))
 
 add-end : tie.Need-add-end Inv-loop μ-loop
-add-end c = omega (arith, row-within ((c .before .before .before .before .before .before .args .n)) ((c .before .loop .a)) ((c .loop-test .taken)), square-small ((c .before .before .before .before .before .before .args .n)) ((c .before .before .before .before .before .before .pre .0 .0)))
+add-end c =
+    let start = c .before .before .before .before .before .before in
+    omega (arith, row-within (start .args .n) (c .before .loop .a) (c .loop-test .taken), square-small (start .args .n) (start .pre .0 .0))
 
 mul-report-row : tie.Need-mul-report-row Inv-loop μ-loop
-mul-report-row c = omega (arith, row-within ((c .before .before .before .before .before .before .args .n)) ((c .before .loop .a)) ((c .loop-test .taken)), square-small ((c .before .before .before .before .before .before .args .n)) ((c .before .before .before .before .before .before .pre .0 .0)))
+mul-report-row c =
+    let start = c .before .before .before .before .before .before in
+    omega (arith, row-within (start .args .n) (c .before .loop .a) (c .loop-test .taken), square-small (start .args .n) (start .pre .0 .0))
 
 sub-report-row : tie.Need-sub-report-row Inv-loop μ-loop
 sub-report-row c = search needs
@@ -39,25 +50,87 @@ part-report-row-start : tie.Need-part-report-row-start Inv-loop μ-loop
 part-report-row-start c = search needs
 
 part-report-row-end : tie.Need-part-report-row-end Inv-loop μ-loop
-part-report-row-end c = row-ends ((c .before .before .before .before .before .before .args .n)) ((c .before .loop .a)) ((c .before .loop .report)) ((c .loop-test .taken)) (omega (arith, (ap length ((c .before .loop .inv .1)) ∙ rows-length ((c .before .before .before .before .before .before .args .n)) (reportEntry ((c .before .before .before .before .before .before .args .n)) ((c .before .before .before .before .before .before .args .full .now)) ((c .before .before .before .before .before .before .args .low .now)) ((c .before .before .before .before .before .before .args .hubs .now))) ((c .before .before .before .before .before .before .args .report .now)) ((c .before .loop .a)) ((c .before .before .before .before .before .before .pre .0 .3))), (c .before .before .before .before .before .before .pre .0 .3)))
+part-report-row-end c =
+    let start = c .before .before .before .before .before .before in
+    let at-loop = c .before in
+    row-ends (start .args .n) (at-loop .loop .a) (at-loop .loop .report) (c .loop-test .taken)
+    (omega (
+      arith,
+      (ap length (at-loop .loop .inv .1) ∙ rows-length (start .args .n)
+          (reportEntry (start .args .n) (start .args .full .now) (start .args .low .now) (start .args .hubs .now)) (start .args .report .now)
+          (at-loop .loop .a) (start .pre .0 .3)),
+      (start .pre .0 .3),
+    ))
 
 report-row-requires : tie.Need-report-row-requires Inv-loop μ-loop
-report-row-requires c κs = (((c .before .before .before .before .before .before .before .pre .0 .0), (c .before .before .before .before .before .before .before .pre .0 .1), (c .before .before .before .before .before .before .before .pre .0 .2), (c .before .loop-test .taken), part-length ((c .before .before .before .before .before .before .before .args .n)) ((c .before .before .loop .a)) ((c .before .before .loop .report)) ((c .before .loop-test .taken)) (omega (arith, (ap length ((c .before .before .loop .inv .1)) ∙ rows-length ((c .before .before .before .before .before .before .before .args .n)) (reportEntry ((c .before .before .before .before .before .before .before .args .n)) ((c .before .before .before .before .before .before .before .args .full .now)) ((c .before .before .before .before .before .before .before .args .low .now)) ((c .before .before .before .before .before .before .before .args .hubs .now))) ((c .before .before .before .before .before .before .before .args .report .now)) ((c .before .before .loop .a)) ((c .before .before .before .before .before .before .before .pre .0 .3))), (c .before .before .before .before .before .before .before .pre .0 .3)))), (c .before .before .before .before .before .before .before .pre .1))
+report-row-requires c κs =
+    let start = c .before .before .before .before .before .before .before in
+    let at-loop = c .before .before in
+    let at-loop-test = c .before in (
+      (
+        (start .pre .0 .0),
+        (start .pre .0 .1),
+        (start .pre .0 .2),
+        (at-loop-test .loop-test .taken),
+        part-length (start .args .n)
+            (at-loop .loop .a) (at-loop .loop .report) (at-loop-test .loop-test .taken)
+            (omega (
+              arith,
+              (ap length (at-loop .loop .inv .1) ∙ rows-length (start .args .n)
+                  (reportEntry (start .args .n) (start .args .full .now) (start .args .low .now) (start .args .hubs .now)) (start .args .report .now)
+                  (at-loop .loop .a) (start .pre .0 .3)),
+              (start .pre .0 .3),
+            )),
+      ),
+      (start .pre .1),
+    )
 
 add-a : tie.Need-add-a Inv-loop μ-loop
-add-a c = omega (arith, (c .before .before .before .before .before .before .before .before .before .before .pre .0 .0))
+add-a c =
+    let start = c .before .before .before .before .before .before .before .before .before .before in
+    omega (arith, (start .pre .0 .0))
 
 loop-less : tie.Need-loop-less Inv-loop μ-loop
 loop-less c = search needs
 
 loop-again : tie.Need-loop-again Inv-loop μ-loop
-loop-again c = (omega arith, row-put (((c .before .before .before .before .before .loop .a)) * ((c .before .before .before .before .before .before .before .before .before .before .args .n))) ((c .before .before .before .before .before .before .before .before .before .before .args .n)) ((c .before .before .before .before .before .loop .report)) _ _ (((c .before .before .report-row .kept .1 .1 .1 .1 .1 .0)) ∙ part-length ((c .before .before .before .before .before .before .before .before .before .before .args .n)) ((c .before .before .before .before .before .loop .a)) ((c .before .before .before .before .before .loop .report)) ((c .before .before .before .before .loop-test .taken)) (omega (arith, (ap length ((c .before .before .before .before .before .loop .inv .1)) ∙ rows-length ((c .before .before .before .before .before .before .before .before .before .before .args .n)) (reportEntry ((c .before .before .before .before .before .before .before .before .before .before .args .n)) ((c .before .before .before .before .before .before .before .before .before .before .args .full .now)) ((c .before .before .before .before .before .before .before .before .before .before .args .low .now)) ((c .before .before .before .before .before .before .before .before .before .before .args .hubs .now))) ((c .before .before .before .before .before .before .before .before .before .before .args .report .now)) ((c .before .before .before .before .before .loop .a)) ((c .before .before .before .before .before .before .before .before .before .before .pre .0 .3))), (c .before .before .before .before .before .before .before .before .before .before .pre .0 .3)))) ((c .before .before .report-row .ensures)) ∙ ap (λ (t : List ℕ). written t (((c .before .before .before .before .before .loop .a)) * ((c .before .before .before .before .before .before .before .before .before .before .args .n))) (map ((reportEntry ((c .before .before .before .before .before .before .before .before .before .before .args .n)) ((c .before .before .before .before .before .before .before .before .before .before .args .full .now)) ((c .before .before .before .before .before .before .before .before .before .before .args .low .now)) ((c .before .before .before .before .before .before .before .before .before .before .args .hubs .now))) ((c .before .before .before .before .before .loop .a))) (upTo ((c .before .before .before .before .before .before .before .before .before .before .args .n))))) ((c .before .before .before .before .before .loop .inv .1)) ∙ rows-next ((c .before .before .before .before .before .before .before .before .before .before .args .n)) (reportEntry ((c .before .before .before .before .before .before .before .before .before .before .args .n)) ((c .before .before .before .before .before .before .before .before .before .before .args .full .now)) ((c .before .before .before .before .before .before .before .before .before .before .args .low .now)) ((c .before .before .before .before .before .before .before .before .before .before .args .hubs .now))) ((c .before .before .before .before .before .before .before .before .before .before .args .report .now)) ((c .before .before .before .before .before .loop .a)) ((c .before .before .before .before .loop-test .taken)))
+loop-again c =
+    let start = c .before .before .before .before .before .before .before .before .before .before in
+    let at-loop = c .before .before .before .before .before in
+    let at-loop-test = c .before .before .before .before in
+    let at-report-row = c .before .before in (
+      omega arith,
+      row-put ((at-loop .loop .a) * (start .args .n)) (start .args .n) (at-loop .loop .report) _ _
+          ((at-report-row .report-row .kept .1 .1 .1 .1 .1 .0) ∙ part-length (start .args .n) (at-loop .loop .a) (at-loop .loop .report)
+          (at-loop-test .loop-test .taken) (omega (
+            arith,
+            (ap length (at-loop .loop .inv .1) ∙ rows-length (start .args .n)
+                (reportEntry (start .args .n) (start .args .full .now) (start .args .low .now) (start .args .hubs .now)) (start .args .report .now)
+                (at-loop .loop .a) (start .pre .0 .3)),
+            (start .pre .0 .3),
+          ))) (at-report-row .report-row .ensures) ∙ ap
+          (λ (t : List ℕ). written t ((at-loop .loop .a) * (start .args .n))
+          (map ((reportEntry (start .args .n) (start .args .full .now) (start .args .low .now) (start .args .hubs .now)) (at-loop .loop .a))
+          (upTo (start .args .n)))) (at-loop .loop .inv .1) ∙ rows-next (start .args .n)
+          (reportEntry (start .args .n) (start .args .full .now) (start .args .low .now) (start .args .hubs .now)) (start .args .report .now)
+          (at-loop .loop .a) (at-loop-test .loop-test .taken),
+    )
 
 same-length : tie.Need-same-length Inv-loop μ-loop
-same-length c = (ap length ((c .before .loop .inv .1)) ∙ rows-length ((c .before .before .before .before .before .before .args .n)) (reportEntry ((c .before .before .before .before .before .before .args .n)) ((c .before .before .before .before .before .before .args .full .now)) ((c .before .before .before .before .before .before .args .low .now)) ((c .before .before .before .before .before .before .args .hubs .now))) ((c .before .before .before .before .before .before .args .report .now)) ((c .before .loop .a)) ((c .before .before .before .before .before .before .pre .0 .3)))
+same-length c =
+    let start = c .before .before .before .before .before .before in
+    let at-loop = c .before in
+    (ap length (at-loop .loop .inv .1) ∙ rows-length (start .args .n)
+    (reportEntry (start .args .n) (start .args .full .now) (start .args .low .now) (start .args .hubs .now)) (start .args .report .now)
+    (at-loop .loop .a) (start .pre .0 .3))
 
 returns : tie.Need-returns Inv-loop μ-loop
-returns c = ((c .before .loop .inv .1)) ∙ rows-done ((c .before .before .before .before .before .before .args .n)) (reportEntry ((c .before .before .before .before .before .before .args .n)) ((c .before .before .before .before .before .before .args .full .now)) ((c .before .before .before .before .before .before .args .low .now)) ((c .before .before .before .before .before .before .args .hubs .now))) ((c .before .before .before .before .before .before .args .report .now)) ((c .before .loop .a)) ((c .loop-test .left))
+returns c =
+    let start = c .before .before .before .before .before .before in
+    let at-loop = c .before in
+    (at-loop .loop .inv .1) ∙ rows-done (start .args .n)
+    (reportEntry (start .args .n) (start .args .full .now) (start .args .low .now) (start .args .hubs .now)) (start .args .report .now)
+    (at-loop .loop .a) (c .loop-test .left)
 
 pub fill-report-spec : {M : Type 1} → statement M
 fill-report-spec =

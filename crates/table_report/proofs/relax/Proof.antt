@@ -16,13 +16,20 @@ abbrev μ-loop : tie.MeasureT-loop
 μ-loop row₀ x other b₀ row b = length row - b
 
 loop-holds : tie.Need-loop-holds Inv-loop μ-loop
-loop-holds c = relaxing-none (c .before .before .args .x) (c .before .before .args .other .now) (c .before .before .args .row .now) (c .before .before .pre)
+loop-holds c =
+    let start = c .before .before in
+    relaxing-none (start .args .x) (start .args .other .now) (start .args .row .now) (start .pre)
 
 mul-sum-or-none : tie.Need-mul-sum-or-none Inv-loop μ-loop
 mul-sum-or-none c = omega (arith, (c .before .loop .inv .same), (c .before .before .before .before .pre), (c .loop-test .taken))
 
 shared-slice-read-sum-or-none : tie.Need-shared-slice-read-sum-or-none Inv-loop μ-loop
-shared-slice-read-sum-or-none c = omega (arith, (c .before .before .loop .inv .same), (c .before .before .before .before .before .pre), (c .before .loop-test .taken))
+shared-slice-read-sum-or-none c = omega (
+  arith,
+  (c .before .before .loop .inv .same),
+  (c .before .before .before .before .before .pre),
+  (c .before .loop-test .taken),
+)
 
 sum-or-none-requires : tie.Need-sum-or-none-requires Inv-loop μ-loop
 sum-or-none-requires c κs = search needs
@@ -46,17 +53,40 @@ add-b : tie.Need-add-b Inv-loop μ-loop
 add-b c = search needs
 
 loop-less : tie.Need-loop-less Inv-loop μ-loop
-loop-less c = omega (arith, (c .before .before .before .before .loop-test .taken), length-set (c .before .before .before .before .before .loop .row) (c .before .before .before .before .before .loop .b) (c .lesser .result))
+loop-less c =
+    let at-loop = c .before .before .before .before .before in
+    omega (
+      arith,
+      (c .before .before .before .before .loop-test .taken),
+      length-set (at-loop .loop .row) (at-loop .loop .b)
+          (c .lesser .result),
+    )
 
 loop-again : tie.Need-loop-again Inv-loop μ-loop
-loop-again c = let e : min ((c .before .before .before .before .before .before .before .before .args .x) + getD (c .before .before .before .before .before .before .before .before .args .other .now) (c .before .before .before .before .before .loop .b) 0) (getD (c .before .before .before .before .before .loop .row) (c .before .before .before .before .before .loop .b) 0) ≡ (c .lesser .result) = omega (arith, (c .before .before .sum-or-none .ensures), (c .lesser .ensures), (c .before .slice-known2 .given) (c .before .before .before .before .before .loop .b)) in
-    subst (λ (k : ℕ). Relaxing (c .before .before .before .before .before .before .before .before .args .x) (c .before .before .before .before .before .before .before .before .args .other .now) (c .before .before .before .before .before .before .before .before .args .row .now) (set (c .before .before .before .before .before .loop .row) (c .before .before .before .before .before .loop .b) k) ((c .before .before .before .before .before .loop .b) + 1)) e (relaxing-next (c .before .before .before .before .before .before .before .before .args .x) (c .before .before .before .before .before .before .before .before .args .other .now) (c .before .before .before .before .before .before .before .before .args .row .now) (c .before .before .before .before .before .before .before .before .pre) (c .before .before .before .before .before .loop .row) (c .before .before .before .before .before .loop .b) (c .before .before .before .before .before .loop .inv) (c .before .before .before .before .loop-test .taken))
+loop-again c =
+    let start = c .before .before .before .before .before .before .before .before in
+    let at-loop = c .before .before .before .before .before in
+    let e : min ((start .args .x) + getD (start .args .other .now) (at-loop .loop .b) 0) (getD (at-loop .loop .row) (at-loop .loop .b) 0) ≡
+    (c .lesser .result) = omega (
+      arith,
+      (c .before .before .sum-or-none .ensures),
+      (c .lesser .ensures),
+      (c .before .slice-known2 .given) (at-loop .loop .b),
+    ) in
+    subst (λ (k : ℕ). Relaxing (start .args .x) (start .args .other .now) (start .args .row .now)
+    (set (at-loop .loop .row) (at-loop .loop .b) k) ((at-loop .loop .b) + 1)) e
+    (relaxing-next (start .args .x) (start .args .other .now) (start .args .row .now) (start .pre) (at-loop .loop .row)
+    (at-loop .loop .b) (at-loop .loop .inv) (c .before .before .before .before .loop-test .taken))
 
 same-length : tie.Need-same-length Inv-loop μ-loop
 same-length c = (c .before .loop .inv .same)
 
 returns : tie.Need-returns Inv-loop μ-loop
-returns c = relaxing-done (c .before .before .before .before .args .x) (c .before .before .before .before .args .other .now) (c .before .before .before .before .args .row .now) (c .before .before .before .before .pre) (c .before .loop .row) (c .before .loop .b) (c .before .loop .inv) (c .loop-test .left)
+returns c =
+    let start = c .before .before .before .before in
+    let at-loop = c .before in
+    relaxing-done (start .args .x) (start .args .other .now) (start .args .row .now) (start .pre) (at-loop .loop .row) (at-loop .loop .b)
+    (at-loop .loop .inv) (c .loop-test .left)
 
 pub relax-spec : {M : Type 1} → statement M
 relax-spec =

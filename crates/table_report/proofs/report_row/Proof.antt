@@ -23,13 +23,19 @@ abbrev μ-loop : tie.MeasureT-loop
 μ-loop n full low hubs a row₀ start end k₀ row k = length hubs - k
 
 mul-start : tie.Need-mul-start Inv-loop μ-loop
-mul-start c = omega (arith, row-ends ((c .before .before .before .before .args .n)) ((c .before .before .before .before .args .a)) ((c .before .before .before .before .args .low .now)) ((c .before .before .before .before .pre .0 .3)) ((c .before .before .before .before .pre .0 .2)))
+mul-start c =
+    let start = c .before .before .before .before in
+    omega (arith, row-ends (start .args .n) (start .args .a) (start .args .low .now) (start .pre .0 .3) (start .pre .0 .2))
 
 add-end : tie.Need-add-end Inv-loop μ-loop
-add-end c = omega (arith, row-ends ((c .before .before .before .before .args .n)) ((c .before .before .before .before .args .a)) ((c .before .before .before .before .args .low .now)) ((c .before .before .before .before .pre .0 .3)) ((c .before .before .before .before .pre .0 .2)))
+add-end c =
+    let start = c .before .before .before .before in
+    omega (arith, row-ends (start .args .n) (start .args .a) (start .args .low .now) (start .pre .0 .3) (start .pre .0 .2))
 
 mul-copy16 : tie.Need-mul-copy16 Inv-loop μ-loop
-mul-copy16 c = omega (arith, row-ends ((c .before .before .before .before .args .n)) ((c .before .before .before .before .args .a)) ((c .before .before .before .before .args .low .now)) ((c .before .before .before .before .pre .0 .3)) ((c .before .before .before .before .pre .0 .2)))
+mul-copy16 c =
+    let start = c .before .before .before .before in
+    omega (arith, row-ends (start .args .n) (start .args .a) (start .args .low .now) (start .pre .0 .3) (start .pre .0 .2))
 
 sub-copy16 : tie.Need-sub-copy16 Inv-loop μ-loop
 sub-copy16 c = search needs
@@ -38,13 +44,35 @@ part-copy16-start : tie.Need-part-copy16-start Inv-loop μ-loop
 part-copy16-start c = search needs
 
 part-copy16-end : tie.Need-part-copy16-end Inv-loop μ-loop
-part-copy16-end c = omega (arith, row-ends (c .before .before .before .before .args .n) (c .before .before .before .before .args .a) (c .before .before .before .before .args .low .now) (c .before .before .before .before .pre .0 .3) (c .before .before .before .before .pre .0 .2), row-ends (c .before .before .before .before .args .n) (c .before .before .before .before .args .a) (c .before .before .before .before .args .full .now) (c .before .before .before .before .pre .0 .3) (c .before .before .before .before .pre .0 .1))
+part-copy16-end c =
+    let start = c .before .before .before .before in
+    omega (
+      arith,
+      row-ends (start .args .n) (start .args .a) (start .args .low .now) (start .pre .0 .3) (start .pre .0 .2),
+      row-ends
+          (start .args .n) (start .args .a) (start .args .full .now) (start .pre .0 .3) (start .pre .0 .1),
+    )
 
 copy16-requires : tie.Need-copy16-requires Inv-loop μ-loop
-copy16-requires c κs = omega (arith, part-length (c .before .before .before .before .before .before .args .n) (c .before .before .before .before .before .before .args .a) (c .before .before .before .before .before .before .args .low .now) (c .before .before .before .before .before .before .pre .0 .3) (c .before .before .before .before .before .before .pre .0 .2), part-length (c .before .before .before .before .before .before .args .n) (c .before .before .before .before .before .before .args .a) (c .before .before .before .before .before .before .args .full .now) (c .before .before .before .before .before .before .pre .0 .3) (c .before .before .before .before .before .before .pre .0 .1), (c .before .before .before .before .before .before .pre .0 .4))
+copy16-requires c κs =
+    let start = c .before .before .before .before .before .before in
+    omega (
+      arith,
+      part-length (start .args .n) (start .args .a) (start .args .low .now) (start .pre .0 .3) (start .pre .0 .2),
+      part-length
+          (start .args .n) (start .args .a) (start .args .full .now) (start .pre .0 .3) (start .pre .0 .1),
+      (start .pre .0 .4),
+    )
 
 loop-holds : tie.Need-loop-holds Inv-loop μ-loop
-loop-holds c = (omega arith, copied _ _ _ _ ((c .before .before .copy16 .ensures)) ((c .before .before .before .before .before .before .before .before .before .pre .0 .4) ∙ sym (part-length ((c .before .before .before .before .before .before .before .before .before .args .n)) ((c .before .before .before .before .before .before .before .before .before .args .a)) ((c .before .before .before .before .before .before .before .before .before .args .low .now)) ((c .before .before .before .before .before .before .before .before .before .pre .0 .3)) ((c .before .before .before .before .before .before .before .before .before .pre .0 .2)))) ∙ own-row ((c .before .before .before .before .before .before .before .before .before .args .n)) ((c .before .before .before .before .before .before .before .before .before .args .a)) ((c .before .before .before .before .before .before .before .before .before .args .low .now)) ((c .before .before .before .before .before .before .before .before .before .pre .0 .3)) ((c .before .before .before .before .before .before .before .before .before .pre .0 .2)) ∙ least-none ((c .before .before .before .before .before .before .before .before .before .args .n)) ((c .before .before .before .before .before .before .before .before .before .args .full .now)) ((c .before .before .before .before .before .before .before .before .before .args .low .now)) ((c .before .before .before .before .before .before .before .before .before .args .hubs .now)) ((c .before .before .before .before .before .before .before .before .before .args .a)))
+loop-holds c =
+    let start = c .before .before .before .before .before .before .before .before .before in (
+      omega arith,
+      copied _ _ _ _ (c .before .before .copy16 .ensures)
+          ((start .pre .0 .4) ∙ sym (part-length (start .args .n) (start .args .a) (start .args .low .now) (start .pre .0 .3)
+          (start .pre .0 .2))) ∙ own-row (start .args .n) (start .args .a) (start .args .low .now) (start .pre .0 .3) (start .pre .0 .2) ∙
+          least-none (start .args .n) (start .args .full .now) (start .args .low .now) (start .args .hubs .now) (start .args .a),
+    )
 
 mul-first : tie.Need-mul-first Inv-loop μ-loop
 mul-first c = search needs
@@ -53,25 +81,84 @@ shared-slice-read-first : tie.Need-shared-slice-read-first Inv-loop μ-loop
 shared-slice-read-first c = search needs
 
 cast-first : tie.Need-cast-first Inv-loop μ-loop
-cast-first c = omega (arith, ((c .before .before .before .before .before .before .before .before .before .before .before .before .pre .1) (getD ((c .before .before .before .before .before .before .before .before .before .before .before .before .args .hubs .now)) ((c .before .before .loop .k)) 0) (getD-has ((c .before .before .before .before .before .before .before .before .before .before .before .before .args .hubs .now)) ((c .before .before .loop .k)) ((c .before .loop-test .taken)))), (c .before .before .before .before .before .before .before .before .before .before .before .before .pre .0 .0))
+cast-first c =
+    let start = c .before .before .before .before .before .before .before .before .before .before .before .before in
+    let at-loop = c .before .before in
+    omega (
+      arith,
+      ((start .pre .1) (getD (start .args .hubs .now) (at-loop .loop .k) 0)
+          (getD-has (start .args .hubs .now) (at-loop .loop .k) (c .before .loop-test .taken))),
+      (start .pre .0 .0),
+    )
 
 mul-first-2 : tie.Need-mul-first-2 Inv-loop μ-loop
-mul-first-2 c = omega (arith, row-ends ((c .before .before .before .before .before .before .before .before .before .before .before .before .args .n)) (getD ((c .before .before .before .before .before .before .before .before .before .before .before .before .args .hubs .now)) ((c .before .before .loop .k)) 0) ((c .before .before .before .before .before .before .before .before .before .before .before .before .args .full .now)) ((c .before .before .before .before .before .before .before .before .before .before .before .before .pre .1) (getD ((c .before .before .before .before .before .before .before .before .before .before .before .before .args .hubs .now)) ((c .before .before .loop .k)) 0) (getD-has ((c .before .before .before .before .before .before .before .before .before .before .before .before .args .hubs .now)) ((c .before .before .loop .k)) ((c .before .loop-test .taken)))) ((c .before .before .before .before .before .before .before .before .before .before .before .before .pre .0 .1)))
+mul-first-2 c =
+    let start = c .before .before .before .before .before .before .before .before .before .before .before .before in
+    let at-loop = c .before .before in
+    omega (
+      arith,
+      row-ends (start .args .n) (getD (start .args .hubs .now) (at-loop .loop .k) 0) (start .args .full .now)
+          ((start .pre .1) (getD (start .args .hubs .now) (at-loop .loop .k) 0)
+          (getD-has (start .args .hubs .now) (at-loop .loop .k) (c .before .loop-test .taken))) (start .pre .0 .1),
+    )
 
 add-last : tie.Need-add-last Inv-loop μ-loop
-add-last c = omega (arith, row-ends ((c .before .before .before .before .before .before .before .before .before .before .before .before .args .n)) (getD ((c .before .before .before .before .before .before .before .before .before .before .before .before .args .hubs .now)) ((c .before .before .loop .k)) 0) ((c .before .before .before .before .before .before .before .before .before .before .before .before .args .full .now)) ((c .before .before .before .before .before .before .before .before .before .before .before .before .pre .1) (getD ((c .before .before .before .before .before .before .before .before .before .before .before .before .args .hubs .now)) ((c .before .before .loop .k)) 0) (getD-has ((c .before .before .before .before .before .before .before .before .before .before .before .before .args .hubs .now)) ((c .before .before .loop .k)) ((c .before .loop-test .taken)))) ((c .before .before .before .before .before .before .before .before .before .before .before .before .pre .0 .1)))
+add-last c =
+    let start = c .before .before .before .before .before .before .before .before .before .before .before .before in
+    let at-loop = c .before .before in
+    omega (
+      arith,
+      row-ends (start .args .n) (getD (start .args .hubs .now) (at-loop .loop .k) 0) (start .args .full .now)
+          ((start .pre .1) (getD (start .args .hubs .now) (at-loop .loop .k) 0)
+          (getD-has (start .args .hubs .now) (at-loop .loop .k) (c .before .loop-test .taken))) (start .pre .0 .1),
+    )
 
 add-relax : tie.Need-add-relax Inv-loop μ-loop
-add-relax c = omega (arith, place-inside ((c .before .before .before .before .before .before .before .before .before .before .before .before .before .args .n)) (getD ((c .before .before .before .before .before .before .before .before .before .before .before .before .before .args .hubs .now)) ((c .before .before .before .loop .k)) 0) ((c .before .before .before .before .before .before .before .before .before .before .before .before .before .args .a)) ((c .before .before .before .before .before .before .before .before .before .before .before .before .before .pre .1) (getD ((c .before .before .before .before .before .before .before .before .before .before .before .before .before .args .hubs .now)) ((c .before .before .before .loop .k)) 0) (getD-has ((c .before .before .before .before .before .before .before .before .before .before .before .before .before .args .hubs .now)) ((c .before .before .before .loop .k)) ((c .before .before .loop-test .taken)))) ((c .before .before .before .before .before .before .before .before .before .before .before .before .before .pre .0 .3)), (c .before .before .before .before .before .before .before .before .before .before .before .before .before .pre .0 .1))
+add-relax c =
+    let start = c .before .before .before .before .before .before .before .before .before .before .before .before .before in
+    let at-loop = c .before .before .before in
+    omega (
+      arith,
+      place-inside (start .args .n) (getD (start .args .hubs .now) (at-loop .loop .k) 0) (start .args .a)
+          ((start .pre .1) (getD (start .args .hubs .now) (at-loop .loop .k) 0)
+          (getD-has (start .args .hubs .now) (at-loop .loop .k) (c .before .before .loop-test .taken))) (start .pre .0 .3),
+      (start .pre .0 .1),
+    )
 
 mul-relax : tie.Need-mul-relax Inv-loop μ-loop
-mul-relax c = omega (arith, place-inside ((c .before .before .before .before .before .before .before .before .before .before .before .before .before .args .n)) (getD ((c .before .before .before .before .before .before .before .before .before .before .before .before .before .args .hubs .now)) ((c .before .before .before .loop .k)) 0) ((c .before .before .before .before .before .before .before .before .before .before .before .before .before .args .a)) ((c .before .before .before .before .before .before .before .before .before .before .before .before .before .pre .1) (getD ((c .before .before .before .before .before .before .before .before .before .before .before .before .before .args .hubs .now)) ((c .before .before .before .loop .k)) 0) (getD-has ((c .before .before .before .before .before .before .before .before .before .before .before .before .before .args .hubs .now)) ((c .before .before .before .loop .k)) ((c .before .before .loop-test .taken)))) ((c .before .before .before .before .before .before .before .before .before .before .before .before .before .pre .0 .3)), (c .before .before .before .before .before .before .before .before .before .before .before .before .before .pre .0 .1))
+mul-relax c =
+    let start = c .before .before .before .before .before .before .before .before .before .before .before .before .before in
+    let at-loop = c .before .before .before in
+    omega (
+      arith,
+      place-inside (start .args .n) (getD (start .args .hubs .now) (at-loop .loop .k) 0) (start .args .a)
+          ((start .pre .1) (getD (start .args .hubs .now) (at-loop .loop .k) 0)
+          (getD-has (start .args .hubs .now) (at-loop .loop .k) (c .before .before .loop-test .taken))) (start .pre .0 .3),
+      (start .pre .0 .1),
+    )
 
 shared-slice-read-relax : tie.Need-shared-slice-read-relax Inv-loop μ-loop
-shared-slice-read-relax c = omega (arith, place-inside ((c .before .before .before .before .before .before .before .before .before .before .before .before .before .before .args .n)) (getD ((c .before .before .before .before .before .before .before .before .before .before .before .before .before .before .args .hubs .now)) ((c .before .before .before .before .loop .k)) 0) ((c .before .before .before .before .before .before .before .before .before .before .before .before .before .before .args .a)) ((c .before .before .before .before .before .before .before .before .before .before .before .before .before .before .pre .1) (getD ((c .before .before .before .before .before .before .before .before .before .before .before .before .before .before .args .hubs .now)) ((c .before .before .before .before .loop .k)) 0) (getD-has ((c .before .before .before .before .before .before .before .before .before .before .before .before .before .before .args .hubs .now)) ((c .before .before .before .before .loop .k)) ((c .before .before .before .loop-test .taken)))) ((c .before .before .before .before .before .before .before .before .before .before .before .before .before .before .pre .0 .3)), (c .before .before .before .before .before .before .before .before .before .before .before .before .before .before .pre .0 .1))
+shared-slice-read-relax c =
+    let start = c .before .before .before .before .before .before .before .before .before .before .before .before .before .before in
+    let at-loop = c .before .before .before .before in
+    omega (
+      arith,
+      place-inside (start .args .n) (getD (start .args .hubs .now) (at-loop .loop .k) 0) (start .args .a)
+          ((start .pre .1) (getD (start .args .hubs .now) (at-loop .loop .k) 0)
+          (getD-has (start .args .hubs .now) (at-loop .loop .k) (c .before .before .before .loop-test .taken))) (start .pre .0 .3),
+      (start .pre .0 .1),
+    )
 
 mul-relax-2 : tie.Need-mul-relax-2 Inv-loop μ-loop
-mul-relax-2 c = omega (arith, row-ends ((c .before .before .before .before .before .before .before .before .before .before .before .before .before .before .args .n)) (getD ((c .before .before .before .before .before .before .before .before .before .before .before .before .before .before .args .hubs .now)) ((c .before .before .before .before .loop .k)) 0) ((c .before .before .before .before .before .before .before .before .before .before .before .before .before .before .args .full .now)) ((c .before .before .before .before .before .before .before .before .before .before .before .before .before .before .pre .1) (getD ((c .before .before .before .before .before .before .before .before .before .before .before .before .before .before .args .hubs .now)) ((c .before .before .before .before .loop .k)) 0) (getD-has ((c .before .before .before .before .before .before .before .before .before .before .before .before .before .before .args .hubs .now)) ((c .before .before .before .before .loop .k)) ((c .before .before .before .loop-test .taken)))) ((c .before .before .before .before .before .before .before .before .before .before .before .before .before .before .pre .0 .1)))
+mul-relax-2 c =
+    let start = c .before .before .before .before .before .before .before .before .before .before .before .before .before .before in
+    let at-loop = c .before .before .before .before in
+    omega (
+      arith,
+      row-ends (start .args .n) (getD (start .args .hubs .now) (at-loop .loop .k) 0) (start .args .full .now)
+          ((start .pre .1) (getD (start .args .hubs .now) (at-loop .loop .k) 0)
+          (getD-has (start .args .hubs .now) (at-loop .loop .k) (c .before .before .before .loop-test .taken))) (start .pre .0 .1),
+    )
 
 sub-relax : tie.Need-sub-relax Inv-loop μ-loop
 sub-relax c = search needs
@@ -80,10 +167,23 @@ part-relax-start : tie.Need-part-relax-start Inv-loop μ-loop
 part-relax-start c = search needs
 
 part-relax-end : tie.Need-part-relax-end Inv-loop μ-loop
-part-relax-end c = row-ends ((c .before .before .before .before .before .before .before .before .before .before .before .before .before .before .args .n)) (getD ((c .before .before .before .before .before .before .before .before .before .before .before .before .before .before .args .hubs .now)) ((c .before .before .before .before .loop .k)) 0) ((c .before .before .before .before .before .before .before .before .before .before .before .before .before .before .args .full .now)) ((c .before .before .before .before .before .before .before .before .before .before .before .before .before .before .pre .1) (getD ((c .before .before .before .before .before .before .before .before .before .before .before .before .before .before .args .hubs .now)) ((c .before .before .before .before .loop .k)) 0) (getD-has ((c .before .before .before .before .before .before .before .before .before .before .before .before .before .before .args .hubs .now)) ((c .before .before .before .before .loop .k)) ((c .before .before .before .loop-test .taken)))) ((c .before .before .before .before .before .before .before .before .before .before .before .before .before .before .pre .0 .1))
+part-relax-end c =
+    let start = c .before .before .before .before .before .before .before .before .before .before .before .before .before .before in
+    let at-loop = c .before .before .before .before in
+    row-ends (start .args .n) (getD (start .args .hubs .now) (at-loop .loop .k) 0) (start .args .full .now)
+    ((start .pre .1) (getD (start .args .hubs .now) (at-loop .loop .k) 0)
+    (getD-has (start .args .hubs .now) (at-loop .loop .k) (c .before .before .before .loop-test .taken))) (start .pre .0 .1)
 
 relax-requires : tie.Need-relax-requires Inv-loop μ-loop
-relax-requires c κs = (ap length ((c .before .before .before .before .before .loop .inv .1)) ∙ length-row (leastTo ((c .before .before .before .before .before .before .before .before .before .before .before .before .before .before .before .args .n)) ((c .before .before .before .before .before .before .before .before .before .before .before .before .before .before .before .args .full .now)) ((c .before .before .before .before .before .before .before .before .before .before .before .before .before .before .before .args .low .now)) ((c .before .before .before .before .before .before .before .before .before .before .before .before .before .before .before .args .hubs .now)) ((c .before .before .before .before .before .before .before .before .before .before .before .before .before .before .before .args .a)) ((c .before .before .before .before .before .loop .k))) ((c .before .before .before .before .before .before .before .before .before .before .before .before .before .before .before .args .n))) ∙ sym (part-length ((c .before .before .before .before .before .before .before .before .before .before .before .before .before .before .before .args .n)) (getD ((c .before .before .before .before .before .before .before .before .before .before .before .before .before .before .before .args .hubs .now)) ((c .before .before .before .before .before .loop .k)) 0) ((c .before .before .before .before .before .before .before .before .before .before .before .before .before .before .before .args .full .now)) ((c .before .before .before .before .before .before .before .before .before .before .before .before .before .before .before .pre .1) (getD ((c .before .before .before .before .before .before .before .before .before .before .before .before .before .before .before .args .hubs .now)) ((c .before .before .before .before .before .loop .k)) 0) (getD-has ((c .before .before .before .before .before .before .before .before .before .before .before .before .before .before .before .args .hubs .now)) ((c .before .before .before .before .before .loop .k)) ((c .before .before .before .before .loop-test .taken)))) ((c .before .before .before .before .before .before .before .before .before .before .before .before .before .before .before .pre .0 .1)))
+relax-requires c κs =
+    let start = c .before .before .before .before .before .before .before .before .before .before .before .before .before .before .before in
+    let at-loop = c .before .before .before .before .before in
+    (ap length (at-loop .loop .inv .1) ∙ length-row
+    (leastTo (start .args .n) (start .args .full .now) (start .args .low .now) (start .args .hubs .now) (start .args .a)
+    (at-loop .loop .k)) (start .args .n)) ∙ sym
+    (part-length (start .args .n) (getD (start .args .hubs .now) (at-loop .loop .k) 0) (start .args .full .now)
+    ((start .pre .1) (getD (start .args .hubs .now) (at-loop .loop .k) 0)
+    (getD-has (start .args .hubs .now) (at-loop .loop .k) (c .before .before .before .before .loop-test .taken))) (start .pre .0 .1))
 
 add-k : tie.Need-add-k Inv-loop μ-loop
 add-k c = omega arith
@@ -93,19 +193,64 @@ loop-less c = search needs
 
 loop-again : tie.Need-loop-again Inv-loop μ-loop
 unfolding entryAt
-loop-again c = (omega arith, ((c .before .before .relax .ensures)) ∙ ap₂ (relaxed (getD ((c .before .before .before .before .before .before .before .before .before .before .before .before .before .before .before .before .before .before .args .full .now)) ((getD ((c .before .before .before .before .before .before .before .before .before .before .before .before .before .before .before .before .before .before .args .hubs .now)) ((c .before .before .before .before .before .before .before .before .loop .k)) 0) * ((c .before .before .before .before .before .before .before .before .before .before .before .before .before .before .before .before .before .before .args .n)) + ((c .before .before .before .before .before .before .before .before .before .before .before .before .before .before .before .before .before .before .args .a))) 0)) (own-row ((c .before .before .before .before .before .before .before .before .before .before .before .before .before .before .before .before .before .before .args .n)) (getD ((c .before .before .before .before .before .before .before .before .before .before .before .before .before .before .before .before .before .before .args .hubs .now)) ((c .before .before .before .before .before .before .before .before .loop .k)) 0) ((c .before .before .before .before .before .before .before .before .before .before .before .before .before .before .before .before .before .before .args .full .now)) ((c .before .before .before .before .before .before .before .before .before .before .before .before .before .before .before .before .before .before .pre .1) (getD ((c .before .before .before .before .before .before .before .before .before .before .before .before .before .before .before .before .before .before .args .hubs .now)) ((c .before .before .before .before .before .before .before .before .loop .k)) 0) (getD-has ((c .before .before .before .before .before .before .before .before .before .before .before .before .before .before .before .before .before .before .args .hubs .now)) ((c .before .before .before .before .before .before .before .before .loop .k)) ((c .before .before .before .before .before .before .before .loop-test .taken)))) ((c .before .before .before .before .before .before .before .before .before .before .before .before .before .before .before .before .before .before .pre .0 .1))) ((c .before .before .before .before .before .before .before .before .loop .inv .1)) ∙ least-next ((c .before .before .before .before .before .before .before .before .before .before .before .before .before .before .before .before .before .before .args .n)) ((c .before .before .before .before .before .before .before .before .before .before .before .before .before .before .before .before .before .before .args .full .now)) ((c .before .before .before .before .before .before .before .before .before .before .before .before .before .before .before .before .before .before .args .low .now)) ((c .before .before .before .before .before .before .before .before .before .before .before .before .before .before .before .before .before .before .args .hubs .now)) ((c .before .before .before .before .before .before .before .before .before .before .before .before .before .before .before .before .before .before .args .a)) (λ b k. omega (arith, (c .before .before .before .before .before .before .before .before .before .before .before .before .before .before .before .before .shared-slice-known2 .given) (((c .before .before .before .before .before .before .before .before .before .before .before .before .before .before .before .before .before .before .args .a)) * ((c .before .before .before .before .before .before .before .before .before .before .before .before .before .before .before .before .before .before .args .n)) + b))) ((c .before .before .before .before .before .before .before .before .loop .k)) ((c .before .before .before .before .before .before .before .loop-test .taken)))
+loop-again c =
+    let start = c .before .before .before .before .before .before .before .before .before .before .before .before .before .before .before .before .before .before in
+    let at-shared-slice-known2 = c .before .before .before .before .before .before .before .before .before .before .before .before .before .before .before .before in
+    let at-loop = c .before .before .before .before .before .before .before .before in
+    let at-loop-test = c .before .before .before .before .before .before .before in (
+      omega arith,
+      (c .before .before .relax .ensures) ∙ ap₂
+          (relaxed (getD (start .args .full .now)
+          ((getD (start .args .hubs .now) (at-loop .loop .k) 0) * (start .args .n) + (start .args .a)) 0))
+          (own-row (start .args .n) (getD (start .args .hubs .now) (at-loop .loop .k) 0) (start .args .full .now)
+          ((start .pre .1) (getD (start .args .hubs .now) (at-loop .loop .k) 0)
+          (getD-has (start .args .hubs .now) (at-loop .loop .k) (at-loop-test .loop-test .taken))) (start .pre .0 .1))
+          (at-loop .loop .inv .1) ∙ least-next (start .args .n) (start .args .full .now) (start .args .low .now) (start .args .hubs .now)
+          (start .args .a) (λ b k. omega (
+            arith,
+            (at-shared-slice-known2 .shared-slice-known2 .given)
+                ((start .args .a) * (start .args .n) + b),
+          )) (at-loop .loop .k) (at-loop-test .loop-test .taken),
+    )
 
 mul-row : tie.Need-mul-row Inv-loop μ-loop
-mul-row c = omega (arith, (ap length ((c .before .loop .inv .1)) ∙ length-row (leastTo ((c .before .before .before .before .before .before .before .before .before .before .before .args .n)) ((c .before .before .before .before .before .before .before .before .before .before .before .args .full .now)) ((c .before .before .before .before .before .before .before .before .before .before .before .args .low .now)) ((c .before .before .before .before .before .before .before .before .before .before .before .args .hubs .now)) ((c .before .before .before .before .before .before .before .before .before .before .before .args .a)) ((c .before .loop .k))) ((c .before .before .before .before .before .before .before .before .before .before .before .args .n))), (c .before .before .before .before .before .before .before .before .before .before .before .pre .0 .3))
+mul-row c =
+    let start = c .before .before .before .before .before .before .before .before .before .before .before in
+    let at-loop = c .before in
+    omega (
+      arith,
+      (ap length (at-loop .loop .inv .1) ∙ length-row
+          (leastTo (start .args .n) (start .args .full .now) (start .args .low .now) (start .args .hubs .now) (start .args .a)
+          (at-loop .loop .k)) (start .args .n)),
+      (start .pre .0 .3),
+    )
 
 slice-write-row : tie.Need-slice-write-row Inv-loop μ-loop
-slice-write-row c = omega (arith, (ap length ((c .before .loop .inv .1)) ∙ length-row (leastTo ((c .before .before .before .before .before .before .before .before .before .before .before .args .n)) ((c .before .before .before .before .before .before .before .before .before .before .before .args .full .now)) ((c .before .before .before .before .before .before .before .before .before .before .before .args .low .now)) ((c .before .before .before .before .before .before .before .before .before .before .before .args .hubs .now)) ((c .before .before .before .before .before .before .before .before .before .before .before .args .a)) ((c .before .loop .k))) ((c .before .before .before .before .before .before .before .before .before .before .before .args .n))), (c .before .before .before .before .before .before .before .before .before .before .before .pre .0 .3))
+slice-write-row c =
+    let start = c .before .before .before .before .before .before .before .before .before .before .before in
+    let at-loop = c .before in
+    omega (
+      arith,
+      (ap length (at-loop .loop .inv .1) ∙ length-row
+          (leastTo (start .args .n) (start .args .full .now) (start .args .low .now) (start .args .hubs .now) (start .args .a)
+          (at-loop .loop .k)) (start .args .n)),
+      (start .pre .0 .3),
+    )
 
 same-length : tie.Need-same-length Inv-loop μ-loop
-same-length c = length-set ((c .before .loop .row)) _ _ ∙ (ap length ((c .before .loop .inv .1)) ∙ length-row (leastTo ((c .before .before .before .before .before .before .before .before .before .before .before .args .n)) ((c .before .before .before .before .before .before .before .before .before .before .before .args .full .now)) ((c .before .before .before .before .before .before .before .before .before .before .before .args .low .now)) ((c .before .before .before .before .before .before .before .before .before .before .before .args .hubs .now)) ((c .before .before .before .before .before .before .before .before .before .before .before .args .a)) ((c .before .loop .k))) ((c .before .before .before .before .before .before .before .before .before .before .before .args .n))) ∙ sym ((c .before .before .before .before .before .before .before .before .before .before .before .pre .0 .4))
+same-length c =
+    let start = c .before .before .before .before .before .before .before .before .before .before .before in
+    let at-loop = c .before in
+    length-set (at-loop .loop .row) _ _ ∙ (ap length (at-loop .loop .inv .1) ∙ length-row
+    (leastTo (start .args .n) (start .args .full .now) (start .args .low .now) (start .args .hubs .now) (start .args .a)
+    (at-loop .loop .k)) (start .args .n)) ∙ sym (start .pre .0 .4)
 
 returns : tie.Need-returns Inv-loop μ-loop
-returns c = ap (λ (r : List ℕ). set r ((c .before .before .before .before .before .before .before .before .before .before .before .args .a)) 0) ((c .before .loop .inv .1)) ∙ least-done ((c .before .before .before .before .before .before .before .before .before .before .before .args .n)) ((c .before .before .before .before .before .before .before .before .before .before .before .args .full .now)) ((c .before .before .before .before .before .before .before .before .before .before .before .args .low .now)) ((c .before .before .before .before .before .before .before .before .before .before .before .args .hubs .now)) ((c .before .before .before .before .before .before .before .before .before .before .before .args .a)) ((c .before .loop .k)) ((c .loop-test .left)) ((c .before .before .before .before .before .before .before .before .before .before .before .pre .0 .3))
+returns c =
+    let start = c .before .before .before .before .before .before .before .before .before .before .before in
+    let at-loop = c .before in
+    ap (λ (r : List ℕ). set r (start .args .a) 0) (at-loop .loop .inv .1) ∙ least-done (start .args .n) (start .args .full .now)
+    (start .args .low .now) (start .args .hubs .now) (start .args .a) (at-loop .loop .k) (c .loop-test .left) (start .pre .0 .3)
 
 pub report-row-spec : {M : Type 1} → statement M
 report-row-spec =

@@ -47,34 +47,52 @@ element-copy-out-build : tie.Need-element-copy-out-build
 element-copy-out-build c = search needs
 
 slice-aggregate-build : tie.Need-slice-aggregate-build
-slice-aggregate-build c = sym (length-take-le (c .before .before .before .before .before .before .before .before .before .before .before .before .at-most .result) (c .before .before .before .before .before .before .before .before .before .before .before .before .before .before .before .before .before .before .before .before .args .starts .now) (omega (arith, c .before .before .before .before .before .before .before .before .before .before .before .before .at-most .ensures)))
+slice-aggregate-build c =
+    let start = c .before .before .before .before .before .before .before .before .before .before .before .before .before .before .before .before .before .before .before .before in
+    let at-at-most = c .before .before .before .before .before .before .before .before .before .before .before .before in
+    sym (length-take-le (at-at-most .at-most .result) (start .args .starts .now) (omega (arith, at-at-most .at-most .ensures)))
 
 slice-aggregate-build-2 : tie.Need-slice-aggregate-build-2
-slice-aggregate-build-2 c = sym (length-take-le (c .before .before .before .before .before .before .before .before .before .before .before .at-most2 .result) (c .before .before .before .before .before .before .before .before .before .before .before .before .before .before .before .before .before .before .before .before .before .args .neighbours .now) (omega (arith, c .before .before .before .before .before .before .before .before .before .before .before .at-most2 .ensures)))
+slice-aggregate-build-2 c =
+    let start = c .before .before .before .before .before .before .before .before .before .before .before .before .before .before .before .before .before .before .before .before .before in
+    let at-at-most2 = c .before .before .before .before .before .before .before .before .before .before .before in
+    sym (length-take-le (at-at-most2 .at-most2 .result) (start .args .neighbours .now) (omega (arith, at-at-most2 .at-most2 .ensures)))
 
 slice-relend-prefix-build : tie.Need-slice-relend-prefix-build
 slice-relend-prefix-build c = search needs
 
 slice-aggregate-build-3 : tie.Need-slice-aggregate-build-3
-slice-aggregate-build-3 c = sym (length-take-le (c .before .before .before .before .before .before .before .before .before .before .at-most3 .result) (c .before .before .before .before .before .before .before .before .before .before .before .before .before .before .before .before .before .before .before .before .before .before .args .full .now) (omega (arith, c .before .before .before .before .before .before .before .before .before .before .at-most3 .ensures)))
+slice-aggregate-build-3 c =
+    let start = c .before .before .before .before .before .before .before .before .before .before .before .before .before .before .before .before .before .before .before .before .before .before in
+    let at-at-most3 = c .before .before .before .before .before .before .before .before .before .before in
+    sym (length-take-le (at-at-most3 .at-most3 .result) (start .args .full .now) (omega (arith, at-at-most3 .at-most3 .ensures)))
 
 slice-relend-prefix-build-2 : tie.Need-slice-relend-prefix-build-2
 slice-relend-prefix-build-2 c = search needs
 
 slice-aggregate-build-4 : tie.Need-slice-aggregate-build-4
-slice-aggregate-build-4 c = sym (length-take-le (c .before .before .before .before .before .before .before .before .before .at-most4 .result) (c .before .before .before .before .before .before .before .before .before .before .before .before .before .before .before .before .before .before .before .before .before .before .before .args .low .now) (omega (arith, c .before .before .before .before .before .before .before .before .before .at-most4 .ensures)))
+slice-aggregate-build-4 c =
+    let start = c .before .before .before .before .before .before .before .before .before .before .before .before .before .before .before .before .before .before .before .before .before .before .before in
+    let at-at-most4 = c .before .before .before .before .before .before .before .before .before in
+    sym (length-take-le (at-at-most4 .at-most4 .result) (start .args .low .now) (omega (arith, at-at-most4 .at-most4 .ensures)))
 
 slice-relend-prefix-build-3 : tie.Need-slice-relend-prefix-build-3
 slice-relend-prefix-build-3 c = search needs
 
 slice-aggregate-build-5 : tie.Need-slice-aggregate-build-5
-slice-aggregate-build-5 c = sym (length-take-le (c .before .before .before .before .before .before .before .before .at-most5 .result) (c .before .before .before .before .before .before .before .before .before .before .before .before .before .before .before .before .before .before .before .before .before .before .before .before .args .report .now) (omega (arith, c .before .before .before .before .before .before .before .before .at-most5 .ensures)))
+slice-aggregate-build-5 c =
+    let start = c .before .before .before .before .before .before .before .before .before .before .before .before .before .before .before .before .before .before .before .before .before .before .before .before in
+    let at-at-most5 = c .before .before .before .before .before .before .before .before in
+    sym (length-take-le (at-at-most5 .at-most5 .result) (start .args .report .now) (omega (arith, at-at-most5 .at-most5 .ensures)))
 
 slice-relend-prefix-build-4 : tie.Need-slice-relend-prefix-build-4
 slice-relend-prefix-build-4 c = search needs
 
 slice-aggregate-build-6 : tie.Need-slice-aggregate-build-6
-slice-aggregate-build-6 c = sym (length-take-le (c .before .before .before .before .before .before .before .at-most6 .result) (c .before .before .before .before .before .before .before .before .before .before .before .before .before .before .before .before .before .before .before .before .before .before .before .before .before .args .hubs .now) (omega (arith, c .before .before .before .before .before .before .before .at-most6 .ensures)))
+slice-aggregate-build-6 c =
+    let start = c .before .before .before .before .before .before .before .before .before .before .before .before .before .before .before .before .before .before .before .before .before .before .before .before .before in
+    let at-at-most6 = c .before .before .before .before .before .before .before in
+    sym (length-take-le (at-at-most6 .at-most6 .result) (start .args .hubs .now) (omega (arith, at-at-most6 .at-most6 .ensures)))
 
 build-requires : tie.Need-build-requires
 build-requires c κs = search needs

@@ -23,10 +23,16 @@ element-copy-out-test : tie.Need-element-copy-out-test
 element-copy-out-test c = search needs
 
 slice-aggregate-test : tie.Need-slice-aggregate-test
-slice-aggregate-test c = sym (length-take-le (c .before .before .before .before .at-most .result) (c .before .before .before .before .before .before .before .before .args .starts .now) (omega (arith, c .before .before .before .before .at-most .ensures)))
+slice-aggregate-test c =
+    let start = c .before .before .before .before .before .before .before .before in
+    let at-at-most = c .before .before .before .before in
+    sym (length-take-le (at-at-most .at-most .result) (start .args .starts .now) (omega (arith, at-at-most .at-most .ensures)))
 
 slice-aggregate-test-2 : tie.Need-slice-aggregate-test-2
-slice-aggregate-test-2 c = sym (length-take-le (c .before .before .before .at-most2 .result) (c .before .before .before .before .before .before .before .before .before .args .neighbours .now) (omega (arith, c .before .before .before .at-most2 .ensures)))
+slice-aggregate-test-2 c =
+    let start = c .before .before .before .before .before .before .before .before .before in
+    let at-at-most2 = c .before .before .before in
+    sym (length-take-le (at-at-most2 .at-most2 .result) (start .args .neighbours .now) (omega (arith, at-at-most2 .at-most2 .ensures)))
 
 test-requires : tie.Need-test-requires
 test-requires c κs = search needs

@@ -17,16 +17,24 @@ enum-known-x : tie.Need-enum-known-x
 enum-known-x c = search needs
 
 returns : tie.Need-returns
-returns c = line-found (c .before .before .before .before .before .before .before .args .script .now) (c .before .before .before .before .before .before .before .args .at) _ _ _ (sym (c .before .before .before .line-at .ensures) ∙ ap (found (c .before .before .before .before .before .before .before .args .script .now)) (c .before .x .given .1))
+returns c =
+    let start = c .before .before .before .before .before .before .before in
+    line-found (start .args .script .now) (start .args .at) _ _ _
+    (sym (c .before .before .before .line-at .ensures) ∙ ap (found (start .args .script .now)) (c .before .x .given .1))
 
 enum-told : tie.Need-enum-told
 enum-told c = search needs
 
 returns-2 : tie.Need-returns-2
-returns-2 c = line-missing (c .before .before .before .before .before .before .args .script .now) (c .before .before .before .before .before .before .args .at) _ (sym (c .before .before .line-at .ensures) ∙ ap (found (c .before .before .before .before .before .before .args .script .now)) (c .enum-told .given .1))
+returns-2 c =
+    let start = c .before .before .before .before .before .before in
+    line-missing (start .args .script .now) (start .args .at) _
+    (sym (c .before .before .line-at .ensures) ∙ ap (found (start .args .script .now)) (c .enum-told .given .1))
 
 returns-3 : tie.Need-returns-3
-returns-3 c = line-past (c .before .before .args .script .now) (c .before .before .args .at) _ (c .if1 .left)
+returns-3 c =
+    let start = c .before .before in
+    line-past (start .args .script .now) (start .args .at) _ (c .if1 .left)
 
 pub read-command-spec : {M : Type 1} → statement M
 read-command-spec =

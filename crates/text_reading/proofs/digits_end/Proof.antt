@@ -29,7 +29,8 @@ returns c =
 
 returns-2 : tie.Need-returns-2 Inv-loop μ-loop
 returns-2 c =
-    run-at-stop (now (c .before .before .before .before .before .args .text)) _ (c .before .before .before .loop-test .taken) (inr (c .if2 .taken))
+    run-at-stop (now (c .before .before .before .before .before .args .text)) _ (c .before .before .before .loop-test .taken)
+    (inr (c .if2 .taken))
     ∙ c .before .before .before .before .loop .inv
 
 add-i : tie.Need-add-i Inv-loop μ-loop
@@ -40,7 +41,8 @@ loop-less c = omega arith
 
 loop-again : tie.Need-loop-again Inv-loop μ-loop
 loop-again c =
-    sym (run-at-digit (now (c .before .before .before .before .before .args .text)) _ (c .before .before .before .loop-test .taken) (c .before .if1 .left) (c .if2 .left))
+    sym (run-at-digit (now (c .before .before .before .before .before .args .text)) _ (c .before .before .before .loop-test .taken)
+    (c .before .if1 .left) (c .if2 .left))
     ∙ c .before .before .before .before .loop .inv
 
 returns-3 : tie.Need-returns-3 Inv-loop μ-loop

@@ -55,7 +55,8 @@ has-byte-requires-2 : tie.Need-has-byte-requires-2
 has-byte-requires-2 c κs = search needs
 
 returns-2 : tie.Need-returns-2
-returns-2 c = meets _ _ _ _ (c .before .before .before .before .before .pre) (line-no-comma _ _ _ (letter (c .before .before)) (no-byte (c .before .has-byte2 .ensures) (c .if2 .taken)))
+returns-2 c = meets _ _ _ _ (c .before .before .before .before .before .pre)
+    (line-no-comma _ _ _ (letter (c .before .before)) (no-byte (c .before .has-byte2 .ensures) (c .if2 .taken)))
 
 add-parse-number : tie.Need-add-parse-number
 add-parse-number c = omega (arith, has-within _ _ _ (comma c))
@@ -70,13 +71,19 @@ enum-told : tie.Need-enum-told
 enum-told c = search needs
 
 returns-3 : tie.Need-returns-3
-returns-3 c = meets _ _ _ _ (c .before .before .before .before .before .before .before .before .pre) (let e = c .before .before .before in line-no-first _ _ _ (letter (e .before .before)) (comma e) (sym (c .before .before .parse-number .ensures) ∙ c .enum-told .given .1))
+returns-3 c =
+    let start = c .before .before .before .before .before .before .before .before in
+    meets _ _ _ _ (start .pre) (let e = c .before .before .before in line-no-first _ _ _ (letter (e .before .before)) (comma e)
+    (sym (c .before .before .parse-number .ensures) ∙ c .enum-told .given .1))
 
 has-byte-requires-3 : tie.Need-has-byte-requires-3
 has-byte-requires-3 c κs = search needs
 
 returns-4 : tie.Need-returns-4
-returns-4 c = meets _ _ _ _ (c .before .before .before .before .before .before .before .before .before .before .before .pre) (let a = c .before .before .before in let e = a .before .before .before in line-no-second-comma _ _ _ (letter (e .before .before)) (comma e) _ _ (first a) (no-byte (c .before .has-byte3 .ensures) (c .if3 .taken)))
+returns-4 c =
+    let start = c .before .before .before .before .before .before .before .before .before .before .before in
+    meets _ _ _ _ (start .pre) (let a = c .before .before .before in let e = a .before .before .before in line-no-second-comma _ _ _
+    (letter (e .before .before)) (comma e) _ _ (first a) (no-byte (c .before .has-byte3 .ensures) (c .if3 .taken)))
 
 add-parse-number-2 : tie.Need-add-parse-number-2
 add-parse-number-2 c = omega (arith, has-within _ _ _ (second-comma c))
@@ -91,19 +98,31 @@ enum-told-2 : tie.Need-enum-told-2
 enum-told-2 c = search needs
 
 returns-5 : tie.Need-returns-5
-returns-5 c = meets _ _ _ _ (c .before .before .before .before .before .before .before .before .before .before .before .before .before .before .pre) (let d = c .before .before .before in let a = d .before .before .before in let e = a .before .before .before in line-no-second _ _ _ (letter (e .before .before)) (comma e) _ _ (first a) (second-comma d) (sym (c .before .before .parse-number2 .ensures) ∙ c .enum-told2 .given .1))
+returns-5 c =
+    let start = c .before .before .before .before .before .before .before .before .before .before .before .before .before .before in
+    meets _ _ _ _ (start .pre) (let d = c .before .before .before in let a = d .before .before .before in let e = a .before .before .before
+    in line-no-second _ _ _ (letter (e .before .before)) (comma e) _ _ (first a) (second-comma d)
+    (sym (c .before .before .parse-number2 .ensures) ∙ c .enum-told2 .given .1))
 
 has-byte-requires-4 : tie.Need-has-byte-requires-4
 has-byte-requires-4 c κs = search needs
 
 returns-6 : tie.Need-returns-6
-returns-6 c = meets _ _ _ _ (c .before .before .before .before .before .before .before .before .before .before .before .before .before .before .before .before .before .pre) (let b = c .before .before .before in let d = b .before .before .before in let a = d .before .before .before in let e = a .before .before .before in line-no-end _ _ _ (letter (e .before .before)) (comma e) _ _ (first a) (second-comma d) _ _ (second b) (no-byte (c .before .has-byte4 .ensures) (c .if4 .taken)))
+returns-6 c =
+    let start = c .before .before .before .before .before .before .before .before .before .before .before .before .before .before .before .before .before in
+    meets _ _ _ _ (start .pre) (let b = c .before .before .before in let d = b .before .before .before in let a = d .before .before .before
+    in let e = a .before .before .before in line-no-end _ _ _ (letter (e .before .before)) (comma e) _ _ (first a) (second-comma d) _ _
+    (second b) (no-byte (c .before .has-byte4 .ensures) (c .if4 .taken)))
 
 add-t10 : tie.Need-add-t10
 add-t10 c = omega (arith, has-within _ _ _ (a-byte (c .before .has-byte4 .ensures) (c .if4 .left)))
 
 returns-7 : tie.Need-returns-7
-returns-7 c = meets _ _ _ _ (c .before .before .before .before .before .before .before .before .before .before .before .before .before .before .before .before .before .pre) (let b = c .before .before .before in let d = b .before .before .before in let a = d .before .before .before in let e = a .before .before .before in line-whole _ _ _ (letter (e .before .before)) (comma e) _ _ (first a) (second-comma d) _ _ (second b) (a-byte (c .before .has-byte4 .ensures) (c .if4 .left)))
+returns-7 c =
+    let start = c .before .before .before .before .before .before .before .before .before .before .before .before .before .before .before .before .before in
+    meets _ _ _ _ (start .pre) (let b = c .before .before .before in let d = b .before .before .before in let a = d .before .before .before
+    in let e = a .before .before .before in line-whole _ _ _ (letter (e .before .before)) (comma e) _ _ (first a) (second-comma d) _ _
+    (second b) (a-byte (c .before .has-byte4 .ensures) (c .if4 .left)))
 
 pub parse-line-spec : {M : Type 1} → statement M
 parse-line-spec =

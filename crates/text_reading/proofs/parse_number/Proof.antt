@@ -19,10 +19,12 @@ returns-2 : tie.Need-returns-2
 returns-2 c = read-long _ _ _ (c .before .before .digits-end .ensures) (c .if2 .taken)
 
 shared-slice-read-if4 : tie.Need-shared-slice-read-if4
-shared-slice-read-if4 c = read-within _ _ _ (c .before .before .before .before .digits-end .ensures) (c .before .before .before .if1 .left) .0
+shared-slice-read-if4 c = read-within _ _ _ (c .before .before .before .before .digits-end .ensures)
+    (c .before .before .before .if1 .left) .0
 
 returns-3 : tie.Need-returns-3
-returns-3 c = read-zero _ _ _ (c .before .before .before .before .before .digits-end .ensures) (c .before .before .if3 .taken) (c .if4 .taken)
+returns-3 c = read-zero _ _ _ (c .before .before .before .before .before .digits-end .ensures) (c .before .before .if3 .taken)
+    (c .if4 .taken)
 
 sub-value : tie.Need-sub-value
 sub-value c = search needs
@@ -37,7 +39,9 @@ value-requires : tie.Need-value-requires
 value-requires c κs = read-digits _ _ _ (c .before .before .before .before .digits-end .ensures) (c .before .before .if2 .left)
 
 returns-4 : tie.Need-returns-4
-returns-4 c = read-found _ _ _ (c .before .before .before .before .before .digits-end .ensures) _ (c .before .before .before .before .if1 .left) (c .before .before .before .if2 .left) (λ l z. ⊎-elim (λ w. w .2 .left z) (λ w. omega (arith, w .left)) (c .before .before .if3 .came)) (c .value .ensures)
+returns-4 c = read-found _ _ _ (c .before .before .before .before .before .digits-end .ensures) _
+    (c .before .before .before .before .if1 .left) (c .before .before .before .if2 .left)
+    (λ l z. ⊎-elim (λ w. w .2 .left z) (λ w. omega (arith, w .left)) (c .before .before .if3 .came)) (c .value .ensures)
 
 pub parse-number-spec : {M : Type 1} → statement M
 parse-number-spec =

@@ -22,7 +22,9 @@ at-turn : (c : tie.In-loop Inv-loop μ-loop) → Turn (now (c .before .before .a
 at-turn c = turn _ _ _ (c .loop-test .taken) (c .before .loop .inv .2)
 
 small : (c : tie.In-loop Inv-loop μ-loop) → c .before .loop .v < 1000000000
-small c = pow-nine _ (c .before .loop .i) (c .before .loop .inv .1) (omega arith)
+small c =
+    let at-loop = c .before in
+    pow-nine _ (at-loop .loop .i) (at-loop .loop .inv .1) (omega arith)
 
 loop-holds : tie.Need-loop-holds Inv-loop μ-loop
 loop-holds c = (omega arith, omega arith, c .pre .1, refl)
@@ -50,18 +52,20 @@ loop-less c = omega arith
 
 loop-again : tie.Need-loop-again Inv-loop μ-loop
 loop-again c =
+    let at-loop = c .before .before in
     let t = at-turn (c .before) in (
       omega arith,
-      pow-turn _ (c .before .before .loop .i) _ (c .before .before .loop .inv .1) (omega arith),
+      pow-turn _ (at-loop .loop .i) _ (at-loop .loop .inv .1) (omega arith),
       t .rest,
-      t .goes-on ∙ c .before .before .loop .inv .3,
+      t .goes-on ∙ at-loop .loop .inv .3,
     )
 
 returns : tie.Need-returns Inv-loop μ-loop
 unfolding valueFrom valueOf
 returns c =
-    let e : drop (c .before .loop .i) (now (c .before .before .args .text)) ≡ [] = drop-of-length-le _ (c .loop-test .left) in
-    sym (ap (valueFrom (c .before .loop .v)) e) ∙ c .before .loop .inv .3
+    let at-loop = c .before in
+    let e : drop (at-loop .loop .i) (now (c .before .before .args .text)) ≡ [] = drop-of-length-le _ (c .loop-test .left) in
+    sym (ap (valueFrom (at-loop .loop .v)) e) ∙ at-loop .loop .inv .3
 
 pub value-spec : {M : Type 1} → statement M
 value-spec =

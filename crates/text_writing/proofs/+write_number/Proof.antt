@@ -54,7 +54,8 @@ write-number-write-byte-requires : (t : ℕ) → write-number-lts.Need-write-byt
   write-number.Post,
 ) (write-number-at t) write-number.Post
 write-number-write-byte-requires t c κs =
-    omega (arith, length-small (c .before .before .before .args .x) (c .before .if1 .taken), c .before .before .before .pre .1)
+    let start = c .before .before .before in
+    omega (arith, length-small (start .args .x) (c .before .if1 .taken), start .pre .1)
 
 write-number-same-length : (t : ℕ) → write-number-lts.Need-same-length (
   write-byte-reads.Asked,
@@ -80,10 +81,12 @@ write-number-write-number-requires : (t : ℕ) → write-number-lts.Need-write-n
   write-number-below t,
   write-number.Post,
 ) (write-number-at t) write-number.Post
-write-number-write-number-requires t c κs = (
-  omega (arith, c .before .before .before .pre .0, c .before .if1 .left),
-  omega (arith, length-more (c .before .before .before .args .x) (c .before .if1 .left), c .before .before .before .pre .1),
-)
+write-number-write-number-requires t c κs =
+    let start = c .before .before .before in
+    let at-if1 = c .before in (
+      omega (arith, start .pre .0, at-if1 .if1 .left),
+      omega (arith, length-more (start .args .x) (at-if1 .if1 .left), start .pre .1),
+    )
 
 write-number-cast-write-byte-2 : (t : ℕ) → write-number-lts.Need-cast-write-byte-2 (
   write-byte-reads.Asked,
@@ -112,7 +115,13 @@ write-number-write-byte-requires-2 : (t : ℕ) → write-number-lts.Need-write-b
 write-number-write-byte-requires-2 t c κs =
     let w = c .before .before .before in
     let s = w .before .before .before .before in
-    omega (arith, length-more (s .args .x) (w .before .before .if1 .left), s .pre .1, w .write-number .kept .0, w .write-number .ensures .ends)
+    omega (
+      arith,
+      length-more (s .args .x) (w .before .before .if1 .left),
+      s .pre .1,
+      w .write-number .kept .0,
+      w .write-number .ensures .ends,
+    )
 
 write-number-same-length-2 : (t : ℕ) → write-number-lts.Need-same-length-2 (
   write-byte-reads.Asked,
@@ -121,7 +130,8 @@ write-number-same-length-2 : (t : ℕ) → write-number-lts.Need-same-length-2 (
   write-number.Post,
 ) (write-number-at t) write-number.Post
 write-number-same-length-2 t c =
-    c .before .before .write-byte2 .kept .0 ∙ c .before .before .before .before .before .before .write-number .kept .0
+    let at-write-number = c .before .before .before .before .before .before in
+    c .before .before .write-byte2 .kept .0 ∙ at-write-number .write-number .kept .0
 
 write-number-returns-2 : (t : ℕ) → write-number-lts.Need-returns-2 (
   write-byte-reads.Asked,
@@ -131,7 +141,8 @@ write-number-returns-2 : (t : ℕ) → write-number-lts.Need-returns-2 (
 ) (write-number-at t) write-number.Post
 write-number-returns-2 t c =
     let w = c .before .before .before .before .before .before in
-    wrote-more _ (w .before .before .if1 .left) (w .before .before .before .before .pre .1) (w .write-number .ensures) (c .before .before .write-byte2 .ensures)
+    wrote-more _ (w .before .before .if1 .left) (w .before .before .before .before .pre .1) (w .write-number .ensures)
+    (c .before .before .write-byte2 .ensures)
 
 pub +write-number-spec : {M : Type 1} → statement M
 +write-number-spec = close μ-write-number λ t. write-number-lts.spec (

@@ -19,8 +19,15 @@ loop-holds c = refl
 
 add-n : tie.Need-add-n Inv-loop μ-loop
 add-n c =
+    let at-loop = c .before in
     let x = c .before .before .args .x in
-    omega (arith, length-le 9 x (omega arith), length-more (c .before .loop .left) (c .loop-test .taken), digits-pos (c .before .loop .left / 10))
+    omega (
+      arith,
+      length-le 9 x (omega arith),
+      length-more (at-loop .loop .left) (c .loop-test .taken),
+      digits-pos
+          (at-loop .loop .left / 10),
+    )
 
 loop-less : tie.Need-loop-less Inv-loop μ-loop
 loop-less c = omega arith

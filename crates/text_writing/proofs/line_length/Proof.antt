@@ -14,13 +14,47 @@ digit-count-requires-2 : tie.Need-digit-count-requires-2
 digit-count-requires-2 c κs = search needs
 
 add-result : tie.Need-add-result
-add-result c = omega (arith, digits-few ((c .before .before .args .a)) ((c .before .before .fits .a .fits)), digits-few ((c .before .before .args .b)) ((c .before .before .fits .b .fits)), (c .before .digit-count .ensures), (c .digit-count2 .ensures))
+add-result c =
+    let start = c .before .before in
+    omega (
+      arith,
+      digits-few (start .args .a) (start .fits .a .fits),
+      digits-few (start .args .b) (start .fits .b .fits),
+      (c .before .digit-count .ensures),
+      (c .digit-count2 .ensures),
+    )
 
 add-result-2 : tie.Need-add-result-2
-add-result-2 c = omega (arith, digits-few ((c .before .before .args .a)) ((c .before .before .fits .a .fits)), digits-few ((c .before .before .args .b)) ((c .before .before .fits .b .fits)), (c .before .digit-count .ensures), (c .digit-count2 .ensures))
+add-result-2 c =
+    let start = c .before .before in
+    omega (
+      arith,
+      digits-few (start .args .a) (start .fits .a .fits),
+      digits-few (start .args .b) (start .fits .b .fits),
+      (c .before .digit-count .ensures),
+      (c .digit-count2 .ensures),
+    )
 
 returns : tie.Need-returns
-returns c = (λ letter. omega (arith, digits-few ((c .before .before .args .a)) ((c .before .before .fits .a .fits)), digits-few ((c .before .before .args .b)) ((c .before .before .fits .b .fits)), (c .before .digit-count .ensures), (c .digit-count2 .ensures), length-line letter ((c .before .before .args .a)) ((c .before .before .args .b))), omega (arith, digits-few ((c .before .before .args .a)) ((c .before .before .fits .a .fits)), digits-few ((c .before .before .args .b)) ((c .before .before .fits .b .fits)), (c .before .digit-count .ensures), (c .digit-count2 .ensures)))
+returns c =
+    let start = c .before .before in
+    let at-digit-count = c .before in (
+      λ letter. omega (
+        arith,
+        digits-few (start .args .a) (start .fits .a .fits),
+        digits-few (start .args .b) (start .fits .b .fits),
+        (at-digit-count .digit-count .ensures),
+        (c .digit-count2 .ensures),
+        length-line letter (start .args .a) (start .args .b),
+      ),
+      omega (
+        arith,
+        digits-few (start .args .a) (start .fits .a .fits),
+        digits-few (start .args .b) (start .fits .b .fits),
+        (at-digit-count .digit-count .ensures),
+        (c .digit-count2 .ensures),
+      ),
+    )
 
 pub line-length-spec : {M : Type 1} → statement M
 line-length-spec =

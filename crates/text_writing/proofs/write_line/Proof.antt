@@ -10,26 +10,62 @@ use Rattle.text_writing.proofs.write_line.Tie as tie
 
 write-byte-requires : tie.Need-write-byte-requires
 unfolding lineOf
-write-byte-requires c κs = left-fits (c .before .before .args .buf .now) (c .before .before .args .at) _ (c .before .before .pre) _ _ ((c .before .before .args .letter) ∷ []) ((44 ∷ digits (c .before .before .args .a)) ++ ((44 ∷ digits (c .before .before .args .b)) ++ ((10 ∷ []) ++ []))) (left-all _ _ _)
+write-byte-requires c κs =
+    let start = c .before .before in
+    left-fits (start .args .buf .now) (start .args .at) _ (start .pre) _ _ ((start .args .letter) ∷ [])
+    ((44 ∷ digits (start .args .a)) ++ ((44 ∷ digits (start .args .b)) ++ ((10 ∷ []) ++ []))) (left-all _ _ _)
 
 write-field-requires : tie.Need-write-field-requires
 unfolding lineOf
-write-field-requires c κs = left-fits _ _ _ (c .before .before .before .before .before .before .pre) _ _ (44 ∷ digits (c .before .before .before .before .before .before .args .a)) ((44 ∷ digits (c .before .before .before .before .before .before .args .b)) ++ ((10 ∷ []) ++ [])) (left-more _ _ _ (c .before .before .before .before .before .before .pre) _ _ ((c .before .before .before .before .before .before .args .letter) ∷ []) ((44 ∷ digits (c .before .before .before .before .before .before .args .a)) ++ ((44 ∷ digits (c .before .before .before .before .before .before .args .b)) ++ ((10 ∷ []) ++ []))) (left-all _ _ _) _ _ (c .before .before .before .write-byte .ensures))
+write-field-requires c κs =
+    let start = c .before .before .before .before .before .before in
+    left-fits _ _ _ (start .pre) _ _ (44 ∷ digits (start .args .a)) ((44 ∷ digits (start .args .b)) ++ ((10 ∷ []) ++ []))
+    (left-more _ _ _ (start .pre) _ _ ((start .args .letter) ∷ [])
+    ((44 ∷ digits (start .args .a)) ++ ((44 ∷ digits (start .args .b)) ++ ((10 ∷ []) ++ []))) (left-all _ _ _) _ _
+    (c .before .before .before .write-byte .ensures))
 
 write-field-requires-2 : tie.Need-write-field-requires-2
 unfolding lineOf
-write-field-requires-2 c κs = left-fits _ _ _ (c .before .before .before .before .before .before .before .before .before .before .pre) _ _ (44 ∷ digits (c .before .before .before .before .before .before .before .before .before .before .args .b)) ((10 ∷ []) ++ []) (left-more _ _ _ (c .before .before .before .before .before .before .before .before .before .before .pre) _ _ (44 ∷ digits (c .before .before .before .before .before .before .before .before .before .before .args .a)) ((44 ∷ digits (c .before .before .before .before .before .before .before .before .before .before .args .b)) ++ ((10 ∷ []) ++ [])) (left-more _ _ _ (c .before .before .before .before .before .before .before .before .before .before .pre) _ _ ((c .before .before .before .before .before .before .before .before .before .before .args .letter) ∷ []) ((44 ∷ digits (c .before .before .before .before .before .before .before .before .before .before .args .a)) ++ ((44 ∷ digits (c .before .before .before .before .before .before .before .before .before .before .args .b)) ++ ((10 ∷ []) ++ []))) (left-all _ _ _) _ _ (c .before .before .before .before .before .before .before .write-byte .ensures)) _ _ (c .before .before .before .write-field .ensures))
+write-field-requires-2 c κs =
+    let start = c .before .before .before .before .before .before .before .before .before .before in
+    let at-write-byte = c .before .before .before .before .before .before .before in
+    left-fits _ _ _ (start .pre) _ _ (44 ∷ digits (start .args .b)) ((10 ∷ []) ++ [])
+    (left-more _ _ _ (start .pre) _ _ (44 ∷ digits (start .args .a)) ((44 ∷ digits (start .args .b)) ++ ((10 ∷ []) ++ []))
+    (left-more _ _ _ (start .pre) _ _ ((start .args .letter) ∷ [])
+    ((44 ∷ digits (start .args .a)) ++ ((44 ∷ digits (start .args .b)) ++ ((10 ∷ []) ++ []))) (left-all _ _ _) _ _
+    (at-write-byte .write-byte .ensures)) _ _ (c .before .before .before .write-field .ensures))
 
 write-byte-requires-2 : tie.Need-write-byte-requires-2
 unfolding lineOf
-write-byte-requires-2 c κs = left-fits _ _ _ (c .before .before .before .before .before .before .before .before .before .before .before .before .before .before .pre) _ _ (10 ∷ []) [] (left-more _ _ _ (c .before .before .before .before .before .before .before .before .before .before .before .before .before .before .pre) _ _ (44 ∷ digits (c .before .before .before .before .before .before .before .before .before .before .before .before .before .before .args .b)) ((10 ∷ []) ++ []) (left-more _ _ _ (c .before .before .before .before .before .before .before .before .before .before .before .before .before .before .pre) _ _ (44 ∷ digits (c .before .before .before .before .before .before .before .before .before .before .before .before .before .before .args .a)) ((44 ∷ digits (c .before .before .before .before .before .before .before .before .before .before .before .before .before .before .args .b)) ++ ((10 ∷ []) ++ [])) (left-more _ _ _ (c .before .before .before .before .before .before .before .before .before .before .before .before .before .before .pre) _ _ ((c .before .before .before .before .before .before .before .before .before .before .before .before .before .before .args .letter) ∷ []) ((44 ∷ digits (c .before .before .before .before .before .before .before .before .before .before .before .before .before .before .args .a)) ++ ((44 ∷ digits (c .before .before .before .before .before .before .before .before .before .before .before .before .before .before .args .b)) ++ ((10 ∷ []) ++ []))) (left-all _ _ _) _ _ (c .before .before .before .before .before .before .before .before .before .before .before .write-byte .ensures)) _ _ (c .before .before .before .before .before .before .before .write-field .ensures)) _ _ (c .before .before .before .write-field2 .ensures))
+write-byte-requires-2 c κs =
+    let start = c .before .before .before .before .before .before .before .before .before .before .before .before .before .before in
+    let at-write-byte = c .before .before .before .before .before .before .before .before .before .before .before in
+    let at-write-field = c .before .before .before .before .before .before .before in
+    left-fits _ _ _ (start .pre) _ _ (10 ∷ []) []
+    (left-more _ _ _ (start .pre) _ _ (44 ∷ digits (start .args .b)) ((10 ∷ []) ++ [])
+    (left-more _ _ _ (start .pre) _ _ (44 ∷ digits (start .args .a)) ((44 ∷ digits (start .args .b)) ++ ((10 ∷ []) ++ []))
+    (left-more _ _ _ (start .pre) _ _ ((start .args .letter) ∷ [])
+    ((44 ∷ digits (start .args .a)) ++ ((44 ∷ digits (start .args .b)) ++ ((10 ∷ []) ++ []))) (left-all _ _ _) _ _
+    (at-write-byte .write-byte .ensures)) _ _ (at-write-field .write-field .ensures)) _ _
+    (c .before .before .before .write-field2 .ensures))
 
 same-length : tie.Need-same-length
 same-length c = search needs
 
 returns : tie.Need-returns
 unfolding lineOf
-returns c = left-none _ _ _ (c .before .before .before .before .before .before .before .before .before .before .before .before .before .before .before .before .before .pre) _ _ (left-more _ _ _ (c .before .before .before .before .before .before .before .before .before .before .before .before .before .before .before .before .before .pre) _ _ (10 ∷ []) [] (left-more _ _ _ (c .before .before .before .before .before .before .before .before .before .before .before .before .before .before .before .before .before .pre) _ _ (44 ∷ digits (c .before .before .before .before .before .before .before .before .before .before .before .before .before .before .before .before .before .args .b)) ((10 ∷ []) ++ []) (left-more _ _ _ (c .before .before .before .before .before .before .before .before .before .before .before .before .before .before .before .before .before .pre) _ _ (44 ∷ digits (c .before .before .before .before .before .before .before .before .before .before .before .before .before .before .before .before .before .args .a)) ((44 ∷ digits (c .before .before .before .before .before .before .before .before .before .before .before .before .before .before .before .before .before .args .b)) ++ ((10 ∷ []) ++ [])) (left-more _ _ _ (c .before .before .before .before .before .before .before .before .before .before .before .before .before .before .before .before .before .pre) _ _ ((c .before .before .before .before .before .before .before .before .before .before .before .before .before .before .before .before .before .args .letter) ∷ []) ((44 ∷ digits (c .before .before .before .before .before .before .before .before .before .before .before .before .before .before .before .before .before .args .a)) ++ ((44 ∷ digits (c .before .before .before .before .before .before .before .before .before .before .before .before .before .before .before .before .before .args .b)) ++ ((10 ∷ []) ++ []))) (left-all _ _ _) _ _ (c .before .before .before .before .before .before .before .before .before .before .before .before .before .before .write-byte .ensures)) _ _ (c .before .before .before .before .before .before .before .before .before .before .write-field .ensures)) _ _ (c .before .before .before .before .before .before .write-field2 .ensures)) _ _ (c .before .before .write-byte2 .ensures))
+returns c =
+    let start = c .before .before .before .before .before .before .before .before .before .before .before .before .before .before .before .before .before in
+    let at-write-byte = c .before .before .before .before .before .before .before .before .before .before .before .before .before .before in
+    let at-write-field = c .before .before .before .before .before .before .before .before .before .before in
+    let at-write-field2 = c .before .before .before .before .before .before in
+    left-none _ _ _ (start .pre) _ _ (left-more _ _ _ (start .pre) _ _ (10 ∷ []) []
+    (left-more _ _ _ (start .pre) _ _ (44 ∷ digits (start .args .b)) ((10 ∷ []) ++ [])
+    (left-more _ _ _ (start .pre) _ _ (44 ∷ digits (start .args .a)) ((44 ∷ digits (start .args .b)) ++ ((10 ∷ []) ++ []))
+    (left-more _ _ _ (start .pre) _ _ ((start .args .letter) ∷ [])
+    ((44 ∷ digits (start .args .a)) ++ ((44 ∷ digits (start .args .b)) ++ ((10 ∷ []) ++ []))) (left-all _ _ _) _ _
+    (at-write-byte .write-byte .ensures)) _ _ (at-write-field .write-field .ensures)) _ _ (at-write-field2 .write-field2 .ensures)) _ _
+    (c .before .before .write-byte2 .ensures))
 
 pub write-line-spec : {M : Type 1} → statement M
 write-line-spec =

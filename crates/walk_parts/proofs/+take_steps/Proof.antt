@@ -76,7 +76,11 @@ take-steps-returns : (t : ℕ) → take-steps-lts.Need-returns (
   take-steps-below t,
   take-steps.Post,
 ) (take-steps-at t) take-steps.Post
-take-steps-returns t c = last-step (c .before .before .before .before .before .args .n) (c .before .before .before .before .before .args .starts .now) (c .before .before .before .before .before .args .neighbours .now) (c .before .before .before .before .before .pre .1 .0) (c .before .before .before .before .before .args .limit) (c .before .before .before .before .before .args .table .now) (c .before .before .before .before .before .args .stride) (c .before .before .before .before .before .args .goal) (c .before .before .before .before .before .args .d) (c .before .before .before .before .before .args .v) (c .before .before .before .before .before .args .nodes .now) (c .if1 .taken) (c .before .before .before .before .before .pre .1 .3)
+take-steps-returns t c =
+    let start = c .before .before .before .before .before in
+    last-step (start .args .n) (start .args .starts .now) (start .args .neighbours .now) (start .pre .1 .0) (start .args .limit)
+    (start .args .table .now) (start .args .stride) (start .args .goal) (start .args .d) (start .args .v) (start .args .nodes .now)
+    (c .if1 .taken) (start .pre .1 .3)
 
 take-steps-own-requires : (t : ℕ) → take-steps-lts.Need-own-requires (
   own-reads.Asked,
@@ -86,7 +90,9 @@ take-steps-own-requires : (t : ℕ) → take-steps-lts.Need-own-requires (
   take-steps-below t,
   take-steps.Post,
 ) (take-steps-at t) take-steps.Post
-take-steps-own-requires t c κs = (rows-of (c .before .before .before .before .before .pre .1 .0), (c .before .before .before .before .before .pre .1 .2))
+take-steps-own-requires t c κs =
+    let start = c .before .before .before .before .before in
+    (rows-of (start .pre .1 .0), (start .pre .1 .2))
 
 take-steps-sub-next-node : (t : ℕ) → take-steps-lts.Need-sub-next-node (
   own-reads.Asked,
@@ -106,7 +112,12 @@ take-steps-next-node-requires : (t : ℕ) → take-steps-lts.Need-next-node-requ
   take-steps-below t,
   take-steps.Post,
 ) (take-steps-at t) take-steps.Post
-take-steps-next-node-requires t c κs = ((rows-of (c .before .before .before .before .before .before .pre .1 .0), (c .before .before .before .before .before .before .pre .1 .1)), rw ((c .own .ensures)) (λ x m. (c .before .before .before .before .before .before .pre .1 .0 .lists .graph .below) (c .before .before .before .before .before .before .args .v) x (c .before .before .before .before .before .before .pre .1 .2) m))
+take-steps-next-node-requires t c κs =
+    let start = c .before .before .before .before .before .before in (
+      (rows-of (start .pre .1 .0), (start .pre .1 .1)),
+      rw (c .own .ensures)
+          (λ x m. (start .pre .1 .0 .lists .graph .below) (start .args .v) x (start .pre .1 .2) m),
+    )
 
 take-steps-same-length-2 : (t : ℕ) → take-steps-lts.Need-same-length-2 (
   own-reads.Asked,
@@ -126,7 +137,13 @@ take-steps-returns-2 : (t : ℕ) → take-steps-lts.Need-returns-2 (
   take-steps-below t,
   take-steps.Post,
 ) (take-steps-at t) take-steps.Post
-take-steps-returns-2 t c = no-step (c .before .before .before .before .before .before .before .before .args .n) (c .before .before .before .before .before .before .before .before .args .starts .now) (c .before .before .before .before .before .before .before .before .args .neighbours .now) (c .before .before .before .before .before .before .before .before .pre .1 .0) (c .before .before .before .before .before .before .before .before .args .limit) (c .before .before .before .before .before .before .before .before .args .table .now) (c .before .before .before .before .before .before .before .before .args .stride) (c .before .before .before .before .before .before .before .before .args .goal) (c .before .before .before .before .before .before .before .before .args .d) (c .before .before .before .before .before .before .before .before .args .v) (c .before .next-node .result) (c .before .before .before .if1 .left) (c .before .next-node .ensures) (c .before .before .own .ensures) (c .if2 .taken) _ _
+take-steps-returns-2 t c =
+    let start = c .before .before .before .before .before .before .before .before in
+    let at-next-node = c .before in
+    no-step (start .args .n) (start .args .starts .now) (start .args .neighbours .now) (start .pre .1 .0) (start .args .limit)
+    (start .args .table .now) (start .args .stride) (start .args .goal) (start .args .d) (start .args .v)
+    (at-next-node .next-node .result) (c .before .before .before .if1 .left) (at-next-node .next-node .ensures)
+    (c .before .before .own .ensures) (c .if2 .taken) _ _
 
 take-steps-sub-take-steps : (t : ℕ) → take-steps-lts.Need-sub-take-steps (
   own-reads.Asked,
@@ -156,7 +173,21 @@ take-steps-take-steps-requires : (t : ℕ) → take-steps-lts.Need-take-steps-re
   take-steps-below t,
   take-steps.Post,
 ) (take-steps-at t) take-steps.Post
-take-steps-take-steps-requires t c κs = (omega (arith, (c .before .before .before .before .before .before .before .before .before .pre .0)), ((c .before .before .before .before .before .before .before .before .before .pre .1 .0), (c .before .before .before .before .before .before .before .before .before .pre .1 .1), step-below (c .before .before .before .before .before .before .before .before .before .args .n) (c .before .before .before .before .before .before .before .before .before .args .starts .now) (c .before .before .before .before .before .before .before .before .before .args .neighbours .now) (c .before .before .before .before .before .before .before .before .before .pre .1 .0) (c .before .before .before .before .before .before .before .before .before .args .limit) (c .before .before .before .before .before .before .before .before .before .args .table .now) (c .before .before .before .before .before .before .before .before .before .args .stride) (c .before .before .before .before .before .before .before .before .before .args .goal) (c .before .before .before .before .before .before .before .before .before .args .d) (c .before .before .before .before .before .before .before .before .before .args .v) (c .before .before .next-node .result) (c .before .before .before .before .if1 .left) (c .before .before .next-node .ensures) (c .before .before .before .own .ensures) (c .before .before .before .before .before .before .before .before .before .pre .1 .2) (c .before .if2 .left), simp length-set (omega arith)))
+take-steps-take-steps-requires t c κs =
+    let start = c .before .before .before .before .before .before .before .before .before in
+    let at-next-node = c .before .before in (
+      omega (arith, (start .pre .0)),
+      (
+        (start .pre .1 .0),
+        (start .pre .1 .1),
+        step-below (start .args .n) (start .args .starts .now)
+            (start .args .neighbours .now) (start .pre .1 .0) (start .args .limit) (start .args .table .now) (start .args .stride)
+            (start .args .goal) (start .args .d) (start .args .v) (at-next-node .next-node .result)
+            (c .before .before .before .before .if1 .left) (at-next-node .next-node .ensures) (c .before .before .before .own .ensures)
+            (start .pre .1 .2) (c .before .if2 .left),
+        simp length-set (omega arith),
+      ),
+    )
 
 take-steps-same-length-3 : (t : ℕ) → take-steps-lts.Need-same-length-3 (
   own-reads.Asked,
@@ -176,7 +207,16 @@ take-steps-returns-3 : (t : ℕ) → take-steps-lts.Need-returns-3 (
   take-steps-below t,
   take-steps.Post,
 ) (take-steps-at t) take-steps.Post
-take-steps-returns-3 t c = step-on (c .before .before .before .before .before .before .before .before .before .before .before .before .args .n) (c .before .before .before .before .before .before .before .before .before .before .before .before .args .starts .now) (c .before .before .before .before .before .before .before .before .before .before .before .before .args .neighbours .now) (c .before .before .before .before .before .before .before .before .before .before .before .before .pre .1 .0) (c .before .before .before .before .before .before .before .before .before .before .before .before .args .limit) (c .before .before .before .before .before .before .before .before .before .before .before .before .args .table .now) (c .before .before .before .before .before .before .before .before .before .before .before .before .args .stride) (c .before .before .before .before .before .before .before .before .before .before .before .before .args .goal) (c .before .before .before .before .before .before .before .before .before .before .before .before .args .d) (c .before .before .before .before .before .before .before .before .before .before .before .before .args .v) (c .before .before .before .before .before .next-node .result) (c .before .before .before .before .before .before .before .if1 .left) (c .before .before .before .before .before .next-node .ensures) (c .before .before .before .before .before .before .own .ensures) (c .before .before .before .before .before .before .before .before .before .before .before .before .pre .1 .2) (c .before .before .before .before .if2 .left) (c .before .before .before .before .before .before .before .before .before .before .before .before .args .nodes .now) _ (c .before .before .before .before .before .before .before .before .before .before .before .before .pre .1 .3) _ (c .before .before .take-steps .ensures)
+take-steps-returns-3 t c =
+    let start = c .before .before .before .before .before .before .before .before .before .before .before .before in
+    let at-if1 = c .before .before .before .before .before .before .before in
+    let at-own = c .before .before .before .before .before .before in
+    let at-next-node = c .before .before .before .before .before in
+    step-on (start .args .n) (start .args .starts .now) (start .args .neighbours .now) (start .pre .1 .0) (start .args .limit)
+    (start .args .table .now) (start .args .stride) (start .args .goal) (start .args .d) (start .args .v)
+    (at-next-node .next-node .result) (at-if1 .if1 .left) (at-next-node .next-node .ensures) (at-own .own .ensures) (start .pre .1 .2)
+    (c .before .before .before .before .if2 .left) (start .args .nodes .now) _ (start .pre .1 .3) _
+    (c .before .before .take-steps .ensures)
 
 pub +take-steps-spec : {M : Type 1} → statement M
 +take-steps-spec = close μ-take-steps λ t. take-steps-lts.spec (

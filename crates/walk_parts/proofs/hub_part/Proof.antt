@@ -8,28 +8,56 @@ use Rattle.walk_parts.proofs.hub_part.Statement.{statement}
 use Rattle.walk_parts.proofs.hub_part.Tie as tie
 
 mul-first : tie.Need-mul-first
-mul-first c = omega (arith, place-inside (c .before .before .before .before .args .n) (c .before .before .before .before .args .h) (c .before .before .before .before .args .v) (c .before .before .before .before .pre .2) (c .before .before .before .before .pre .3), square-small (c .before .before .before .before .args .n) (c .before .before .before .before .pre .0 .size))
+mul-first c =
+    let start = c .before .before .before .before in
+    omega (
+      arith,
+      place-inside (start .args .n) (start .args .h) (start .args .v) (start .pre .2) (start .pre .3),
+      square-small
+          (start .args .n) (start .pre .0 .size),
+    )
 
 mul-write-part : tie.Need-mul-write-part
-mul-write-part c = omega (arith, place-inside (c .before .before .before .before .args .n) (c .before .before .before .before .args .h) (c .before .before .before .before .args .v) (c .before .before .before .before .pre .2) (c .before .before .before .before .pre .3), square-small (c .before .before .before .before .args .n) (c .before .before .before .before .pre .0 .size))
+mul-write-part c =
+    let start = c .before .before .before .before in
+    omega (
+      arith,
+      place-inside (start .args .n) (start .args .h) (start .args .v) (start .pre .2) (start .pre .3),
+      square-small
+          (start .args .n) (start .pre .0 .size),
+    )
 
 sub-write-part : tie.Need-sub-write-part
-sub-write-part c = omega (arith, place-inside (c .before .before .before .before .args .n) (c .before .before .before .before .args .h) (c .before .before .before .before .args .v) (c .before .before .before .before .pre .2) (c .before .before .before .before .pre .3))
+sub-write-part c =
+    let start = c .before .before .before .before in
+    omega (arith, place-inside (start .args .n) (start .args .h) (start .args .v) (start .pre .2) (start .pre .3))
 
 part-write-part-start : tie.Need-part-write-part-start
-part-write-part-start c = omega (arith, place-inside (c .before .before .before .before .args .n) (c .before .before .before .before .args .h) (c .before .before .before .before .args .v) (c .before .before .before .before .pre .2) (c .before .before .before .before .pre .3))
+part-write-part-start c =
+    let start = c .before .before .before .before in
+    omega (arith, place-inside (start .args .n) (start .args .h) (start .args .v) (start .pre .2) (start .pre .3))
 
 part-write-part-end : tie.Need-part-write-part-end
 part-write-part-end c = search needs
 
 write-part-requires : tie.Need-write-part-requires
-write-part-requires c κs = ((c .before .before .before .before .before .before .pre .0), row-inside (c .before .before .before .before .before .before .args .n) (c .before .before .before .before .before .before .pre .0 .size) (c .before .before .before .before .before .before .args .full .now) (c .before .before .before .before .before .before .pre .1) (c .before .before .before .before .before .before .args .h) (c .before .before .before .before .before .before .pre .2), (c .before .before .before .before .before .before .pre .3), (c .before .before .before .before .before .before .pre .4))
+write-part-requires c κs =
+    let start = c .before .before .before .before .before .before in (
+      (start .pre .0),
+      row-inside (start .args .n) (start .pre .0 .size) (start .args .full .now) (start .pre .1) (start .args .h)
+          (start .pre .2),
+      (start .pre .3),
+      (start .pre .4),
+    )
 
 same-length : tie.Need-same-length
 same-length c = search needs
 
 returns : tie.Need-returns
-returns c = hub-part (c .before .before .before .before .before .before .before .before .before .args .n) (c .before .before .before .before .before .before .before .before .before .args .starts .now) (c .before .before .before .before .before .before .before .before .before .args .neighbours .now) (c .before .before .before .before .before .before .before .before .before .pre .0) (c .before .before .before .before .before .before .before .before .before .args .full .now) (c .before .before .before .before .before .before .before .before .before .args .h) (c .before .before .before .before .before .before .before .before .before .args .v) (c .before .before .before .before .before .before .before .before .before .pre .3) (c .before .before .write-part .ensures)
+returns c =
+    let start = c .before .before .before .before .before .before .before .before .before in
+    hub-part (start .args .n) (start .args .starts .now) (start .args .neighbours .now) (start .pre .0) (start .args .full .now)
+    (start .args .h) (start .args .v) (start .pre .3) (c .before .before .write-part .ensures)
 
 pub hub-part-spec : {M : Type 1} → statement M
 hub-part-spec =

@@ -30,10 +30,22 @@ cast-leads-on : tie.Need-cast-leads-on Inv-loop μ-loop
 cast-leads-on c = omega (arith, (c .shared-slice-known5 .given) (c .before .before .loop .i))
 
 leads-on-requires : tie.Need-leads-on-requires Inv-loop μ-loop
-leads-on-requires c κs = ((c .before .before .before .before .before .before .before .pre .0 .0), (c .before .before .before .before .before .before .before .pre .0 .1), (c .before .before .before .before .before .before .before .pre .1) (getD (c .before .before .before .before .before .before .before .args .row .now) (c .before .before .loop .i) 0) (getD-has (c .before .before .before .before .before .before .before .args .row .now) (c .before .before .loop .i) (c .before .loop-test .taken)))
+leads-on-requires c κs =
+    let start = c .before .before .before .before .before .before .before in
+    let at-loop = c .before .before in (
+      (start .pre .0 .0),
+      (start .pre .0 .1),
+      (start .pre .1) (getD (start .args .row .now) (at-loop .loop .i) 0)
+          (getD-has (start .args .row .now) (at-loop .loop .i) (c .before .loop-test .taken)),
+    )
 
 returns : tie.Need-returns Inv-loop μ-loop
-returns c = searched-found (leadsOn (c .before .before .before .before .before .before .before .before .before .args .starts .now) (c .before .before .before .before .before .before .before .before .before .args .neighbours .now) (c .before .before .before .before .before .before .before .before .before .args .limit) (c .before .before .before .before .before .before .before .before .before .args .table .now) (c .before .before .before .before .before .before .before .before .before .args .stride) (c .before .before .before .before .before .before .before .before .before .args .d)) none (c .before .before .before .before .before .before .before .before .before .args .row .now) (c .before .before .before .before .loop .i) (c .before .before .before .before .loop .inv) (c .before .before .before .loop-test .taken) (sym (c .before .leads-on .ensures) ∙ (c .if1 .taken))
+returns c =
+    let start = c .before .before .before .before .before .before .before .before .before in
+    let at-loop = c .before .before .before .before in
+    searched-found (leadsOn (start .args .starts .now) (start .args .neighbours .now) (start .args .limit) (start .args .table .now)
+    (start .args .stride) (start .args .d)) none (start .args .row .now) (at-loop .loop .i) (at-loop .loop .inv)
+    (c .before .before .before .loop-test .taken) (sym (c .before .leads-on .ensures) ∙ (c .if1 .taken))
 
 add-i : tie.Need-add-i Inv-loop μ-loop
 add-i c = omega arith
@@ -42,10 +54,19 @@ loop-less : tie.Need-loop-less Inv-loop μ-loop
 loop-less c = omega arith
 
 loop-again : tie.Need-loop-again Inv-loop μ-loop
-loop-again c = searched-more (leadsOn (c .before .before .before .before .before .before .before .before .before .args .starts .now) (c .before .before .before .before .before .before .before .before .before .args .neighbours .now) (c .before .before .before .before .before .before .before .before .before .args .limit) (c .before .before .before .before .before .before .before .before .before .args .table .now) (c .before .before .before .before .before .before .before .before .before .args .stride) (c .before .before .before .before .before .before .before .before .before .args .d)) none (c .before .before .before .before .before .before .before .before .before .args .row .now) (c .before .before .before .before .loop .i) (c .before .before .before .before .loop .inv) (c .before .before .before .loop-test .taken) (sym (c .before .leads-on .ensures) ∙ (c .if1 .left))
+loop-again c =
+    let start = c .before .before .before .before .before .before .before .before .before in
+    let at-loop = c .before .before .before .before in
+    searched-more (leadsOn (start .args .starts .now) (start .args .neighbours .now) (start .args .limit) (start .args .table .now)
+    (start .args .stride) (start .args .d)) none (start .args .row .now) (at-loop .loop .i) (at-loop .loop .inv)
+    (c .before .before .before .loop-test .taken) (sym (c .before .leads-on .ensures) ∙ (c .if1 .left))
 
 returns-2 : tie.Need-returns-2 Inv-loop μ-loop
-returns-2 c = searched-all (leadsOn (c .before .before .before .before .before .before .args .starts .now) (c .before .before .before .before .before .before .args .neighbours .now) (c .before .before .before .before .before .before .args .limit) (c .before .before .before .before .before .before .args .table .now) (c .before .before .before .before .before .before .args .stride) (c .before .before .before .before .before .before .args .d)) none (c .before .before .before .before .before .before .args .row .now) (c .before .loop .i) (c .before .loop .inv) (c .loop-test .left)
+returns-2 c =
+    let start = c .before .before .before .before .before .before in
+    let at-loop = c .before in
+    searched-all (leadsOn (start .args .starts .now) (start .args .neighbours .now) (start .args .limit) (start .args .table .now)
+    (start .args .stride) (start .args .d)) none (start .args .row .now) (at-loop .loop .i) (at-loop .loop .inv) (c .loop-test .left)
 
 pub next-node-spec : {M : Type 1} → statement M
 next-node-spec =

@@ -11,28 +11,54 @@ use Rattle.walk_parts.proofs.write_part.Statement.{statement}
 use Rattle.walk_parts.proofs.write_part.Tie as tie
 
 mul-d : tie.Need-mul-d
-mul-d c = omega (arith, (place-small (c .before .before .before .before .args .n) (c .before .before .before .before .args .v) (c .before .before .before .before .args .stride) (c .before .before .before .before .pre .0 .size) (c .before .before .before .before .pre .2) (c .before .before .before .before .pre .1 .few)))
+mul-d c =
+    let start = c .before .before .before .before in
+    omega (
+      arith,
+      (place-small (start .args .n) (start .args .v) (start .args .stride) (start .pre .0 .size) (start .pre .2)
+          (start .pre .1 .few)),
+    )
 
 mul-d-2 : tie.Need-mul-d-2
-mul-d-2 c = omega (arith, (place-small (c .before .before .before .before .args .n) (c .before .before .before .before .args .v) (c .before .before .before .before .args .stride) (c .before .before .before .before .pre .0 .size) (c .before .before .before .before .pre .2) (c .before .before .before .before .pre .1 .few)))
+mul-d-2 c =
+    let start = c .before .before .before .before in
+    omega (
+      arith,
+      (place-small (start .args .n) (start .args .v) (start .args .stride) (start .pre .0 .size) (start .pre .2)
+          (start .pre .1 .few)),
+    )
 
 shared-slice-read-d : tie.Need-shared-slice-read-d
-shared-slice-read-d c = (c .before .before .before .before .before .pre .1 .holds) (c .before .before .before .before .before .args .v) (c .before .before .before .before .before .pre .2)
+shared-slice-read-d c =
+    let start = c .before .before .before .before .before in
+    (start .pre .1 .holds) (start .args .v) (start .pre .2)
 
 cast-d : tie.Need-cast-d
-cast-d c = omega (arith, (c .shared-slice-known4 .given) ((c .before .before .before .before .before .args .v) * (c .before .before .before .before .before .args .stride)))
+cast-d c =
+    let start = c .before .before .before .before .before in
+    omega (arith, (c .shared-slice-known4 .given) ((start .args .v) * (start .args .stride)))
 
 returns : tie.Need-returns
-returns c = part-long (c .before .before .before .before .before .before .args .n) (c .before .before .before .before .before .before .args .starts .now) (c .before .before .before .before .before .before .args .neighbours .now) (c .before .before .before .before .before .before .pre .0) (c .before .before .before .before .before .before .args .limit) (c .before .before .before .before .before .before .args .table .now) (c .before .before .before .before .before .before .args .stride) (c .before .before .before .before .before .before .args .goal) (c .before .before .before .before .before .before .args .v) (c .before .before .before .before .before .before .pre .2) (omega arith) (c .before .before .before .before .before .before .args .nodes .now)
+returns c =
+    let start = c .before .before .before .before .before .before in
+    part-long (start .args .n) (start .args .starts .now) (start .args .neighbours .now) (start .pre .0) (start .args .limit)
+    (start .args .table .now) (start .args .stride) (start .args .goal) (start .args .v) (start .pre .2) (omega arith)
+    (start .args .nodes .now)
 
 take-steps-requires : tie.Need-take-steps-requires
-take-steps-requires c κs = ((c .before .before .before .before .before .before .before .pre .0), (c .before .before .before .before .before .before .before .pre .1), (c .before .before .before .before .before .before .before .pre .2), omega arith)
+take-steps-requires c κs =
+    let start = c .before .before .before .before .before .before .before in
+    ((start .pre .0), (start .pre .1), (start .pre .2), omega arith)
 
 same-length : tie.Need-same-length
 same-length c = search needs
 
 returns-2 : tie.Need-returns-2
-returns-2 c = part-missed (c .before .before .before .before .before .before .before .before .before .before .before .args .n) (c .before .before .before .before .before .before .before .before .before .before .before .args .starts .now) (c .before .before .before .before .before .before .before .before .before .before .before .args .neighbours .now) (c .before .before .before .before .before .before .before .before .before .before .before .pre .0) (c .before .before .before .before .before .before .before .before .before .before .before .args .limit) (c .before .before .before .before .before .before .before .before .before .before .before .args .table .now) (c .before .before .before .before .before .before .before .before .before .before .before .args .stride) (c .before .before .before .before .before .before .before .before .before .before .before .args .goal) (c .before .before .before .before .before .before .before .before .before .before .before .args .v) (c .before .before .before .before .before .before .before .before .before .before .before .pre .2) _ _ (sym (not-true _ (c .if2 .taken)) ∙ (c .before .before .before .take-steps .ensures .0))
+returns-2 c =
+    let start = c .before .before .before .before .before .before .before .before .before .before .before in
+    part-missed (start .args .n) (start .args .starts .now) (start .args .neighbours .now) (start .pre .0) (start .args .limit)
+    (start .args .table .now) (start .args .stride) (start .args .goal) (start .args .v) (start .pre .2) _ _
+    (sym (not-true _ (c .if2 .taken)) ∙ (c .before .before .before .take-steps .ensures .0))
 
 add-result : tie.Need-add-result
 add-result c = search needs
@@ -41,7 +67,13 @@ same-length-2 : tie.Need-same-length-2
 same-length-2 c = search needs
 
 returns-3 : tie.Need-returns-3
-returns-3 c = part-given (c .before .before .before .before .before .before .before .before .before .before .before .args .n) (c .before .before .before .before .before .before .before .before .before .before .before .args .starts .now) (c .before .before .before .before .before .before .before .before .before .before .before .args .neighbours .now) (c .before .before .before .before .before .before .before .before .before .before .before .pre .0) (c .before .before .before .before .before .before .before .before .before .before .before .args .limit) (c .before .before .before .before .before .before .before .before .before .before .before .args .table .now) (c .before .before .before .before .before .before .before .before .before .before .before .args .stride) (c .before .before .before .before .before .before .before .before .before .before .before .args .goal) (c .before .before .before .before .before .before .before .before .before .before .before .args .v) (c .before .before .before .before .before .before .before .before .before .before .before .pre .2) (c .before .before .before .before .before .if1 .left) _ _ (sym (not-false _ (c .if2 .left)) ∙ (c .before .before .before .take-steps .ensures .0)) (c .before .before .before .take-steps .ensures .1)
+returns-3 c =
+    let start = c .before .before .before .before .before .before .before .before .before .before .before in
+    let at-take-steps = c .before .before .before in
+    part-given (start .args .n) (start .args .starts .now) (start .args .neighbours .now) (start .pre .0) (start .args .limit)
+    (start .args .table .now) (start .args .stride) (start .args .goal) (start .args .v) (start .pre .2)
+    (c .before .before .before .before .before .if1 .left) _ _
+    (sym (not-false _ (c .if2 .left)) ∙ (at-take-steps .take-steps .ensures .0)) (at-take-steps .take-steps .ensures .1)
 
 pub write-part-spec : {M : Type 1} → statement M
 write-part-spec =

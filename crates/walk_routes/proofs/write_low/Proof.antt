@@ -15,25 +15,57 @@ low-part-requires : tie.Need-low-part-requires
 low-part-requires c κs = search needs
 
 returns : tie.Need-returns
-returns c = part-missed (c .before .before .before .before .before .before .before .before .args .answer) (c .before .before .before .before .before .before .before .before .args .walk .now) (c .before .before .before .before .before .before .before .before .pre .1) (c .before .before .low-part .ensures) (c .if1 .taken)
+returns c =
+    let start = c .before .before .before .before .before .before .before .before in
+    part-missed (start .args .answer) (start .args .walk .now) (start .pre .1) (c .before .before .low-part .ensures) (c .if1 .taken)
 
 returns-2 : tie.Need-returns-2
-returns-2 c = part-short (c .before .before .before .before .before .before .before .before .before .args .answer) (c .before .before .before .before .before .before .before .before .before .args .walk .now) (c .before .before .before .before .before .before .before .before .before .pre .1) _ (c .before .before .before .low-part .ensures) (c .if2 .taken)
+returns-2 c =
+    let start = c .before .before .before .before .before .before .before .before .before in
+    part-short (start .args .answer) (start .args .walk .now) (start .pre .1) _ (c .before .before .before .low-part .ensures)
+    (c .if2 .taken)
 
 array-share-prefix-nodes : tie.Need-array-share-prefix-nodes
 array-share-prefix-nodes c = search needs
 
 slice-aggregate-copy16-reversed : tie.Need-slice-aggregate-copy16-reversed
-slice-aggregate-copy16-reversed c = sym (length-take-le (c .before .before .before .before .low-part .result) (c .before .before .before .before .low-part .last .1 .1 .1 .1 .1 .1 .0) (omega (arith, (c .before .before .before .before .low-part .ensures .few), (c .before .before .before .before .before .before .before .before .before .before .pre .0 .0 .size), (c .before .before .before .before .low-part .kept .1 .1 .1 .1 .1 .1 .0))))
+slice-aggregate-copy16-reversed c =
+    let start = c .before .before .before .before .before .before .before .before .before .before in
+    let at-low-part = c .before .before .before .before in
+    sym (length-take-le (at-low-part .low-part .result) (at-low-part .low-part .last .1 .1 .1 .1 .1 .1 .0)
+    (omega (
+      arith,
+      (at-low-part .low-part .ensures .few),
+      (start .pre .0 .0 .size),
+      (at-low-part .low-part .kept .1 .1 .1 .1 .1 .1 .0),
+    )))
 
 copy16-reversed-requires : tie.Need-copy16-reversed-requires
-copy16-reversed-requires c κs = omega (arith, (length-take-le (c .before .before .before .before .before .low-part .result) (c .before .before .before .before .before .low-part .last .1 .1 .1 .1 .1 .1 .0) (omega (arith, (c .before .before .before .before .before .low-part .ensures .few), (c .before .before .before .before .before .before .before .before .before .before .before .pre .0 .0 .size), (c .before .before .before .before .before .low-part .kept .1 .1 .1 .1 .1 .1 .0)))), (c .before .before .if2 .left))
+copy16-reversed-requires c κs =
+    let start = c .before .before .before .before .before .before .before .before .before .before .before in
+    let at-low-part = c .before .before .before .before .before in
+    omega (
+      arith,
+      (length-take-le (at-low-part .low-part .result) (at-low-part .low-part .last .1 .1 .1 .1 .1 .1 .0)
+          (omega (
+            arith,
+            (at-low-part .low-part .ensures .few),
+            (start .pre .0 .0 .size),
+            (at-low-part .low-part .kept .1 .1 .1 .1 .1 .1 .0),
+          ))),
+      (c .before .before .if2 .left),
+    )
 
 same-length : tie.Need-same-length
 same-length c = search needs
 
 returns-3 : tie.Need-returns-3
-returns-3 c = part-fits (c .before .before .before .before .before .before .before .before .before .before .before .before .before .before .args .answer) (c .before .before .before .before .before .before .before .before .before .before .before .before .before .before .args .walk .now) (c .before .before .before .before .before .before .before .before .before .before .before .before .before .before .pre .1) _ (c .before .before .before .before .before .before .before .before .low-part .ensures) (c .before .before .before .before .before .before .if1 .left) (c .before .before .before .before .before .if2 .left) (c .before .before .copy16-reversed .ensures)
+returns-3 c =
+    let start = c .before .before .before .before .before .before .before .before .before .before .before .before .before .before in
+    let at-low-part = c .before .before .before .before .before .before .before .before in
+    let at-if1 = c .before .before .before .before .before .before in
+    part-fits (start .args .answer) (start .args .walk .now) (start .pre .1) _ (at-low-part .low-part .ensures) (at-if1 .if1 .left)
+    (c .before .before .before .before .before .if2 .left) (c .before .before .copy16-reversed .ensures)
 
 pub write-low-spec : {M : Type 1} → statement M
 write-low-spec =

@@ -12,10 +12,16 @@ enum-told : tie.Need-enum-told
 enum-told c = search needs
 
 returns : tie.Need-returns
-returns c = itself-short (c .before .before .before .before .before .before .before .before .args .n) (threshold (c .before .before .before .before .before .before .before .before .args .n)) (neighboursOf (c .before .before .before .before .before .before .before .before .args .starts .now) (c .before .before .before .before .before .before .before .before .args .neighbours .now)) (c .before .before .before .before .before .before .before .before .args .full .now) (c .before .before .before .before .before .before .before .before .args .low .now) (c .before .before .before .before .before .before .before .before .args .a) (c .before .before .before .before .before .before .before .before .args .b) (c .before .before .before .before .before .before .before .before .args .answer) (c .before .before .before .before .before .before .before .before .args .walk .now) (c .before .before .before .before .before .before .before .before .pre .1) (c .before .enum-told .given .1) (c .if1 .taken)
+returns c =
+    let start = c .before .before .before .before .before .before .before .before in
+    itself-short (start .args .n) (threshold (start .args .n)) (neighboursOf (start .args .starts .now) (start .args .neighbours .now))
+    (start .args .full .now) (start .args .low .now) (start .args .a) (start .args .b) (start .args .answer) (start .args .walk .now)
+    (start .pre .1) (c .before .enum-told .given .1) (c .if1 .taken)
 
 cast-walk : tie.Need-cast-walk
-cast-walk c = omega (arith, (c .before .before .before .before .before .before .before .before .pre .0 .first), (c .before .before .before .before .before .before .before .before .pre .0 .survey .size))
+cast-walk c =
+    let start = c .before .before .before .before .before .before .before .before in
+    omega (arith, (start .pre .0 .first), (start .pre .0 .survey .size))
 
 slice-write-walk : tie.Need-slice-write-walk
 slice-write-walk c = search needs
@@ -24,7 +30,9 @@ enum-told-2 : tie.Need-enum-told-2
 enum-told-2 c = search needs
 
 write-low-requires : tie.Need-write-low-requires
-write-low-requires c κs = (((c .before .before .before .before .before .before .before .before .pre .0 .survey), (c .before .before .before .before .before .before .before .before .pre .0 .in-low), (c .before .before .before .before .before .before .before .before .pre .0 .first), (c .before .before .before .before .before .before .before .before .pre .0 .last)), (c .before .before .before .before .before .before .before .before .pre .1))
+write-low-requires c κs =
+    let start = c .before .before .before .before .before .before .before .before in
+    (((start .pre .0 .survey), (start .pre .0 .in-low), (start .pre .0 .first), (start .pre .0 .last)), (start .pre .1))
 
 enum-known-route : tie.Need-enum-known-route
 enum-known-route c = search needs
@@ -33,7 +41,19 @@ cast-write-through : tie.Need-cast-write-through
 cast-write-through c = search needs
 
 write-through-requires : tie.Need-write-through-requires
-write-through-requires c κs = (((c .before .before .before .before .before .before .before .before .before .pre .0 .survey), (c .before .before .before .before .before .before .before .before .before .pre .0 .in-full), (c .before .before .before .before .before .before .before .before .before .pre .0 .first), (c .before .before .before .before .before .before .before .before .before .pre .0 .last), (c .before .before .before .before .before .before .before .before .before .pre .0 .hub) (c .before .before .route .given .0 .0) (c .before .before .route .given .1)), (c .before .before .before .before .before .before .before .before .before .pre .1))
+write-through-requires c κs =
+    let start = c .before .before .before .before .before .before .before .before .before in
+    let at-route = c .before .before in (
+      (
+        (start .pre .0 .survey),
+        (start .pre .0 .in-full),
+        (start .pre .0 .first),
+        (start .pre .0 .last),
+        (start .pre .0 .hub)
+            (at-route .route .given .0 .0) (at-route .route .given .1),
+      ),
+      (start .pre .1),
+    )
 
 enum-told-3 : tie.Need-enum-told-3
 enum-told-3 c = search needs
@@ -42,22 +62,39 @@ same-length : tie.Need-same-length
 same-length c = search needs
 
 returns-2 : tie.Need-returns-2
-returns-2 c = itself-fits (c .before .before .before .before .before .before .before .before .args .n) (threshold (c .before .before .before .before .before .before .before .before .args .n)) (neighboursOf (c .before .before .before .before .before .before .before .before .args .starts .now) (c .before .before .before .before .before .before .before .before .args .neighbours .now)) (c .before .before .before .before .before .before .before .before .args .full .now) (c .before .before .before .before .before .before .before .before .args .low .now) (c .before .before .before .before .before .before .before .before .args .a) (c .before .before .before .before .before .before .before .before .args .b) (c .before .before .before .before .before .before .before .before .args .answer) (c .before .before .before .before .before .before .before .before .args .walk .now) (c .before .before .before .before .before .before .before .before .pre .1) (c .before .enum-told .given .1) (c .if1 .left)
+returns-2 c =
+    let start = c .before .before .before .before .before .before .before .before in
+    itself-fits (start .args .n) (threshold (start .args .n)) (neighboursOf (start .args .starts .now) (start .args .neighbours .now))
+    (start .args .full .now) (start .args .low .now) (start .args .a) (start .args .b) (start .args .answer) (start .args .walk .now)
+    (start .pre .1) (c .before .enum-told .given .1) (c .if1 .left)
 
 same-length-2 : tie.Need-same-length-2
 same-length-2 c = search needs
 
 returns-3 : tie.Need-returns-3
-returns-3 c = low-given (c .before .before .before .before .before .before .before .before .before .before .before .args .n) (threshold (c .before .before .before .before .before .before .before .before .before .before .before .args .n)) (neighboursOf (c .before .before .before .before .before .before .before .before .before .before .before .args .starts .now) (c .before .before .before .before .before .before .before .before .before .before .before .args .neighbours .now)) (c .before .before .before .before .before .before .before .before .before .before .before .args .full .now) (c .before .before .before .before .before .before .before .before .before .before .before .args .low .now) (c .before .before .before .before .before .before .before .before .before .before .before .args .a) (c .before .before .before .before .before .before .before .before .before .before .before .args .b) (c .before .before .before .before .before .before .before .before .before .before .before .args .answer) (c .before .before .before .before .before .before .before .before .before .before .before .args .walk .now) (c .before .before .before .before .enum-told2 .given .1) (c .before .before .write-low .ensures)
+returns-3 c =
+    let start = c .before .before .before .before .before .before .before .before .before .before .before in
+    low-given (start .args .n) (threshold (start .args .n)) (neighboursOf (start .args .starts .now) (start .args .neighbours .now))
+    (start .args .full .now) (start .args .low .now) (start .args .a) (start .args .b) (start .args .answer) (start .args .walk .now)
+    (c .before .before .before .before .enum-told2 .given .1) (c .before .before .write-low .ensures)
 
 same-length-3 : tie.Need-same-length-3
 same-length-3 c = search needs
 
 returns-4 : tie.Need-returns-4
-returns-4 c = through-given (c .before .before .before .before .before .before .before .before .before .before .before .before .args .n) (threshold (c .before .before .before .before .before .before .before .before .before .before .before .before .args .n)) (neighboursOf (c .before .before .before .before .before .before .before .before .before .before .before .before .args .starts .now) (c .before .before .before .before .before .before .before .before .before .before .before .before .args .neighbours .now)) (c .before .before .before .before .before .before .before .before .before .before .before .before .args .full .now) (c .before .before .before .before .before .before .before .before .before .before .before .before .args .low .now) (c .before .before .before .before .before .before .before .before .before .before .before .before .args .a) (c .before .before .before .before .before .before .before .before .before .before .before .before .args .b) (c .before .before .before .before .before .before .before .before .before .before .before .before .args .answer) (c .before .before .before .before .before .before .before .before .before .before .before .before .args .walk .now) (c .before .before .before .before .before .route .given .0 .0) (c .before .before .before .before .before .route .given .1) (c .before .before .write-through .ensures)
+returns-4 c =
+    let start = c .before .before .before .before .before .before .before .before .before .before .before .before in
+    let at-route = c .before .before .before .before .before in
+    through-given (start .args .n) (threshold (start .args .n)) (neighboursOf (start .args .starts .now) (start .args .neighbours .now))
+    (start .args .full .now) (start .args .low .now) (start .args .a) (start .args .b) (start .args .answer) (start .args .walk .now)
+    (at-route .route .given .0 .0) (at-route .route .given .1) (c .before .before .write-through .ensures)
 
 returns-5 : tie.Need-returns-5
-returns-5 c = none-given (c .before .before .before .before .before .before .before .args .n) (threshold (c .before .before .before .before .before .before .before .args .n)) (neighboursOf (c .before .before .before .before .before .before .before .args .starts .now) (c .before .before .before .before .before .before .before .args .neighbours .now)) (c .before .before .before .before .before .before .before .args .full .now) (c .before .before .before .before .before .before .before .args .low .now) (c .before .before .before .before .before .before .before .args .a) (c .before .before .before .before .before .before .before .args .b) (c .before .before .before .before .before .before .before .args .answer) (c .before .before .before .before .before .before .before .args .walk .now) (c .before .before .before .before .before .before .before .pre .1) (c .enum-told3 .given .1)
+returns-5 c =
+    let start = c .before .before .before .before .before .before .before in
+    none-given (start .args .n) (threshold (start .args .n)) (neighboursOf (start .args .starts .now) (start .args .neighbours .now))
+    (start .args .full .now) (start .args .low .now) (start .args .a) (start .args .b) (start .args .answer) (start .args .walk .now)
+    (start .pre .1) (c .enum-told3 .given .1)
 
 pub write-route-spec : {M : Type 1} → statement M
 write-route-spec =

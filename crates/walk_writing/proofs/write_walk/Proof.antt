@@ -23,19 +23,39 @@ enum-known-x : tie.Need-enum-known-x
 enum-known-x c = search needs
 
 write-route-requires : tie.Need-write-route-requires
-write-route-requires c κs = ((c .before .before .before .before .judge .ensures .1) (c .before .before .x .given .0 .0) (ap pairAnswer (c .before .before .x .given .1)), filled-own none (length (c .before .before .before .before .before .before .before .before .before .before .before .before .before .before .before .args .walk .now)) (c .before .before .before .before .before .before .before .fill16 .ensures))
+write-route-requires c κs =
+    let start = c .before .before .before .before .before .before .before .before .before .before .before .before .before .before .before in
+    let at-fill16 = c .before .before .before .before .before .before .before in
+    let at-x = c .before .before in (
+      (c .before .before .before .before .judge .ensures .1) (at-x .x .given .0 .0) (ap pairAnswer (at-x .x .given .1)),
+      filled-own none
+          (length (start .args .walk .now)) (at-fill16 .fill16 .ensures),
+    )
 
 same-length : tie.Need-same-length
 same-length c = search needs
 
 returns : tie.Need-returns
-returns c = refused-written (c .before .before .before .before .before .before .before .before .before .before .before .before .before .before .args .n) (c .before .before .before .before .before .before .before .before .before .before .before .before .before .before .args .starts .now) (c .before .before .before .before .before .before .before .before .before .before .before .before .before .before .args .neighbours .now) (c .before .before .before .before .before .before .before .before .before .before .before .before .before .before .args .full .now) (c .before .before .before .before .before .before .before .before .before .before .before .before .before .before .args .low .now) (c .before .before .before .before .before .before .before .before .before .before .before .before .before .before .args .report .now) (c .before .before .before .before .before .before .before .before .before .before .before .before .before .before .args .a) (c .before .before .before .before .before .before .before .before .before .before .before .before .before .before .args .b) (length (c .before .before .before .before .before .before .before .before .before .before .before .before .before .before .args .walk .now)) (c .before .before .before .judge .ensures .0) (ap pairAnswer (c .before .k .given .1)) (c .before .before .before .before .before .before .fill16 .ensures)
+returns c =
+    let start = c .before .before .before .before .before .before .before .before .before .before .before .before .before .before in
+    let at-fill16 = c .before .before .before .before .before .before in
+    refused-written (start .args .n) (start .args .starts .now) (start .args .neighbours .now) (start .args .full .now)
+    (start .args .low .now) (start .args .report .now) (start .args .a) (start .args .b) (length (start .args .walk .now))
+    (c .before .before .before .judge .ensures .0) (ap pairAnswer (c .before .k .given .1)) (at-fill16 .fill16 .ensures)
 
 same-length-2 : tie.Need-same-length-2
 same-length-2 c = search needs
 
 returns-2 : tie.Need-returns-2
-returns-2 c = route-written (c .before .before .before .before .before .before .before .before .before .before .before .before .before .before .before .before .before .before .args .n) (c .before .before .before .before .before .before .before .before .before .before .before .before .before .before .before .before .before .before .args .starts .now) (c .before .before .before .before .before .before .before .before .before .before .before .before .before .before .before .before .before .before .args .neighbours .now) (c .before .before .before .before .before .before .before .before .before .before .before .before .before .before .before .before .before .before .args .full .now) (c .before .before .before .before .before .before .before .before .before .before .before .before .before .before .before .before .before .before .args .low .now) (c .before .before .before .before .before .before .before .before .before .before .before .before .before .before .before .before .before .before .args .report .now) (c .before .before .before .before .before .before .before .before .before .before .before .before .before .before .before .before .before .before .args .a) (c .before .before .before .before .before .before .before .before .before .before .before .before .before .before .before .before .before .before .args .b) (length (c .before .before .before .before .before .before .before .before .before .before .before .before .before .before .before .before .before .before .args .walk .now)) (c .before .before .before .before .before .before .before .judge .ensures .0) (c .before .before .before .before .before .x .given .0 .0) (ap pairAnswer (c .before .before .before .before .before .x .given .1)) (c .before .before .before .before .before .before .before .before .before .before .fill16 .ensures) (c .before .before .write-route .ensures)
+returns-2 c =
+    let start = c .before .before .before .before .before .before .before .before .before .before .before .before .before .before .before .before .before .before in
+    let at-fill16 = c .before .before .before .before .before .before .before .before .before .before in
+    let at-judge = c .before .before .before .before .before .before .before in
+    let at-x = c .before .before .before .before .before in
+    route-written (start .args .n) (start .args .starts .now) (start .args .neighbours .now) (start .args .full .now)
+    (start .args .low .now) (start .args .report .now) (start .args .a) (start .args .b) (length (start .args .walk .now))
+    (at-judge .judge .ensures .0) (at-x .x .given .0 .0) (ap pairAnswer (at-x .x .given .1)) (at-fill16 .fill16 .ensures)
+    (c .before .before .write-route .ensures)
 
 pub write-walk-spec : {M : Type 1} → statement M
 write-walk-spec =
