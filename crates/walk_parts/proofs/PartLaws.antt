@@ -1,25 +1,28 @@
 -- A whole part of a walk: its length, and the rows and columns of the tables that it goes by.
 -- Assumes nothing.
 use mathlib.Core.Path.{_≡_, refl, sym, ap, _∙_, subst}
-use mathlib.Core.Bool.{true, false}
+use mathlib.Core.Bool.{true, false, _&&_}
 use mathlib.Core.List.{List}
 use mathlib.Core.Option.{Option, none as missing, some}
 use Prim.Native.Nat.{ℕ, _+_, _-_, _*_, _≤_, _<_}
 use native.Mathlib.Nat.{mul-one}
 use native.Mathlib.Numerals.{add-one}
 use native.Mathlib.Omega.{arith}
-use borrow.Author.Tests.{lt-leb}
+use borrow.Author.Tests.{lt-ltb}
+use lib.Dec.{ltb}
 use lib.ListN.{length, getD, take, drop, length-drop}
 use lib.Seq.{take-all, getD-drop}
+use Rattle.base_nodeset.specs.NodeSet.{Nodes}
 use Rattle.model.specs.Graph.{Edges, linked}
-use Rattle.model.specs.Survey.{Graph, neighboursOf, Accepted}
+use Rattle.model.specs.Survey.{Graph, IsGraph}
 use Rattle.model.specs.Threshold.{threshold}
-use Rattle.model.specs.Hubs.{isHigh, isLow}
+use Rattle.model.specs.Hubs.{isLow}
 use Rattle.model.specs.Tables.{entryAt}
 use Rattle.model.specs.Walk.{steps, byLow, toHub}
-use Rattle.model.proofs.Acceptance.{few-neighbours}
 use Rattle.model.proofs.Entries.{place-inside}
 use Rattle.model.proofs.Walks.{Sound, steps-sound, steps-same, too-long}
+use Rattle.table_degrees.proofs.Degrees.{low-are}
+use Rattle.walk_parts.specs.declared.Part.{Part}
 use Rattle.walk_parts.specs.Parts.{leftIn, Inside, stepsIn, isFound, Leaves, countOf, PartIs}
 
 -- ---- how many nodes a part has
@@ -36,7 +39,8 @@ not-given : (o : Option (List ℕ)) → false ≡ isFound o → o ≡ missing
 not-given missing e = refl
 not-given (some l) e = let z : _≡_ {A = ℕ} 0 1 = cc in absurd (omega arith)
 
-all-given : (n d : ℕ) (o : Option (List ℕ)) (E : Edges) (v goal : ℕ) → Sound E d v goal o → d < n → (old new : List ℕ) → true ≡ isFound o → Leaves o old new → PartIs n o (d + 1) old new
+all-given : (n d : ℕ) (o : Option (List ℕ)) (E : Edges) (v goal : ℕ) → Sound E d v goal o → d < n
+    → (old new : List ℕ) → true ≡ isFound o → Leaves o old new → PartIs n o (d + 1) old new
 all-given n d missing E v goal s h old new e w = let z : _≡_ {A = ℕ} 0 1 = cc in absurd (omega arith)
 all-given n d (some l) E v goal s h old new e w = record {
   counted = add-one d ∙ sym (s .1);
@@ -45,74 +49,88 @@ all-given n d (some l) E v goal s h old new e w = record {
   left = w;
 }
 
-module _ (n : ℕ) (starts neighbours : List ℕ) (acc : Accepted n starts neighbours) (limit : ℕ) (table : List ℕ) (stride goal v : ℕ) (h : v < n) where
-  abbrev G : Graph
-  G = neighboursOf starts neighbours
-
+module _ (part : Part) (G : Graph) (may : Nodes) (table : List ℕ) (v : ℕ) where
   abbrev o : Option (List ℕ)
-  o = stepsIn starts neighbours limit table stride goal (leftIn table stride v) v
+  o = stepsIn part G may table (leftIn part table v) v
 
-  pub part-long : n ≤ leftIn table stride v → (nodes : List ℕ) → PartIs n o 0 nodes nodes
-  part-long l nodes = no-part n (too-long n G (acc .lists .graph) (isLow limit G) (leftIn table stride) goal (leftIn table stride v) v h (omega arith) l) nodes nodes
+  pub part-missed : (old new : List ℕ) → false ≡ isFound o → PartIs (part .n) o 0 old new
+  part-missed old new e = no-part (part .n) (not-given o e) old new
 
-  pub part-missed : (old new : List ℕ) → false ≡ isFound o → PartIs n o 0 old new
-  part-missed old new e = no-part n (not-given o e) old new
+  module _ (g : IsGraph (part .n) G) (h : v < part .n) where
+    pub part-long : part .n ≤ leftIn part table v → (nodes : List ℕ) → PartIs (part .n) o 0 nodes nodes
+    unfolding stepsIn
+    part-long l nodes =
+        no-part (part .n) (too-long (part .n) G g may (leftIn part table) (part .goal) (leftIn part table v) v h (omega arith) l) nodes nodes
 
-  pub part-given : leftIn table stride v < n → (old new : List ℕ) → true ≡ isFound o → Leaves o old new → PartIs n o (leftIn table stride v + 1) old new
-  part-given l old new e w =
-      all-given n (leftIn table stride v) o (linked n G) v goal (steps-sound n G (acc .lists .graph) (isLow limit G) (leftIn table stride) goal (leftIn table stride v) v h) l old new e w
+    pub part-given : leftIn part table v < part .n → (old new : List ℕ) → true ≡ isFound o → Leaves o old new
+        → PartIs (part .n) o (leftIn part table v + 1) old new
+    unfolding stepsIn
+    part-given l old new e w =
+        all-given (part .n) (leftIn part table v) o (linked (part .n) G) v (part .goal)
+        (steps-sound (part .n) G g may (leftIn part table) (part .goal) (leftIn part table v) v h) l old new e w
 
 -- ---- the columns of Low, and the rows of Full
 
--- the list from a place on
-pub behind : (i : ℕ) (l : List ℕ) → take (length l - i) (drop i l) ≡ drop i l
+-- a part of a table from a place on, as the code hands it on
+abbrev from : ℕ → List ℕ → List ℕ
+from i table = take (length table - i) (drop i table)
+
+behind : (i : ℕ) (l : List ℕ) → from i l ≡ drop i l
 behind i l = take-all (length l - i) (drop i l) (omega (arith, length-drop i l))
 
 module _ (n : ℕ) (size : n ≤ 1024) (table : List ℕ) (room : n * n ≤ length table) (i : ℕ) (h : i < n) where
-  pub column-inside : Inside n (take (length table - i) (drop i table)) n
-  column-inside = record { few = size; holds = λ x l. rw (behind i table) (omega (arith, length-drop i table, place-inside n x i l h)) }
+  pub column-inside : Inside (record { n = n; goal = i; stride = n }) (from i table)
+  column-inside = record {
+    few = size;
+    near = size;
+    holds = λ x l. rw (behind i table) (omega (arith, length-drop i table, place-inside n x i l h));
+  }
 
-  pub row-inside : Inside n (take (length table - i * n) (drop (i * n) table)) 1
-  row-inside = record { few = omega arith; holds = λ x l. rw (behind (i * n) table, mul-one) (omega (arith, length-drop (i * n) table, place-inside n i x h l)) }
+  pub row-inside : Inside (record { n = n; goal = i; stride = 1 }) (from (i * n) table)
+  row-inside = record {
+    few = size;
+    near = omega arith;
+    holds = λ x l. rw (behind (i * n) table, mul-one) (omega (arith, length-drop (i * n) table, place-inside n i x h l));
+  }
 
 -- the links left are the entries of the table
-column-left : (n : ℕ) (table : List ℕ) (i x : ℕ) → leftIn (take (length table - i) (drop i table)) n x ≡ entryAt n table x i
+column-left : (n : ℕ) (table : List ℕ) (i x : ℕ) → getD (from i table) (x * n) 0 ≡ entryAt n table x i
 unfolding entryAt
 column-left n table i x =
     let e : i + x * n ≡ x * n + i = omega arith in
     rw (behind i table) (getD-drop i table (x * n) 0 ∙ ap (λ (k : ℕ). getD table k 0) e)
 
-row-left : (n : ℕ) (table : List ℕ) (i x : ℕ) → leftIn (take (length table - i * n) (drop (i * n) table)) 1 x ≡ entryAt n table i x
+row-left : (n : ℕ) (table : List ℕ) (i x : ℕ) → getD (from (i * n) table) (x * 1) 0 ≡ entryAt n table i x
 unfolding entryAt
 row-left n table i x = rw (behind (i * n) table, mul-one) (getD-drop (i * n) table x 0)
 
-module _ (n : ℕ) (starts neighbours : List ℕ) (acc : Accepted n starts neighbours) where
-  -- any node has fewer than n neighbours
-  any-low : (x : ℕ) → x < n → isLow n (neighboursOf starts neighbours) x ≡ true
-  unfolding isLow isHigh
-  any-low x h = rw (lt-leb n (length (neighboursOf starts neighbours x)) (few-neighbours n starts neighbours acc x h))
+-- steps by a set of nodes and a part of a table are those by a test and by entries that say the same of nodes below n
+by-same : (part : Part) (G : Graph) → IsGraph (part .n) G → (may may′ : Nodes) (table : List ℕ) (left : ℕ → ℕ) (v : ℕ) → v < part .n
+    → ((x : ℕ) → x < part .n → may x ≡ may′ x) → ((x : ℕ) → leftIn part table x ≡ left x)
+    → stepsIn part G may table (leftIn part table v) v ≡ steps G may′ left (part .goal) (left v) v
+unfolding stepsIn
+by-same part G g may may′ table left v h e f =
+    steps-same (part .n) G g may may′ (leftIn part table) left (part .goal) e (λ x l. f x) (leftIn part table v) v h
+    ∙ ap (λ (d : ℕ). steps G may′ left (part .goal) d v) (f v)
 
-  module _ {count : ℕ} {old new : List ℕ} where
-    -- the part by low nodes goes by a column of Low
-    pub low-part : (s : ℕ) (low : List ℕ) (a b : ℕ) → a < n → s ≡ threshold n
-        → PartIs n (stepsIn starts neighbours s (take (length low - b) (drop b low)) n b (leftIn (take (length low - b) (drop b low)) n a) a) count old new
-        → PartIs n (byLow n (threshold n) (neighboursOf starts neighbours) low a b) count old new
-    unfolding byLow
-    low-part s low a b h e p =
-        let G : Graph = neighboursOf starts neighbours in
-        let t : List ℕ = take (length low - b) (drop b low) in
-        let same : steps G (isLow s G) (leftIn t n) b (leftIn t n a) a ≡ steps G (isLow s G) (λ x. entryAt n low x b) b (leftIn t n a) a =
-        steps-same n G (acc .lists .graph) (isLow s G) (isLow s G) (leftIn t n) (λ x. entryAt n low x b) b (λ x l. refl) (λ x l. column-left n low b x) (leftIn t n a) a h in
-        rw (same, column-left n low b a, e) at p
+module _ (n : ℕ) (G : Graph) (g : IsGraph n G) {count : ℕ} {old new : List ℕ} where
+  -- the part by low nodes goes by a column of Low
+  pub low-part : (s : ℕ) (low : List ℕ) (a b : ℕ) (may : Nodes) → a < n → s ≡ threshold n → may ≡ (λ v. ltb v n && isLow s G v)
+      → (let part : Part = record { n = n; goal = b; stride = n } in
+      PartIs n (stepsIn part G may (from b low) (leftIn part (from b low) a) a) count old new)
+      → PartIs n (byLow n (threshold n) G low a b) count old new
+  unfolding byLow
+  low-part s low a b may h e q p =
+      let part : Part = record { n = n; goal = b; stride = n } in
+      rw (by-same part G g may (isLow s G) (from b low) (λ x. entryAt n low x b) a h (low-are n s G may q) (column-left n low b), e) at p
 
-    -- and the part to a hub by a row of Full
-    pub hub-part : (full : List ℕ) (h v : ℕ) → v < n
-        → PartIs n (stepsIn starts neighbours n (take (length full - h * n) (drop (h * n) full)) 1 h (leftIn (take (length full - h * n) (drop (h * n) full)) 1 v) v) count old new
-        → PartIs n (toHub n (neighboursOf starts neighbours) full h v) count old new
-    unfolding toHub
-    hub-part full h v l p =
-        let G : Graph = neighboursOf starts neighbours in
-        let t : List ℕ = take (length full - h * n) (drop (h * n) full) in
-        let same : steps G (isLow n G) (leftIn t 1) h (leftIn t 1 v) v ≡ steps G (λ x. true) (λ x. entryAt n full h x) h (leftIn t 1 v) v =
-        steps-same n G (acc .lists .graph) (isLow n G) (λ x. true) (leftIn t 1) (λ x. entryAt n full h x) h any-low (λ x k. row-left n full h x) (leftIn t 1 v) v l in
-        rw (same, row-left n full h v) at p
+  -- and the part to a hub by a row of Full
+  pub hub-part : (full : List ℕ) (h v : ℕ) (may : Nodes) → v < n → may ≡ (λ v. ltb v n)
+      → (let part : Part = record { n = n; goal = h; stride = 1 } in
+      PartIs n (stepsIn part G may (from (h * n) full) (leftIn part (from (h * n) full) v) v) count old new)
+      → PartIs n (toHub n G full h v) count old new
+  unfolding toHub
+  hub-part full h v may l q p =
+      let part : Part = record { n = n; goal = h; stride = 1 } in
+      let all : (x : ℕ) → x < n → may x ≡ true = λ x k. ap (λ (f : Nodes). f x) q ∙ lt-ltb x n k in
+      rw (by-same part G g may (λ x. true) (from (h * n) full) (λ x. entryAt n full h x) v l all (row-left n full h)) at p

@@ -7,28 +7,29 @@ use mathlib.Core.Option.{Option, none as missing, some}
 use Prim.Native.Nat.{ℕ, _*_, _≤_, _<_}
 use lib.Dec.{eqb}
 use lib.ListN.{length, getD}
+use Rattle.base_nodeset.specs.NodeSet.{Nodes}
 use Rattle.model.specs.Basics.{over}
-use Rattle.model.specs.Survey.{neighboursOf}
-use Rattle.model.specs.Hubs.{isLow}
+use Rattle.model.specs.Survey.{Graph}
 use Rattle.model.specs.Walk.{steps}
+use Rattle.walk_parts.specs.declared.Part.{Part}
 
 -- the links left from x, in a row of a table (stride 1) or in a column (stride n)
-abbrev pub leftIn : List ℕ → ℕ → ℕ → ℕ
-leftIn table stride x = getD table (x * stride) 0
+abbrev pub leftIn : Part → List ℕ → ℕ → ℕ
+leftIn part table x = getD table (x * part .stride) 0
 
 -- each node has such an entry
-pub record Inside (n : ℕ) (table : List ℕ) (stride : ℕ) : Type 0 where
-  pub few : stride ≤ 1024
-  pub holds : (x : ℕ) → x < n → x * stride < length table
+pub record Inside (part : Part) (table : List ℕ) : Type 0 where
+  pub few : part .n ≤ 1024
+  pub near : part .stride ≤ 1024
+  pub holds : (x : ℕ) → x < part .n → x * part .stride < length table
 
--- a walk may go on to x: it has fewer than `limit` neighbours (a low node, or any) and is d links from the goal
-abbrev pub leadsOn : (starts neighbours : List ℕ) (limit : ℕ) (table : List ℕ) (stride d x : ℕ) → Bool
-leadsOn starts neighbours limit table stride d x = isLow limit (neighboursOf starts neighbours) x && eqb (leftIn table stride x) d
+-- a part may go on to x: it may be entered, and is d links from the goal
+unfoldable pub leadsOn : Part → (may : Nodes) (table : List ℕ) (d x : ℕ) → Bool
+leadsOn part may table d x = may x && eqb (leftIn part table x) d
 
 -- d steps from v to the goal
-abbrev pub stepsIn : (starts neighbours : List ℕ) (limit : ℕ) (table : List ℕ) (stride goal d v : ℕ) → Option (List ℕ)
-stepsIn starts neighbours limit table stride goal d v =
-    steps (neighboursOf starts neighbours) (isLow limit (neighboursOf starts neighbours)) (leftIn table stride) goal d v
+unfoldable pub stepsIn : Part → Graph → (may : Nodes) (table : List ℕ) (d v : ℕ) → Option (List ℕ)
+stepsIn part G may table d v = steps G may (leftIn part table) (part .goal) d v
 
 -- whether there is a part
 abbrev pub isFound : Option (List ℕ) → Bool

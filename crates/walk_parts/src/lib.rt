@@ -3,53 +3,41 @@ ghost use mathlib.Core.Path.{_≡_};
 ghost use Prim.Native.Nat.{ℕ, _*_, _≤_, _<_};
 ghost use lib.Dec.{T};
 ghost use lib.ListN.{length};
-ghost use Rattle.survey_neighbours.specs.Rows.{Rows};
+ghost use Rattle.base_nodeset.specs.NodeSet.{member};
 ghost use Rattle.model.specs.Basics.{none, has, firstOf};
 ghost use Rattle.model.specs.Survey.{neighboursOf, Accepted};
 ghost use Rattle.model.specs.Threshold.{threshold};
 ghost use Rattle.model.specs.Walk.{byLow, toHub};
 ghost use Rattle.walk_parts.specs.Parts.{leftIn, leadsOn, stepsIn, Inside, isFound, Leaves, PartIs};
 
-// Whether a walk may go on to x: it is d links from the goal and has fewer than `limit` neighbours.
-fn leads_on(
+// What is the same at each step of a part: the count of nodes, the node where it ends, and how far from each other the table's entries for
+// node x and node x + 1 stand (1 in a row, n in a column).
+struct Part {
     n: usize,
-    starts: &[u32],
-    neighbours: &[u16],
-    limit: usize,
-    table: &[u16],
+    goal: usize,
     stride: usize,
-    d: usize,
-    x: usize,
-) -> bool
-    requires { ⌜ Rows n (now starts) (now neighbours) × Inside n (now table) stride × (x < n) ⌝ }
-    ensures { λ r. ⌜ r ≡ leadsOn (now (starts .entry)) (now (neighbours .entry)) limit (now (table .entry)) stride d x ⌝ }
-{
-    if table[x * stride] as usize != d {
-        return false;
-    }
-    let row = survey_neighbours::own(n, starts, neighbours, x);
-    row.len() < limit
 }
 
-// The first node of a row that a walk may go on to, or none.
-fn next_node(
-    n: usize,
-    starts: &[u32],
-    neighbours: &[u16],
-    row: &[u16],
-    limit: usize,
-    table: &[u16],
-    stride: usize,
-    d: usize,
-) -> u16
-    requires { ⌜ Rows n (now starts) (now neighbours) × Inside n (now table) stride ⌝ }
-    requires { ⌜ ((x : ℕ) → T (has x (now row)) → x < n) ⌝ }
-    ensures { λ r. ⌜ r ≡ firstOf (leadsOn (now (starts .entry)) (now (neighbours .entry)) limit (now (table .entry)) stride d) none (now (row .entry)) ⌝ }
+// Whether a part may go on to x: it is d links from the goal and may be entered.
+fn leads_on(part: Part, allowed: &[u64], table: &[u16], d: usize, x: usize) -> bool
+    requires { ⌜ Inside part (now table) × (length (now allowed) ≡ 16) × (x < part .n) ⌝ }
+    ensures { λ r. ⌜ r ≡ leadsOn part (member (now (allowed .entry))) (now (table .entry)) d x ⌝ }
+{
+    if table[x * part.stride] as usize != d {
+        return false;
+    }
+    base_nodeset::contains(allowed, x)
+}
+
+// The first node of a row that a part may go on to, or none.
+fn next_node(part: Part, allowed: &[u64], table: &[u16], d: usize, row: &[u16]) -> u16
+    requires { ⌜ Inside part (now table) × (length (now allowed) ≡ 16) × ((x : ℕ) → T (has x (now row)) → x < part .n) ⌝ }
+    ensures { λ r. ⌜ r ≡ firstOf (leadsOn part (member (now (allowed .entry))) (now (table .entry)) d) none (now (row .entry)) ⌝ }
 {
     let mut i = 0;
     while i < row.len() {
         let x = row[i];
-        if leads_on(n, starts, neighbours, limit, table, stride, d, x as usize) {
+        if leads_on(part, allowed, table, d, x as usize) {
             return x;
         }
         i += 1;
@@ -58,79 +46,66 @@ fn next_node(
 }
 
 // Takes d steps from v, each to the first neighbour that leaves one link fewer, and tells whether they end at the goal. A node's
-// place in `nodes` is the number of links left from it, and its distance in the table is the entry at node * stride.
+// place in `nodes` is the number of links left from it.
 fn take_steps(
-    n: usize,
+    part: Part,
     starts: &[u32],
     neighbours: &[u16],
-    limit: usize,
+    allowed: &[u64],
     table: &[u16],
-    stride: usize,
-    goal: usize,
     d: usize,
     v: usize,
     nodes: &mut [u16],
 ) -> bool
-    requires { ⌜ Accepted n (now starts) (now neighbours) × Inside n (now table) stride × (v < n) × (d < length (now nodes)) ⌝ }
-    ensures { λ r. ⌜ r ≡ isFound (stepsIn (now (starts .entry)) (now (neighbours .entry)) limit (now (table .entry)) stride goal d v) ⌝ }
-    ensures { λ _. ⌜ Leaves (stepsIn (now (starts .entry)) (now (neighbours .entry)) limit (now (table .entry)) stride goal d v) (now (nodes .entry)) (now (nodes .exit)) ⌝ }
+    requires { ⌜ Accepted (part .n) (now starts) (now neighbours) × Inside part (now table) × (length (now allowed) ≡ 16) ⌝ }
+    requires { ⌜ (v < part .n) × (d < length (now nodes)) ⌝ }
+    ensures { λ r. ⌜ r ≡ isFound (stepsIn part (neighboursOf (now (starts .entry)) (now (neighbours .entry))) (member (now (allowed .entry))) (now (table .entry)) d v) ⌝ }
+    ensures { λ _. ⌜ Leaves (stepsIn part (neighboursOf (now (starts .entry)) (now (neighbours .entry))) (member (now (allowed .entry))) (now (table .entry)) d v)
+        (now (nodes .entry)) (now (nodes .exit)) ⌝ }
 {
     nodes[d] = v as u16;
     if d == 0 {
-        return v == goal;
+        return v == part.goal;
     }
-    let row = survey_neighbours::own(n, starts, neighbours, v);
-    let x = next_node(n, starts, neighbours, row, limit, table, stride, d - 1);
+    let row = survey_neighbours::own(part.n, starts, neighbours, v);
+    let x = next_node(part, allowed, table, d - 1, row);
     if x == model::NONE {
         return false;
     }
     take_steps(
-        n,
+        part,
         starts,
         neighbours,
-        limit,
+        allowed,
         table,
-        stride,
-        goal,
         d - 1,
         x as usize,
         nodes,
     )
 }
 
-// Writes the part from v to the goal into `nodes`, as `take_steps` does, and answers the count of its nodes, or 0 where there is no
-// such part. One of n links or more would enter more nodes than there are: so no recursion is deeper than n.
+// Writes the part from v into `nodes`, as `take_steps` does, and answers the count of its nodes, or 0 where there is no such part. One of n
+// links or more would enter more nodes than there are: so no recursion is deeper than n.
 fn write_part(
-    n: usize,
+    part: Part,
     starts: &[u32],
     neighbours: &[u16],
-    limit: usize,
+    allowed: &[u64],
     table: &[u16],
-    stride: usize,
-    goal: usize,
     v: usize,
     nodes: &mut [u16],
 ) -> usize
-    requires { ⌜ Accepted n (now starts) (now neighbours) × Inside n (now table) stride × (v < n) × (n ≤ length (now nodes)) ⌝ }
-    ensures { λ r. ⌜ PartIs n (stepsIn (now (starts .entry)) (now (neighbours .entry)) limit (now (table .entry)) stride goal (leftIn (now (table .entry)) stride v) v)
+    requires { ⌜ Accepted (part .n) (now starts) (now neighbours) × Inside part (now table) × (length (now allowed) ≡ 16) ⌝ }
+    requires { ⌜ (v < part .n) × (part .n ≤ length (now nodes)) ⌝ }
+    ensures { λ r. ⌜ PartIs (part .n)
+        (stepsIn part (neighboursOf (now (starts .entry)) (now (neighbours .entry))) (member (now (allowed .entry))) (now (table .entry)) (leftIn part (now (table .entry)) v) v)
         r (now (nodes .entry)) (now (nodes .exit)) ⌝ }
 {
-    let d = table[v * stride] as usize;
-    if n <= d {
+    let d = table[v * part.stride] as usize;
+    if part.n <= d {
         return 0;
     }
-    if !take_steps(
-        n,
-        starts,
-        neighbours,
-        limit,
-        table,
-        stride,
-        goal,
-        d,
-        v,
-        nodes,
-    ) {
+    if !take_steps(part, starts, neighbours, allowed, table, d, v, nodes) {
         return 0;
     }
     d + 1
@@ -151,10 +126,17 @@ pub fn low_part(
         r (now (nodes .entry)) (now (nodes .exit)) ⌝ }
 {
     let s = base_threshold::threshold_at(n);
-    write_part(n, starts, neighbours, s, &low[b..], n, b, a, nodes)
+    let mut allowed = [0u64; 16];
+    table_degrees::low_nodes(n, s, starts, neighbours, &mut allowed);
+    let part = Part {
+        n,
+        goal: b,
+        stride: n,
+    };
+    write_part(part, starts, neighbours, &allowed, &low[b..], a, nodes)
 }
 
-// The part from v to hub h: distances from h stand in a row of Full, and any node may be entered, since none has n neighbours.
+// The part from v to hub h: distances from h stand in a row of Full, and any node may be entered.
 pub fn hub_part(
     n: usize,
     starts: &[u32],
@@ -168,6 +150,13 @@ pub fn hub_part(
     ensures { λ r. ⌜ PartIs n (toHub n (neighboursOf (now (starts .entry)) (now (neighbours .entry))) (now (full .entry)) h v)
         r (now (nodes .entry)) (now (nodes .exit)) ⌝ }
 {
+    let mut allowed = [0u64; 16];
+    base_nodeset::insert_below(&mut allowed, n);
+    let part = Part {
+        n,
+        goal: h,
+        stride: 1,
+    };
     let first = h * n;
-    write_part(n, starts, neighbours, n, &full[first..], 1, h, v, nodes)
+    write_part(part, starts, neighbours, &allowed, &full[first..], v, nodes)
 }

@@ -22,10 +22,10 @@ low-nodes-requires : tie.Need-low-nodes-requires
 low-nodes-requires c κs = search needs
 
 slice-aggregate-smallest : tie.Need-slice-aggregate-smallest
-slice-aggregate-smallest c = sym ((c .before .before .low-nodes .kept .1 .1 .1 .1 .0) ∙ length-replicate {A = ℕ} 16 0)
+slice-aggregate-smallest c = search needs
 
 smallest-requires : tie.Need-smallest-requires
-smallest-requires c κs = omega (arith, ((c .before .before .low-nodes .kept .1 .1 .1 .1 .0) ∙ length-replicate {A = ℕ} 16 0))
+smallest-requires c κs = search needs
 
 choose-hubs-requires : tie.Need-choose-hubs-requires
 choose-hubs-requires c κs = search needs
@@ -41,18 +41,18 @@ returns c =
     let at-if1 = c .before .before .before .before in
     let at-choose-hubs = c .before .before in (
       (at-choose-hubs .choose-hubs .ensures .0) ∙ ap length
-          (sym (sources-hubs (start .args .n) (start .args .s) (neighboursOf (start .args .starts .now) (start .args .neighbours .now))
-          (start .pre .0 .size) (member (at-low-nodes .low-nodes .last .1 .1 .1 .1 .0)) (at-low-nodes .low-nodes .ensures)
-          (64 * length (at-low-nodes .low-nodes .last .1 .1 .1 .1 .0)) (at-smallest .smallest .result)
-          (omega (arith, ((at-low-nodes .low-nodes .kept .1 .1 .1 .1 .0) ∙ length-replicate {A = ℕ} 16 0), (start .pre .0 .size)))
+          (sym (sources-hubs _ _ (neighboursOf _ _)
+          (start .pre .0 .size) (member _) (at-low-nodes .low-nodes .ensures)
+          (64 * length (at-low-nodes .low-nodes .last .1 .1 .1 .1 .0)) _
+          (omega arith)
           (at-smallest .smallest .ensures) (at-if1 .if1 .taken))),
-      hubs-front (start .args .n) (start .args .s)
-          (neighboursOf (start .args .starts .now) (start .args .neighbours .now)) (start .args .list .now) _ _
+      hubs-front _ _
+          (neighboursOf _ _) _ _ _
           (at-choose-hubs .choose-hubs .ensures .0) (at-choose-hubs .choose-hubs .ensures .1) ∙ sym
-          (sources-hubs (start .args .n) (start .args .s) (neighboursOf (start .args .starts .now) (start .args .neighbours .now))
-          (start .pre .0 .size) (member (at-low-nodes .low-nodes .last .1 .1 .1 .1 .0)) (at-low-nodes .low-nodes .ensures)
-          (64 * length (at-low-nodes .low-nodes .last .1 .1 .1 .1 .0)) (at-smallest .smallest .result)
-          (omega (arith, ((at-low-nodes .low-nodes .kept .1 .1 .1 .1 .0) ∙ length-replicate {A = ℕ} 16 0), (start .pre .0 .size)))
+          (sources-hubs _ _ (neighboursOf _ _)
+          (start .pre .0 .size) (member _) (at-low-nodes .low-nodes .ensures)
+          (64 * length (at-low-nodes .low-nodes .last .1 .1 .1 .1 .0)) _
+          (omega arith)
           (at-smallest .smallest .ensures) (at-if1 .if1 .taken)),
     )
 
@@ -63,9 +63,7 @@ slice-write-list : tie.Need-slice-write-list
 slice-write-list c = search needs
 
 own-requires : tie.Need-own-requires
-own-requires c κs =
-    let start = c .before .before .before .before .before .before .before .before .before in
-    (rows-of (start .pre .0), (c .if1 .left))
+own-requires c κs = search needs
 
 copy16-requires : tie.Need-copy16-requires
 copy16-requires c κs =
@@ -74,9 +72,8 @@ copy16-requires c κs =
     omega (
       arith,
       ap length (c .before .own .ensures),
-      few-neighbours (start .args .n) (start .args .starts .now)
-          (start .args .neighbours .now) (start .pre .0) (at-smallest .smallest .result) (c .before .before .if1 .left),
-      (start .pre .1),
+      few-neighbours _ _
+          _ (start .pre .0) _ (c .before .before .if1 .left),
       length-set (start .args .list .now) 0 (at-smallest .smallest .result),
     )
 
@@ -86,8 +83,7 @@ add-result c = search needs
 same-length-2 : tie.Need-same-length-2
 same-length-2 c =
     let start = c .before .before .before .before .before .before .before .before .before .before .before .before .before .before in
-    let at-smallest = c .before .before .before .before .before .before in
-    (c .before .before .copy16 .kept .1 .0) ∙ length-set (start .args .list .now) 0 (at-smallest .smallest .result)
+    (c .before .before .copy16 .kept .1 .0) ∙ length-set (start .args .list .now) 0 _
 
 returns-2 : tie.Need-returns-2
 returns-2 c =
@@ -100,25 +96,24 @@ returns-2 c =
         arith,
         ap length (at-own .own .ensures),
         ap length
-            (sources-low (start .args .n) (start .args .s) (neighboursOf (start .args .starts .now) (start .args .neighbours .now))
-            (start .pre .0 .size) (member (at-low-nodes .low-nodes .last .1 .1 .1 .1 .0)) (at-low-nodes .low-nodes .ensures)
-            (64 * length (at-low-nodes .low-nodes .last .1 .1 .1 .1 .0)) (at-smallest .smallest .result)
-            (omega (arith, ((at-low-nodes .low-nodes .kept .1 .1 .1 .1 .0) ∙ length-replicate {A = ℕ} 16 0), (start .pre .0 .size)))
+            (sources-low _ _ (neighboursOf _ _)
+            (start .pre .0 .size) (member _) (at-low-nodes .low-nodes .ensures)
+            (64 * length (at-low-nodes .low-nodes .last .1 .1 .1 .1 .0)) _
+            (omega arith)
             (at-smallest .smallest .ensures) (at-if1 .if1 .left)),
       ),
-      two-written (start .args .list .now) _ _ (at-smallest .smallest .result) _
+      two-written (start .args .list .now) _ _ _ _
           (omega (
             arith,
             ap length (at-own .own .ensures),
-            few-neighbours (start .args .n) (start .args .starts .now)
-                (start .args .neighbours .now) (start .pre .0) (at-smallest .smallest .result) (at-if1 .if1 .left),
-            (start .pre .1),
+            few-neighbours _ _
+                _ (start .pre .0) _ (at-if1 .if1 .left),
           ))
           (c .before .before .copy16 .ensures) ∙ ap (λ (l : List ℕ). (at-smallest .smallest .result) ∷ l) (at-own .own .ensures) ∙ sym
-          (sources-low (start .args .n) (start .args .s) (neighboursOf (start .args .starts .now) (start .args .neighbours .now))
-          (start .pre .0 .size) (member (at-low-nodes .low-nodes .last .1 .1 .1 .1 .0)) (at-low-nodes .low-nodes .ensures)
-          (64 * length (at-low-nodes .low-nodes .last .1 .1 .1 .1 .0)) (at-smallest .smallest .result)
-          (omega (arith, ((at-low-nodes .low-nodes .kept .1 .1 .1 .1 .0) ∙ length-replicate {A = ℕ} 16 0), (start .pre .0 .size)))
+          (sources-low _ _ (neighboursOf _ _)
+          (start .pre .0 .size) (member _) (at-low-nodes .low-nodes .ensures)
+          (64 * length (at-low-nodes .low-nodes .last .1 .1 .1 .1 .0)) _
+          (omega arith)
           (at-smallest .smallest .ensures) (at-if1 .if1 .left)),
     )
 

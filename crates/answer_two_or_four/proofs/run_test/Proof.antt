@@ -17,24 +17,20 @@ slice-aggregate-find-sources : tie.Need-slice-aggregate-find-sources
 slice-aggregate-find-sources c = search needs
 
 find-sources-requires : tie.Need-find-sources-requires
-find-sources-requires c κs =
-    let start = c .before .before .before in
-    ((start .pre), omega (arith, (start .pre .size)))
+find-sources-requires c κs = search needs
 
 array-share-prefix-list : tie.Need-array-share-prefix-list
 array-share-prefix-list c =
-    let start = c .before .before .before .before .before in
     let at-find-sources = c .before in
-    sources-fit (start .args .n) (start .args .s) (neighboursOf (start .args .starts .now) (start .args .neighbours .now))
-    (at-find-sources .find-sources .last .1 .1 .1 .1 .0) (at-find-sources .find-sources .result)
+    sources-fit _ _ (neighboursOf _ _)
+    _ _
     (at-find-sources .find-sources .ensures .0) (at-find-sources .find-sources .ensures .1)
 
 slice-aggregate-search-depth : tie.Need-slice-aggregate-search-depth
 slice-aggregate-search-depth c =
-    let start = c .before .before .before .before .before .before in
     let at-find-sources = c .before .before in
-    sources-long (start .args .n) (start .args .s) (neighboursOf (start .args .starts .now) (start .args .neighbours .now))
-    (at-find-sources .find-sources .last .1 .1 .1 .1 .0) (at-find-sources .find-sources .result)
+    sources-long _ _ (neighboursOf _ _)
+    _ _
     (at-find-sources .find-sources .ensures .0) (at-find-sources .find-sources .ensures .1)
 
 search-depth-requires : tie.Need-search-depth-requires
@@ -42,8 +38,8 @@ search-depth-requires c κs =
     let start = c .before .before .before .before .before .before in (
       (start .pre),
       subst (λ (l : List ℕ). (h : ℕ) → T (has h l) → h < (start .args .n)) (sym (c .before .before .find-sources .ensures .1))
-          (source-below _ _ _ _ _ (source-cases (start .args .n) (start .args .s)
-          (neighboursOf (start .args .starts .now) (start .args .neighbours .now)) (start .pre .lists .graph) (start .pre .size))),
+          (source-below _ _ _ _ _ (source-cases _ _
+          (neighboursOf _ _) (start .pre .lists .graph) (start .pre .size))),
     )
 
 verdict-on-requires : tie.Need-verdict-on-requires
@@ -53,8 +49,8 @@ returns : tie.Need-returns
 returns c =
     let start = c .before .before .before .before .before .before .before .before in
     let at-find-sources = c .before .before .before .before in
-    result-is (start .args .n) (start .args .s) (neighboursOf (start .args .starts .now) (start .args .neighbours .now))
-    (at-find-sources .find-sources .last .1 .1 .1 .1 .0) (at-find-sources .find-sources .result)
+    result-is _ _ (neighboursOf _ _)
+    _ _
     (at-find-sources .find-sources .ensures .0) (at-find-sources .find-sources .ensures .1) (start .pre .size) _ _
     (c .verdict-on .ensures) (c .before .search-depth .ensures)
 

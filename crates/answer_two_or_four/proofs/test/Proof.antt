@@ -1,5 +1,6 @@
 -- `answer_two_or_four::test` meets its contract: acceptance, then the test for s(n).
 -- Assumes nothing.
+use native.Mathlib.Omega.{arith}
 use mathlib.Core.Path.{sym, ap, _∙_}
 use Rattle.model.specs.Answers.{acceptAnswer}
 use Rattle.model.proofs.Acceptance.{accepting-facts}
@@ -19,31 +20,27 @@ enum-told c = search needs
 
 threshold-at-requires : tie.Need-threshold-at-requires
 threshold-at-requires c κs =
-    let start = c .before .before .before .before .before in
     let at-accept = c .before .before in (
-      (accepting-facts (start .args .n) (start .args .starts .now) (start .args .neighbours .now) tt
+      (accepting-facts _ _ _ tt
           (sym (sym (ap acceptAnswer (c .enum-told .given .1)) ∙ (at-accept .accept .ensures)))) .some-node,
-      (accepting-facts (start .args .n) (start .args .starts .now) (start .args .neighbours .now) tt
+      (accepting-facts _ _ _ tt
           (sym (sym (ap acceptAnswer (c .enum-told .given .1)) ∙ (at-accept .accept .ensures)))) .size,
     )
 
 run-test-requires : tie.Need-run-test-requires
 run-test-requires c κs =
-    let start = c .before .before .before .before .before .before in
-    (accepting-facts (start .args .n) (start .args .starts .now) (start .args .neighbours .now) tt
+    (accepting-facts _ _ _ tt
     (sym (sym (ap acceptAnswer (c .before .enum-told .given .1)) ∙ (c .before .before .before .accept .ensures))))
 
 returns : tie.Need-returns
 returns c =
-    let start = c .before .before .before .before .before .before in
     let at-r = c .before in
-    test-refused (start .args .n) (start .args .starts .now) (start .args .neighbours .now) (at-r .r .given .0 .0)
+    test-refused _ _ _ (at-r .r .given .0 .0)
     (sym (ap acceptAnswer (at-r .r .given .1)) ∙ (c .before .before .before .accept .ensures))
 
 returns-2 : tie.Need-returns-2
 returns-2 c =
-    let start = c .before .before .before .before .before .before .before in
-    test-done (start .args .n) (start .args .starts .now) (start .args .neighbours .now)
+    test-done _ _ _
     (sym (ap acceptAnswer (c .before .before .enum-told .given .1)) ∙ (c .before .before .before .before .accept .ensures)) _ _
     (c .before .threshold-at .ensures) (c .run-test .ensures)
 

@@ -1,5 +1,6 @@
 -- `base_lists::copy16_reversed` meets its contract: a copy of the list turned round.
 -- Assumes nothing.
+use borrow.Author.Needs.{needs}
 use mathlib.Core.Path.{_≡_, sym}
 use mathlib.Core.List.{reverse}
 use native.Mathlib.Omega.{arith}
@@ -34,7 +35,7 @@ mul-list-2 : tie.Need-mul-list-2 Inv-loop μ-loop
 mul-list-2 c = omega arith
 
 slice-write-list : tie.Need-slice-write-list Inv-loop μ-loop
-slice-write-list c = omega (arith, (c .before .before .loop .inv .same))
+slice-write-list c = search needs
 
 add-i : tie.Need-add-i Inv-loop μ-loop
 add-i c = omega arith
@@ -46,12 +47,12 @@ loop-again : tie.Need-loop-again Inv-loop μ-loop
 loop-again c =
     let start = c .before .before .before in
     let at-loop = c .before .before in
-    copied-more (reverse (start .args .from .now)) _ 0 (omega (arith, length-reverse (start .args .from .now), (start .pre))) _
-    (at-loop .loop .i) (at-loop .loop .inv) (omega (arith, length-reverse (start .args .from .now))) _ _ (omega arith)
-    (sym (getD-reverse (start .args .from .now) (at-loop .loop .i) 0 (c .before .loop-test .taken)))
+    copied-more (reverse (start .args .from .now)) _ 0 (omega (arith, length-reverse (start .args .from .now))) _
+    _ (at-loop .loop .inv) (omega (arith, length-reverse (start .args .from .now))) _ _ (omega arith)
+    (sym (getD-reverse (start .args .from .now) _ 0 (c .before .loop-test .taken)))
 
 same-length : tie.Need-same-length Inv-loop μ-loop
-same-length c = (c .before .loop .inv .same)
+same-length c = search needs
 
 returns : tie.Need-returns Inv-loop μ-loop
 returns c =
@@ -59,8 +60,8 @@ returns c =
     let at-loop = c .before in
     let e : 0 + length (reverse (start .args .from .now)) ≡ length (start .args .from .now) = omega
     (arith, length-reverse (start .args .from .now)) in rw e at
-    (copied-all (reverse (start .args .from .now)) _ 0 _ (at-loop .loop .i) (at-loop .loop .inv)
-    (omega (arith, length-reverse (start .args .from .now))))
+    (copied-all (reverse (start .args .from .now)) _ 0 _ _ (at-loop .loop .inv)
+    (omega arith))
 
 pub copy16-reversed-spec : {M : Type 1} → statement M
 copy16-reversed-spec =

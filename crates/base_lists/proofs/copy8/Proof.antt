@@ -1,5 +1,6 @@
 -- `base_lists::copy8` meets its contract: a copy.
 -- Assumes nothing.
+use borrow.Author.Needs.{needs}
 use mathlib.Core.Path.{refl}
 use native.Mathlib.Omega.{arith}
 use Prim.Native.Nat.{_-_}
@@ -21,10 +22,10 @@ shared-slice-read-list : tie.Need-shared-slice-read-list Inv-loop μ-loop
 shared-slice-read-list c = omega arith
 
 add-list : tie.Need-add-list Inv-loop μ-loop
-add-list c = omega (arith, (c .before .before .loop .inv .same))
+add-list c = search needs
 
 slice-write-list : tie.Need-slice-write-list Inv-loop μ-loop
-slice-write-list c = omega (arith, (c .before .before .loop .inv .same))
+slice-write-list c = search needs
 
 add-i : tie.Need-add-i Inv-loop μ-loop
 add-i c = omega arith
@@ -37,7 +38,7 @@ loop-again c = copied-more _ _ _ (c .before .before .before .pre) _ _ (c .before
     refl
 
 same-length : tie.Need-same-length Inv-loop μ-loop
-same-length c = (c .before .loop .inv .same)
+same-length c = search needs
 
 returns : tie.Need-returns Inv-loop μ-loop
 returns c = copied-all _ _ _ _ _ (c .before .loop .inv) (c .loop-test .left)

@@ -17,7 +17,7 @@ shr-result c = search needs
 
 returns : tie.Need-returns
 unfolding member bit
-returns c = refl
+returns c = search needs
 
 pub contains-spec : {M : Type 1} → statement M
 contains-spec = tie.close (tie.spec mul-result shared-slice-read-result shr-result returns)

@@ -24,25 +24,24 @@ shared-slice-read-total : tie.Need-shared-slice-read-total Inv-loop μ-loop
 shared-slice-read-total c = search needs
 
 mul-total-2 : tie.Need-mul-total-2 Inv-loop μ-loop
-mul-total-2 c = omega (arith, (c .before .before .before .pre .0))
+mul-total-2 c = search needs
 
 shared-slice-read-total-2 : tie.Need-shared-slice-read-total-2 Inv-loop μ-loop
-shared-slice-read-total-2 c = omega (arith, (c .before .before .before .before .pre .0))
+shared-slice-read-total-2 c = search needs
 
 cast-total : tie.Need-cast-total Inv-loop μ-loop
 cast-total c =
     let at-loop = c .before .before .before in
-    omega (arith, counted-ones _ _ _ _ (at-loop .loop .inv) ((c .before .shared-slice-known .given) (at-loop .loop .i) .fits))
+    omega (arith, counted-ones _ _ _ _ (at-loop .loop .inv) ((c .before .shared-slice-known .given) _ .fits))
 
 add-total : tie.Need-add-total Inv-loop μ-loop
 add-total c =
     let at-loop = c .before .before .before in
     omega (
       arith,
-      counted-ones _ _ _ _ (at-loop .loop .inv) ((c .before .shared-slice-known .given) (at-loop .loop .i) .fits),
+      counted-ones _ _ _ _ (at-loop .loop .inv) ((c .before .shared-slice-known .given) _ .fits),
       counted-few
           _ _ _ _ (at-loop .loop .inv),
-      (c .before .before .before .before .pre .1),
     )
 
 add-i : tie.Need-add-i Inv-loop μ-loop
@@ -55,7 +54,7 @@ loop-again : tie.Need-loop-again Inv-loop μ-loop
 loop-again c =
     let at-loop = c .before .before .before in
     counted-more _ _ _ _ (at-loop .loop .inv) (c .before .before .loop-test .taken)
-    ((c .before .shared-slice-known .given) (at-loop .loop .i) .fits)
+    ((c .before .shared-slice-known .given) _ .fits)
 
 returns : tie.Need-returns Inv-loop μ-loop
 returns c = counted-all _ _ _ _ (c .before .loop .inv) (c .loop-test .left)

@@ -1,5 +1,6 @@
 -- `base_nodeset::insert` meets its contract, by the law for one set bit.
 -- Assumes nothing.
+use native.Mathlib.Omega.{arith}
 use Rattle.base_nodeset.proofs.Bits.{set-with}
 use borrow.Author.Needs.{needs}
 use Rattle.base_nodeset.proofs.insert.Statement.{statement}
@@ -26,7 +27,7 @@ same-length c = search needs
 returns : tie.Need-returns
 returns c =
     let start = c .before in
-    set-with (start .args .words .now) (start .args .v) (start .pre)
+    set-with _ _ (start .pre)
 
 pub insert-spec : {M : Type 1} → statement M
 insert-spec =

@@ -21,10 +21,10 @@ loop-holds : tie.Need-loop-holds Inv-loop μ-loop
 loop-holds c = (omega arith, below-none _ (c .pre .0))
 
 mul-words : tie.Need-mul-words Inv-loop μ-loop
-mul-words c = omega (arith, (c .before .before .pre .1))
+mul-words c = search needs
 
 slice-write-words : tie.Need-slice-write-words Inv-loop μ-loop
-slice-write-words c = omega (arith, (c .before .before .pre .1), (c .before .loop .inv .1) .long)
+slice-write-words c = search needs
 
 add-i : tie.Need-add-i Inv-loop μ-loop
 add-i c = search needs
@@ -33,7 +33,7 @@ loop-less : tie.Need-loop-less Inv-loop μ-loop
 loop-less c = search needs
 
 loop-again : tie.Need-loop-again Inv-loop μ-loop
-loop-again c = (omega arith, below-word _ _ (omega (arith, (c .before .before .pre .1))) (c .before .loop .inv .1))
+loop-again c = (omega arith, below-word _ _ (omega arith) (c .before .loop .inv .1))
 
 shl-words : tie.Need-shl-words Inv-loop μ-loop
 shl-words c = search needs
@@ -41,13 +41,13 @@ shl-words c = search needs
 sub-words : tie.Need-sub-words Inv-loop μ-loop
 sub-words c =
     let start = c .before .before .before in
-    rw (shifted ((start .args .n) % 64) (omega arith)) (pow-pos ((start .args .n) % 64))
+    rw (shifted ((start .args .n) % 64) (omega arith)) (pow-pos (_ % 64))
 
 mul-words-2 : tie.Need-mul-words-2 Inv-loop μ-loop
-mul-words-2 c = omega (arith, (c .before .before .before .pre .1))
+mul-words-2 c = search needs
 
 slice-write-words-2 : tie.Need-slice-write-words-2 Inv-loop μ-loop
-slice-write-words-2 c = omega (arith, (c .before .before .before .pre .1), (c .if1 .taken), (c .before .before .loop .inv .1) .long)
+slice-write-words-2 c = search needs
 
 same-length : tie.Need-same-length Inv-loop μ-loop
 same-length c =
@@ -63,7 +63,7 @@ returns c =
     (c .if1 .taken) .says
 
 same-length-2 : tie.Need-same-length-2 Inv-loop μ-loop
-same-length-2 c = (c .before .before .loop .inv .1) .long ∙ sym (ap length (c .before .before .before .pre .0))
+same-length-2 c = search needs
 
 returns-2 : tie.Need-returns-2 Inv-loop μ-loop
 returns-2 c =

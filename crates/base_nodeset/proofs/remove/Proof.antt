@@ -1,5 +1,6 @@
 -- `base_nodeset::remove` meets its contract, by the law for one cleared bit.
 -- Assumes nothing.
+use native.Mathlib.Omega.{arith}
 use Rattle.base_nodeset.proofs.Bits.{set-without}
 use borrow.Author.Needs.{needs}
 use Rattle.base_nodeset.proofs.remove.Statement.{statement}
@@ -26,7 +27,7 @@ same-length c = search needs
 returns : tie.Need-returns
 returns c =
     let start = c .before in
-    set-without (start .args .words .now) (start .args .v) (start .pre)
+    set-without _ _ (start .pre)
 
 pub remove-spec : {M : Type 1} → statement M
 remove-spec =

@@ -24,7 +24,7 @@ shared-slice-read-word : tie.Need-shared-slice-read-word Inv-loop μ-loop
 shared-slice-read-word c = search needs
 
 mul-result : tie.Need-mul-result Inv-loop μ-loop
-mul-result c = omega (arith, (c .before .before .before .before .pre))
+mul-result c = search needs
 
 cast-result : tie.Need-cast-result Inv-loop μ-loop
 cast-result c =
@@ -32,7 +32,7 @@ cast-result c =
     omega (
       arith,
       clear-below _ _ (at-loop .loop .inv) (c .before .before .loop-test .taken) (c .if1 .taken)
-          ((c .before .shared-slice-known .given) (at-loop .loop .i) .fits),
+          ((c .before .shared-slice-known .given) _ .fits),
     )
 
 add-result : tie.Need-add-result Inv-loop μ-loop
@@ -41,15 +41,14 @@ add-result c =
     omega (
       arith,
       clear-below _ _ (at-loop .loop .inv) (c .before .before .loop-test .taken) (c .if1 .taken)
-          ((c .before .shared-slice-known .given) (at-loop .loop .i) .fits),
-      (c .before .before .before .before .pre),
+          ((c .before .shared-slice-known .given) _ .fits),
     )
 
 returns : tie.Need-returns Inv-loop μ-loop
 returns c =
     let at-loop = c .before .before .before in
     clear-first _ _ (at-loop .loop .inv) (c .before .before .loop-test .taken) (c .if1 .taken)
-    ((c .before .shared-slice-known .given) (at-loop .loop .i) .fits)
+    ((c .before .shared-slice-known .given) _ .fits)
 
 add-i : tie.Need-add-i Inv-loop μ-loop
 add-i c = search needs
@@ -61,7 +60,7 @@ loop-again : tie.Need-loop-again Inv-loop μ-loop
 loop-again c = clear-more _ _ (c .before .before .before .loop .inv) (c .before .before .loop-test .taken) (c .if1 .left)
 
 mul-result-2 : tie.Need-mul-result-2 Inv-loop μ-loop
-mul-result-2 c = omega (arith, (c .before .loop .inv) .within, (c .before .before .pre))
+mul-result-2 c = search needs
 
 returns-2 : tie.Need-returns-2 Inv-loop μ-loop
 returns-2 c = clear-all _ _ (c .before .loop .inv) (c .loop-test .left)

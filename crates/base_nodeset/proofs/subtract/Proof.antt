@@ -24,10 +24,10 @@ slice-read-a : tie.Need-slice-read-a Inv-loop μ-loop
 slice-read-a c = search needs
 
 mul-a-2 : tie.Need-mul-a-2 Inv-loop μ-loop
-mul-a-2 c = omega (arith, (c .before .before .before .pre), (c .before .before .loop .inv) .same)
+mul-a-2 c = search needs
 
 shared-slice-read-a : tie.Need-shared-slice-read-a Inv-loop μ-loop
-shared-slice-read-a c = omega (arith, (c .before .before .before .before .pre), (c .before .before .before .loop .inv) .same)
+shared-slice-read-a c = search needs
 
 mul-a-3 : tie.Need-mul-a-3 Inv-loop μ-loop
 mul-a-3 c = search needs
@@ -39,16 +39,16 @@ add-i : tie.Need-add-i Inv-loop μ-loop
 add-i c = search needs
 
 loop-less : tie.Need-loop-less Inv-loop μ-loop
-loop-less c = omega (arith, (c .before .before .before .loop .inv) .same)
+loop-less c = search needs
 
 loop-again : tie.Need-loop-again Inv-loop μ-loop
 loop-again c =
     let at-loop = c .before .before .before in
     removed-more _ _ _ _ (at-loop .loop .inv) (c .before .before .loop-test .taken)
-    ((c .shared-slice-known .given) (at-loop .loop .i) .fits)
+    ((c .shared-slice-known .given) _ .fits)
 
 same-length : tie.Need-same-length Inv-loop μ-loop
-same-length c = (c .before .loop .inv) .same
+same-length c = search needs
 
 returns : tie.Need-returns Inv-loop μ-loop
 returns c = removed-all _ _ _ _ (c .before .loop .inv) (c .loop-test .left)

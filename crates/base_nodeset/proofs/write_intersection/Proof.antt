@@ -16,7 +16,7 @@ abbrev μ-loop : tie.MeasureT-loop
 μ-loop a b into₀ i₀ into i = length a - i
 
 loop-holds : tie.Need-loop-holds Inv-loop μ-loop
-loop-holds c = shared-none _ _ _ (c .pre .1)
+loop-holds c = search needs
 
 mul-into : tie.Need-mul-into Inv-loop μ-loop
 mul-into c = search needs
@@ -25,16 +25,16 @@ shared-slice-read-into : tie.Need-shared-slice-read-into Inv-loop μ-loop
 shared-slice-read-into c = search needs
 
 mul-into-2 : tie.Need-mul-into-2 Inv-loop μ-loop
-mul-into-2 c = omega (arith, (c .before .before .before .pre .0))
+mul-into-2 c = search needs
 
 shared-slice-read-into-2 : tie.Need-shared-slice-read-into-2 Inv-loop μ-loop
-shared-slice-read-into-2 c = omega (arith, (c .before .before .before .before .pre .0))
+shared-slice-read-into-2 c = search needs
 
 mul-into-3 : tie.Need-mul-into-3 Inv-loop μ-loop
-mul-into-3 c = omega (arith, (c .before .before .before .loop .inv) .same)
+mul-into-3 c = search needs
 
 slice-write-into : tie.Need-slice-write-into Inv-loop μ-loop
-slice-write-into c = omega (arith, (c .before .before .before .loop .inv) .same)
+slice-write-into c = search needs
 
 add-i : tie.Need-add-i Inv-loop μ-loop
 add-i c = search needs
@@ -46,7 +46,7 @@ loop-again : tie.Need-loop-again Inv-loop μ-loop
 loop-again c = shared-more _ _ _ _ (c .before .before .before .loop .inv) (c .before .before .loop-test .taken)
 
 same-length : tie.Need-same-length Inv-loop μ-loop
-same-length c = (c .before .loop .inv) .same ∙ sym (c .before .before .pre .1)
+same-length c = search needs
 
 returns : tie.Need-returns Inv-loop μ-loop
 returns c = shared-all _ _ _ _ (c .before .loop .inv) (c .loop-test .left)

@@ -32,7 +32,7 @@ cast-result c = table-fits (stored c) tt (c .args .n) (omega arith) (omega arith
 
 returns : tie.Need-returns
 unfolding bitLength firstOf upTo from
-returns c = table-holds (stored c) tt (c .args .n) (omega arith) (omega arith)
+returns c = table-holds (stored c) tt _ (omega arith) (omega arith)
 
 pub threshold-at-spec : {M : Type 1} → statement M
 threshold-at-spec = tie.close (tie.spec sub-i mul-result array-read-result cast-result returns)

@@ -11,11 +11,11 @@ use Rattle.base_threshold.proofs.threshold_of.Tie as tie
 
 returns : tie.Need-returns
 unfolding thresholdAnswer
-returns c = rw (small-size (c .before .args .n) (c .if1 .taken))
+returns c = rw (small-size _ (c .if1 .taken))
 
 returns-2 : tie.Need-returns-2
 unfolding thresholdAnswer
-returns-2 c = rw (large-size (c .before .before .args .n) (c .if2 .taken))
+returns-2 c = rw (large-size _ (c .if2 .taken))
 
 threshold-at-requires : tie.Need-threshold-at-requires
 threshold-at-requires c κs = search needs

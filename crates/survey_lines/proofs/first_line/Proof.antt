@@ -1,5 +1,6 @@
 -- `survey_lines::first_line` meets its contract: at each `return` the tests that led there say which case holds.
 -- Assumes nothing.
+use native.Mathlib.Omega.{arith}
 use mathlib.Core.Path.{sym, ap, _∙_}
 use Rattle.text_reading.specs.Scan.{found}
 use Rattle.survey_lines.proofs.FirstLaws.{counts-malformed, no-node, many-nodes, many-links, short-starts, short-neighbours, counted}
@@ -18,36 +19,32 @@ enum-told c = search needs
 
 returns : tie.Need-returns
 returns c =
-    let start = c .before .before .before .before in
-    sym (counts-malformed (start .args .most-nodes) (start .args .most-links) (start .args .p) (start .args .q) (start .args .text .now)
-    (sym (c .before .before .line-at .ensures) ∙ ap (found (start .args .text .now)) (c .enum-told .given .1)))
+    sym (counts-malformed _ _ _ _ _
+    (sym (c .before .before .line-at .ensures) ∙ ap (found _) (c .enum-told .given .1)))
 
 returns-2 : tie.Need-returns-2
 returns-2 c =
-    let start = c .before .before .before .before .before .before in
     let at-nodes = c .before .before in
-    sym (no-node (start .args .most-nodes) (start .args .most-links) (start .args .p) (start .args .q) (start .args .text .now)
-    (at-nodes .nodes .given .0 .0) (at-nodes .nodes .given .0 .1 .0) _
-    (sym (c .before .before .before .before .line-at .ensures) ∙ ap (found (start .args .text .now)) (at-nodes .nodes .given .1))
+    sym (no-node _ _ _ _ _
+    _ _ _
+    (sym (c .before .before .before .before .line-at .ensures) ∙ ap (found _) (at-nodes .nodes .given .1))
     (c .if1 .taken))
 
 returns-3 : tie.Need-returns-3
 returns-3 c =
-    let start = c .before .before .before .before .before .before .before in
     let at-nodes = c .before .before .before in
-    sym (many-nodes (start .args .most-nodes) (start .args .most-links) (start .args .p) (start .args .q) (start .args .text .now)
-    (at-nodes .nodes .given .0 .0) (at-nodes .nodes .given .0 .1 .0) _
-    (sym (c .before .before .before .before .before .line-at .ensures) ∙ ap (found (start .args .text .now))
+    sym (many-nodes _ _ _ _ _
+    _ _ _
+    (sym (c .before .before .before .before .before .line-at .ensures) ∙ ap (found _)
     (at-nodes .nodes .given .1)) (c .if2 .taken))
 
 returns-4 : tie.Need-returns-4
 returns-4 c =
-    let start = c .before .before .before .before .before .before .before .before in
     let at-line-at = c .before .before .before .before .before .before in
     let at-nodes = c .before .before .before .before in
-    sym (many-links (start .args .most-nodes) (start .args .most-links) (start .args .p) (start .args .q) (start .args .text .now)
-    (at-nodes .nodes .given .0 .0) (at-nodes .nodes .given .0 .1 .0) _
-    (sym (at-line-at .line-at .ensures) ∙ ap (found (start .args .text .now)) (at-nodes .nodes .given .1))
+    sym (many-links _ _ _ _ _
+    _ _ _
+    (sym (at-line-at .line-at .ensures) ∙ ap (found _) (at-nodes .nodes .given .1))
     (c .before .before .if1 .left) (c .before .if2 .left) (c .if3 .taken))
 
 add-if4 : tie.Need-add-if4
@@ -55,12 +52,11 @@ add-if4 c = search needs
 
 returns-5 : tie.Need-returns-5
 returns-5 c =
-    let start = c .before .before .before .before .before .before .before .before .before in
     let at-line-at = c .before .before .before .before .before .before .before in
     let at-nodes = c .before .before .before .before .before in
-    sym (short-starts (start .args .most-nodes) (start .args .most-links) (start .args .p) (start .args .q) (start .args .text .now)
-    (at-nodes .nodes .given .0 .0) (at-nodes .nodes .given .0 .1 .0) _
-    (sym (at-line-at .line-at .ensures) ∙ ap (found (start .args .text .now)) (at-nodes .nodes .given .1))
+    sym (short-starts _ _ _ _ _
+    _ _ _
+    (sym (at-line-at .line-at .ensures) ∙ ap (found _) (at-nodes .nodes .given .1))
     (c .before .before .before .if1 .left) (c .before .before .if2 .left) (c .before .if3 .left) (c .if4 .taken))
 
 mul-if5 : tie.Need-mul-if5
@@ -68,23 +64,21 @@ mul-if5 c = search needs
 
 returns-6 : tie.Need-returns-6
 returns-6 c =
-    let start = c .before .before .before .before .before .before .before .before .before .before in
     let at-line-at = c .before .before .before .before .before .before .before .before in
     let at-nodes = c .before .before .before .before .before .before in
-    sym (short-neighbours (start .args .most-nodes) (start .args .most-links) (start .args .p) (start .args .q) (start .args .text .now)
-    (at-nodes .nodes .given .0 .0) (at-nodes .nodes .given .0 .1 .0) _
-    (sym (at-line-at .line-at .ensures) ∙ ap (found (start .args .text .now)) (at-nodes .nodes .given .1))
+    sym (short-neighbours _ _ _ _ _
+    _ _ _
+    (sym (at-line-at .line-at .ensures) ∙ ap (found _) (at-nodes .nodes .given .1))
     (c .before .before .before .before .if1 .left) (c .before .before .before .if2 .left) (c .before .before .if3 .left)
     (c .if5 .taken))
 
 returns-7 : tie.Need-returns-7
 returns-7 c =
-    let start = c .before .before .before .before .before .before .before .before .before .before in
     let at-line-at = c .before .before .before .before .before .before .before .before in
     let at-nodes = c .before .before .before .before .before .before in
-    sym (counted (start .args .most-nodes) (start .args .most-links) (start .args .p) (start .args .q) (start .args .text .now)
-    (at-nodes .nodes .given .0 .0) (at-nodes .nodes .given .0 .1 .0) _
-    (sym (at-line-at .line-at .ensures) ∙ ap (found (start .args .text .now)) (at-nodes .nodes .given .1))
+    sym (counted _ _ _ _ _
+    _ _ _
+    (sym (at-line-at .line-at .ensures) ∙ ap (found _) (at-nodes .nodes .given .1))
     (c .before .before .before .before .if1 .left) (c .before .before .before .if2 .left) (c .before .before .if3 .left)
     (c .before .if4 .left) (c .if5 .left))
 

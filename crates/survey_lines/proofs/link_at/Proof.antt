@@ -13,8 +13,7 @@ use Rattle.survey_lines.proofs.link_at.Tie as tie
 
 returns : tie.Need-returns
 returns c =
-    let start = c .before .before .before in
-    sym (link-end (start .args .text .now) (start .args .at) (start .args .n) (edgesIn (start .args .bits .now)) (c .if1 .taken))
+    sym (link-end _ _ _ (edgesIn _) (c .if1 .taken))
 
 line-at-requires : tie.Need-line-at-requires
 line-at-requires c κs = search needs
@@ -27,59 +26,49 @@ enum-told c = search needs
 
 returns-2 : tie.Need-returns-2
 returns-2 c =
-    let start = c .before .before .before .before .before .before in
-    sym (link-malformed (start .args .text .now) (start .args .at) (start .args .n) (edgesIn (start .args .bits .now))
-    (c .before .before .before .if1 .left) (sym (c .before .before .line-at .ensures) ∙ ap (found (start .args .text .now))
+    sym (link-malformed _ _ _ (edgesIn _)
+    (c .before .before .before .if1 .left) (sym (c .before .before .line-at .ensures) ∙ ap (found _)
     (c .enum-told .given .1)))
 
 returns-3 : tie.Need-returns-3
 returns-3 c =
-    let start = c .before .before .before .before .before .before .before .before in
     let at-a = c .before .before in
-    sym (link-far (start .args .text .now) (start .args .at) (start .args .n) (edgesIn (start .args .bits .now))
-    (c .before .before .before .before .before .if1 .left) (at-a .a .given .0 .0) (at-a .a .given .0 .1 .0) _
-    (sym (c .before .before .before .before .line-at .ensures) ∙ ap (found (start .args .text .now)) (at-a .a .given .1))
+    sym (link-far _ _ _ (edgesIn _)
+    (c .before .before .before .before .before .if1 .left) _ _ _
+    (sym (c .before .before .before .before .line-at .ensures) ∙ ap (found _) (at-a .a .given .1))
     (not-true _ (c .if2 .taken)))
 
 returns-4 : tie.Need-returns-4
 returns-4 c =
-    let start = c .before .before .before .before .before .before .before .before .before in
     let at-if1 = c .before .before .before .before .before .before in
     let at-a = c .before .before .before in
-    sym (link-loop (start .args .text .now) (start .args .at) (start .args .n) (edgesIn (start .args .bits .now)) (at-if1 .if1 .left)
-    (at-a .a .given .0 .0) (at-a .a .given .0 .1 .0) _
-    (sym (c .before .before .before .before .before .line-at .ensures) ∙ ap (found (start .args .text .now)) (at-a .a .given .1))
+    sym (link-loop _ _ _ (edgesIn _) (at-if1 .if1 .left)
+    _ _ _
+    (sym (c .before .before .before .before .before .line-at .ensures) ∙ ap (found _) (at-a .a .given .1))
     (not-false _ (c .before .if2 .left)) (c .if3 .taken))
 
 mul-contains : tie.Need-mul-contains
 mul-contains c =
     let start = c .before .before .before .before .before .before .before .before .before in
-    let at-a = c .before .before .before in
     omega (
       arith,
-      both-below (at-a .a .given .0 .0) (at-a .a .given .0 .1 .0) (start .args .n) (not-false _ (c .before .if2 .left)),
-      (start .pre .0),
+      both-below _ _ (start .args .n) (not-false _ (c .before .if2 .left)),
     )
 
 add-contains : tie.Need-add-contains
 add-contains c =
     let start = c .before .before .before .before .before .before .before .before .before in
-    let at-a = c .before .before .before in
     omega (
       arith,
-      both-below (at-a .a .given .0 .0) (at-a .a .given .0 .1 .0) (start .args .n) (not-false _ (c .before .if2 .left)),
-      (start .pre .0),
+      both-below _ _ (start .args .n) (not-false _ (c .before .if2 .left)),
     )
 
 contains-requires : tie.Need-contains-requires
 contains-requires c κs =
     let start = c .before .before .before .before .before .before .before .before .before in
-    let at-a = c .before .before .before in
     omega (
       arith,
-      both-below (at-a .a .given .0 .0) (at-a .a .given .0 .1 .0) (start .args .n) (not-false _ (c .before .if2 .left)),
-      (start .pre .0),
-      (start .pre .1),
+      both-below _ _ (start .args .n) (not-false _ (c .before .if2 .left)),
     )
 
 returns-5 : tie.Need-returns-5
@@ -89,14 +78,13 @@ returns-5 c =
     let at-line-at = c .before .before .before .before .before .before .before in
     let at-a = c .before .before .before .before .before in
     let at-if2 = c .before .before .before in
-    sym (link-again (start .args .text .now) (start .args .at) (start .args .n) (edgesIn (start .args .bits .now)) (at-if1 .if1 .left)
-    (at-a .a .given .0 .0) (at-a .a .given .0 .1 .0) _
-    (sym (at-line-at .line-at .ensures) ∙ ap (found (start .args .text .now)) (at-a .a .given .1)) (not-false _ (at-if2 .if2 .left))
-    (c .before .before .if3 .left) (edge-bit (start .args .bits .now) (at-a .a .given .0 .0) (at-a .a .given .0 .1 .0)
+    sym (link-again _ _ _ (edgesIn _) (at-if1 .if1 .left)
+    _ _ _
+    (sym (at-line-at .line-at .ensures) ∙ ap (found _) (at-a .a .given .1)) (not-false _ (at-if2 .if2 .left))
+    (c .before .before .if3 .left) (edge-bit _ _ _
     (omega (
       arith,
-      both-below (at-a .a .given .0 .0) (at-a .a .given .0 .1 .0) (start .args .n) (not-false _ (at-if2 .if2 .left)),
-      (start .pre .0),
+      both-below _ _ (start .args .n) (not-false _ (at-if2 .if2 .left)),
     )) ∙ sym (c .before .contains .ensures) ∙ (c .if4 .taken)))
 
 returns-6 : tie.Need-returns-6
@@ -106,14 +94,13 @@ returns-6 c =
     let at-line-at = c .before .before .before .before .before .before .before in
     let at-a = c .before .before .before .before .before in
     let at-if2 = c .before .before .before in
-    sym (link-new (start .args .text .now) (start .args .at) (start .args .n) (edgesIn (start .args .bits .now)) (at-if1 .if1 .left)
-    (at-a .a .given .0 .0) (at-a .a .given .0 .1 .0) _
-    (sym (at-line-at .line-at .ensures) ∙ ap (found (start .args .text .now)) (at-a .a .given .1)) (not-false _ (at-if2 .if2 .left))
-    (c .before .before .if3 .left) (edge-bit (start .args .bits .now) (at-a .a .given .0 .0) (at-a .a .given .0 .1 .0)
+    sym (link-new _ _ _ (edgesIn _) (at-if1 .if1 .left)
+    _ _ _
+    (sym (at-line-at .line-at .ensures) ∙ ap (found _) (at-a .a .given .1)) (not-false _ (at-if2 .if2 .left))
+    (c .before .before .if3 .left) (edge-bit _ _ _
     (omega (
       arith,
-      both-below (at-a .a .given .0 .0) (at-a .a .given .0 .1 .0) (start .args .n) (not-false _ (at-if2 .if2 .left)),
-      (start .pre .0),
+      both-below _ _ (start .args .n) (not-false _ (at-if2 .if2 .left)),
     )) ∙ sym (c .before .contains .ensures) ∙ (c .if4 .left)))
 
 pub link-at-spec : {M : Type 1} → statement M

@@ -21,10 +21,10 @@ abbrev μ-loop : tie.MeasureT-loop
 loop-holds : tie.Need-loop-holds Inv-loop μ-loop
 loop-holds c =
     let start = c .before .before in
-    progress-none (start .args .n) (start .args .m) (start .args .text .now) (start .args .at) (start .args .bits .now) (start .pre .1)
+    progress-none _ _ _ _ _ (start .pre .1)
 
 link-at-requires : tie.Need-link-at-requires Inv-loop μ-loop
-link-at-requires c κs = ((c .before .before .before .before .before .pre .0), ((c .before .before .loop .inv) .held .long))
+link-at-requires c κs = search needs
 
 enum-known-r : tie.Need-enum-known-r Inv-loop μ-loop
 enum-known-r c = search needs
@@ -40,76 +40,67 @@ returns c =
     let start = c .before .before .before .before .before .before .before .before .before in
     let at-loop = c .before .before .before .before .before .before in
     let at-r = c .before in
-    told-refused _ (at-r .r .given .0 .0) _ (progress-refused (start .args .n) (start .args .m) (start .args .text .now) (start .args .at)
-    (at-loop .loop .bits) (at-loop .loop .next) (at-loop .loop .k) (start .pre .0) (at-loop .loop .inv)
+    told-refused _ _ _ (progress-refused _ _ _ _
+    _ _ _ (start .pre .0) (at-loop .loop .inv)
     (c .before .before .before .before .before .loop-test .taken) _
-    (sym (c .before .before .before .link-at .ensures) ∙ ap (lineAnswer (start .args .text .now)) (at-r .r .given .1)))
+    (sym (c .before .before .before .link-at .ensures) ∙ ap (lineAnswer _) (at-r .r .given .1)))
 
 enum-known-a : tie.Need-enum-known-a Inv-loop μ-loop
 enum-known-a c = search needs
 
 mul-insert : tie.Need-mul-insert Inv-loop μ-loop
 mul-insert c =
-    let start = c .before .before .before .before .before .before .before .before .before .before in
     let at-loop = c .before .before .before .before .before .before .before in
     let at-a = c .before .before in
-    let g = (link-below (start .args .n) (edgesIn (at-loop .loop .bits)) (drop (at-loop .loop .next) (start .args .text .now))
-    (at-a .a .given .0 .0) (at-a .a .given .0 .1 .0) (drop (at-a .a .given .0 .1 .1 .0) (start .args .text .now))
-    (sym (c .before .before .before .before .link-at .ensures) ∙ ap (lineAnswer (start .args .text .now)) (at-a .a .given .1)))
-    in omega (arith, (start .pre .0))
+    let g = (link-below _ (edgesIn _) (drop (at-loop .loop .next) _)
+    _ _ (drop (at-a .a .given .0 .1 .1 .0) _)
+    (sym (c .before .before .before .before .link-at .ensures) ∙ ap (lineAnswer _) (at-a .a .given .1)))
+    in omega arith
 
 add-insert : tie.Need-add-insert Inv-loop μ-loop
 add-insert c =
-    let start = c .before .before .before .before .before .before .before .before .before .before in
     let at-loop = c .before .before .before .before .before .before .before in
     let at-a = c .before .before in
-    let g = (link-below (start .args .n) (edgesIn (at-loop .loop .bits)) (drop (at-loop .loop .next) (start .args .text .now))
-    (at-a .a .given .0 .0) (at-a .a .given .0 .1 .0) (drop (at-a .a .given .0 .1 .1 .0) (start .args .text .now))
-    (sym (c .before .before .before .before .link-at .ensures) ∙ ap (lineAnswer (start .args .text .now)) (at-a .a .given .1)))
-    in omega (arith, (start .pre .0))
+    let g = (link-below _ (edgesIn _) (drop (at-loop .loop .next) _)
+    _ _ (drop (at-a .a .given .0 .1 .1 .0) _)
+    (sym (c .before .before .before .before .link-at .ensures) ∙ ap (lineAnswer _) (at-a .a .given .1)))
+    in omega arith
 
 insert-requires : tie.Need-insert-requires Inv-loop μ-loop
 insert-requires c κs =
-    let start = c .before .before .before .before .before .before .before .before .before .before in
     let at-loop = c .before .before .before .before .before .before .before in
     let at-a = c .before .before in
-    let g = (link-below (start .args .n) (edgesIn (at-loop .loop .bits)) (drop (at-loop .loop .next) (start .args .text .now))
-    (at-a .a .given .0 .0) (at-a .a .given .0 .1 .0) (drop (at-a .a .given .0 .1 .1 .0) (start .args .text .now))
-    (sym (c .before .before .before .before .link-at .ensures) ∙ ap (lineAnswer (start .args .text .now)) (at-a .a .given .1)))
-    in omega (arith, (start .pre .0), ((at-loop .loop .inv) .held .long))
+    let g = (link-below _ (edgesIn _) (drop (at-loop .loop .next) _)
+    _ _ (drop (at-a .a .given .0 .1 .1 .0) _)
+    (sym (c .before .before .before .before .link-at .ensures) ∙ ap (lineAnswer _) (at-a .a .given .1)))
+    in omega arith
 
 mul-insert-2 : tie.Need-mul-insert-2 Inv-loop μ-loop
 mul-insert-2 c =
-    let start = c .before .before .before .before .before .before .before .before .before .before .before .before .before .before in
     let at-loop = c .before .before .before .before .before .before .before .before .before .before .before in
     let at-link-at = c .before .before .before .before .before .before .before .before in
     let at-a = c .before .before .before .before .before .before in
-    let g = (link-below (start .args .n) (edgesIn (at-loop .loop .bits)) (drop (at-loop .loop .next) (start .args .text .now))
-    (at-a .a .given .0 .0) (at-a .a .given .0 .1 .0) (drop (at-a .a .given .0 .1 .1 .0) (start .args .text .now))
-    (sym (at-link-at .link-at .ensures) ∙ ap (lineAnswer (start .args .text .now)) (at-a .a .given .1))) in omega
-    (arith, (start .pre .0))
+    let g = (link-below _ (edgesIn _) (drop (at-loop .loop .next) _)
+    _ _ (drop (at-a .a .given .0 .1 .1 .0) _)
+    (sym (at-link-at .link-at .ensures) ∙ ap (lineAnswer _) (at-a .a .given .1))) in omega arith
 
 add-insert-2 : tie.Need-add-insert-2 Inv-loop μ-loop
 add-insert-2 c =
-    let start = c .before .before .before .before .before .before .before .before .before .before .before .before .before .before in
     let at-loop = c .before .before .before .before .before .before .before .before .before .before .before in
     let at-link-at = c .before .before .before .before .before .before .before .before in
     let at-a = c .before .before .before .before .before .before in
-    let g = (link-below (start .args .n) (edgesIn (at-loop .loop .bits)) (drop (at-loop .loop .next) (start .args .text .now))
-    (at-a .a .given .0 .0) (at-a .a .given .0 .1 .0) (drop (at-a .a .given .0 .1 .1 .0) (start .args .text .now))
-    (sym (at-link-at .link-at .ensures) ∙ ap (lineAnswer (start .args .text .now)) (at-a .a .given .1))) in omega
-    (arith, (start .pre .0))
+    let g = (link-below _ (edgesIn _) (drop (at-loop .loop .next) _)
+    _ _ (drop (at-a .a .given .0 .1 .1 .0) _)
+    (sym (at-link-at .link-at .ensures) ∙ ap (lineAnswer _) (at-a .a .given .1))) in omega arith
 
 insert-requires-2 : tie.Need-insert-requires-2 Inv-loop μ-loop
 insert-requires-2 c κs =
-    let start = c .before .before .before .before .before .before .before .before .before .before .before .before .before .before in
     let at-loop = c .before .before .before .before .before .before .before .before .before .before .before in
     let at-link-at = c .before .before .before .before .before .before .before .before in
     let at-a = c .before .before .before .before .before .before in
-    let g = (link-below (start .args .n) (edgesIn (at-loop .loop .bits)) (drop (at-loop .loop .next) (start .args .text .now))
-    (at-a .a .given .0 .0) (at-a .a .given .0 .1 .0) (drop (at-a .a .given .0 .1 .1 .0) (start .args .text .now))
-    (sym (at-link-at .link-at .ensures) ∙ ap (lineAnswer (start .args .text .now)) (at-a .a .given .1))) in omega
-    (arith, (start .pre .0), ((at-loop .loop .inv) .held .long), (c .before .before .before .insert .kept .0))
+    let g = (link-below _ (edgesIn _) (drop (at-loop .loop .next) _)
+    _ _ (drop (at-a .a .given .0 .1 .1 .0) _)
+    (sym (at-link-at .link-at .ensures) ∙ ap (lineAnswer _) (at-a .a .given .1))) in omega arith
 
 add-k : tie.Need-add-k Inv-loop μ-loop
 add-k c = search needs
@@ -126,10 +117,10 @@ loop-again c =
     let at-a = c .before .before .before .before .before .before .before .before .before in
     let at-insert = c .before .before .before .before .before .before in
     let at-insert2 = c .before .before in
-    progress-taken (start .args .n) (start .args .m) (start .args .text .now) (start .args .at) (at-loop .loop .bits) (at-loop .loop .next)
-    (at-loop .loop .k) (start .pre .0) (at-loop .loop .inv) (at-loop-test .loop-test .taken) (at-a .a .given .0 .0)
-    (at-a .a .given .0 .1 .0) (at-a .a .given .0 .1 .1 .0) (at-insert .insert .last .0) (at-insert2 .insert2 .last .0)
-    (sym (at-link-at .link-at .ensures) ∙ ap (lineAnswer (start .args .text .now)) (at-a .a .given .1))
+    progress-taken _ _ _ _ _ _
+    _ (start .pre .0) (at-loop .loop .inv) (at-loop-test .loop-test .taken) _
+    _ _ _ _
+    (sym (at-link-at .link-at .ensures) ∙ ap (lineAnswer _) (at-a .a .given .1))
     ((at-insert2 .insert2 .kept .0) ∙ (at-insert .insert .kept .0)) (at-insert .insert .ensures) (at-insert2 .insert2 .ensures)
 
 same-length-2 : tie.Need-same-length-2 Inv-loop μ-loop
@@ -140,8 +131,8 @@ returns-2 : tie.Need-returns-2 Inv-loop μ-loop
 returns-2 c =
     let start = c .before .before .before .before .before in
     let at-loop = c .before .before in
-    told-refused _ LineCount _ (progress-more (start .args .n) (start .args .m) (start .args .text .now) (start .args .at)
-    (at-loop .loop .bits) (at-loop .loop .next) (at-loop .loop .k) (start .pre .0) (at-loop .loop .inv) (c .before .loop-test .left)
+    told-refused _ LineCount _ (progress-more _ _ _ _
+    _ _ _ (start .pre .0) (at-loop .loop .inv) (c .before .loop-test .left)
     (c .if1 .taken))
 
 same-length-3 : tie.Need-same-length-3 Inv-loop μ-loop
@@ -152,8 +143,8 @@ returns-3 : tie.Need-returns-3 Inv-loop μ-loop
 returns-3 c =
     let start = c .before .before .before .before .before in
     let at-loop = c .before .before in
-    let d = progress-done (start .args .n) (start .args .m) (start .args .text .now) (start .args .at) (at-loop .loop .bits)
-    (at-loop .loop .next) (at-loop .loop .k) (start .pre .0) (at-loop .loop .inv) (c .before .loop-test .left) (c .if1 .left)
+    let d = progress-done _ _ _ _ _
+    _ _ (start .pre .0) (at-loop .loop .inv) (c .before .loop-test .left) (c .if1 .left)
     in told-taken _ _ _ (d .0) (d .1)
 
 pub read-links-spec : {M : Type 1} → statement M

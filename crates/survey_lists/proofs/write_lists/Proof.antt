@@ -1,5 +1,6 @@
 -- `survey_lists::write_lists` meets its contract: after v nodes the lists have the starts and the rows of the nodes below v.
 -- Assumes nothing.
+use borrow.Author.Needs.{needs}
 use mathlib.Core.Path.{_∙_}
 use lib.ListN.{length-set}
 use Prim.Native.Nat.{_-_}
@@ -18,7 +19,7 @@ abbrev μ-loop : tie.MeasureT-loop
 loop-holds : tie.Need-loop-holds Inv-loop μ-loop
 loop-holds c =
     let start = c .before .before .before in
-    lists-none (rowsIn (start .args .bits .now)) (start .args .n) (start .args .starts .now) (start .args .neighbours .now)
+    lists-none (rowsIn _) _ _ _
     (start .pre .0 .2) (start .pre .1 .0)
 
 cast-starts : tie.Need-cast-starts Inv-loop μ-loop
@@ -27,22 +28,13 @@ cast-starts c =
     let at-loop = c .before in
     omega (
       arith,
-      position (rowsIn (start .args .bits .now)) (start .args .n) (start .args .starts .now) (start .args .neighbours .now)
-          (start .pre .0 .2) (start .pre .1 .0) (at-loop .loop .starts) (at-loop .loop .neighbours) (at-loop .loop .pos) (at-loop .loop .v)
+      position (rowsIn _) _ _ _
+          (start .pre .0 .2) (start .pre .1 .0) _ _ _ _
           (at-loop .loop .inv) .1,
-      (start .pre .1 .1),
     )
 
 mul-starts : tie.Need-mul-starts Inv-loop μ-loop
-mul-starts c =
-    let start = c .before .before .before .before .before in
-    let at-loop = c .before in
-    omega (
-      arith,
-      start-here (rowsIn (start .args .bits .now)) (start .args .n) (start .args .starts .now) (start .args .neighbours .now)
-          (start .pre .0 .2) (start .pre .1 .0) (at-loop .loop .starts) (at-loop .loop .neighbours) (at-loop .loop .pos) (at-loop .loop .v)
-          (at-loop .loop .inv) .0,
-    )
+mul-starts c = search needs
 
 slice-write-starts : tie.Need-slice-write-starts Inv-loop μ-loop
 slice-write-starts c =
@@ -50,8 +42,8 @@ slice-write-starts c =
     let at-loop = c .before in
     omega (
       arith,
-      start-here (rowsIn (start .args .bits .now)) (start .args .n) (start .args .starts .now) (start .args .neighbours .now)
-          (start .pre .0 .2) (start .pre .1 .0) (at-loop .loop .starts) (at-loop .loop .neighbours) (at-loop .loop .pos) (at-loop .loop .v)
+      start-here (rowsIn _) _ _ _
+          (start .pre .0 .2) (start .pre .1 .0) _ _ _ _
           (at-loop .loop .inv) .0,
     )
 
@@ -60,18 +52,16 @@ write-row-requires c κs =
     let start = c .before .before .before .before .before .before in
     let at-loop = c .before .before in
     let at-loop-test = c .before in (
-      omega (arith, (start .pre .0 .0), (at-loop-test .loop-test .taken)),
+      omega arith,
       (start .pre .0 .1),
-      row-fits (rowsIn (start .args .bits .now))
-          (start .args .n) (start .args .starts .now) (start .args .neighbours .now) (start .pre .0 .2) (start .pre .1 .0)
-          (at-loop .loop .starts) (at-loop .loop .neighbours) (at-loop .loop .pos) (at-loop .loop .v) (at-loop .loop .inv)
+      row-fits (rowsIn _)
+          _ _ _ (start .pre .0 .2) (start .pre .1 .0)
+          _ _ _ _ (at-loop .loop .inv)
           (at-loop-test .loop-test .taken),
     )
 
 add-v : tie.Need-add-v Inv-loop μ-loop
-add-v c =
-    let start = c .before .before .before .before .before .before .before .before .before in
-    omega (arith, (start .pre .0 .0))
+add-v c = search needs
 
 loop-less : tie.Need-loop-less Inv-loop μ-loop
 loop-less c = omega arith
@@ -81,9 +71,9 @@ loop-again c =
     let start = c .before .before .before .before .before .before .before .before .before in
     let at-loop = c .before .before .before .before .before in
     let at-write-row = c .before .before in
-    lists-more (rowsIn (start .args .bits .now)) (start .args .n) (start .args .starts .now) (start .args .neighbours .now)
-    (start .pre .0 .2) (start .pre .1 .0) (at-loop .loop .starts) (at-loop .loop .neighbours) (at-loop .loop .pos) (at-loop .loop .v)
-    (at-loop .loop .inv) (c .before .before .before .before .loop-test .taken) (at-write-row .write-row .last .1 .1 .0) _
+    lists-more (rowsIn _) _ _ _
+    (start .pre .0 .2) (start .pre .1 .0) _ _ _ _
+    (at-loop .loop .inv) (c .before .before .before .before .loop-test .taken) _ _
     (at-write-row .write-row .ensures)
 
 cast-starts-2 : tie.Need-cast-starts-2 Inv-loop μ-loop
@@ -92,14 +82,13 @@ cast-starts-2 c =
     let at-loop = c .before in
     omega (
       arith,
-      position (rowsIn (start .args .bits .now)) (start .args .n) (start .args .starts .now) (start .args .neighbours .now)
-          (start .pre .0 .2) (start .pre .1 .0) (at-loop .loop .starts) (at-loop .loop .neighbours) (at-loop .loop .pos) (at-loop .loop .v)
+      position (rowsIn _) _ _ _
+          (start .pre .0 .2) (start .pre .1 .0) _ _ _ _
           (at-loop .loop .inv) .1,
-      (start .pre .1 .1),
     )
 
 mul-starts-2 : tie.Need-mul-starts-2 Inv-loop μ-loop
-mul-starts-2 c = omega (arith, (c .before .before .before .before .before .pre .0 .0))
+mul-starts-2 c = search needs
 
 slice-write-starts-2 : tie.Need-slice-write-starts-2 Inv-loop μ-loop
 slice-write-starts-2 c =
@@ -107,35 +96,34 @@ slice-write-starts-2 c =
     let at-loop = c .before in
     omega (
       arith,
-      start-here (rowsIn (start .args .bits .now)) (start .args .n) (start .args .starts .now) (start .args .neighbours .now)
-          (start .pre .0 .2) (start .pre .1 .0) (at-loop .loop .starts) (at-loop .loop .neighbours) (at-loop .loop .pos) (at-loop .loop .v)
+      start-here (rowsIn _) _ _ _
+          (start .pre .0 .2) (start .pre .1 .0) _ _ _ _
           (at-loop .loop .inv) .1,
-      (start .pre .0 .2),
     )
 
 same-length : tie.Need-same-length Inv-loop μ-loop
 same-length c =
     let start = c .before .before .before .before .before in
     let at-loop = c .before in
-    length-set (at-loop .loop .starts) _ _ ∙ start-here (rowsIn (start .args .bits .now)) (start .args .n) (start .args .starts .now)
-    (start .args .neighbours .now) (start .pre .0 .2) (start .pre .1 .0) (at-loop .loop .starts) (at-loop .loop .neighbours)
-    (at-loop .loop .pos) (at-loop .loop .v) (at-loop .loop .inv) .1
+    length-set (at-loop .loop .starts) _ _ ∙ start-here (rowsIn _) _ _
+    _ (start .pre .0 .2) (start .pre .1 .0) _ _
+    _ _ (at-loop .loop .inv) .1
 
 same-length-2 : tie.Need-same-length-2 Inv-loop μ-loop
 same-length-2 c =
     let start = c .before .before .before .before .before in
     let at-loop = c .before in
-    lists-long (rowsIn (start .args .bits .now)) (start .args .n) (start .args .starts .now) (start .args .neighbours .now)
-    (start .pre .0 .2) (start .pre .1 .0) (at-loop .loop .starts) (at-loop .loop .neighbours) (at-loop .loop .pos) (at-loop .loop .v)
+    lists-long (rowsIn _) _ _ _
+    (start .pre .0 .2) (start .pre .1 .0) _ _ _ _
     (at-loop .loop .inv)
 
 returns : tie.Need-returns Inv-loop μ-loop
 returns c =
     let start = c .before .before .before .before .before in
     let at-loop = c .before in
-    lists-done (rowsIn (start .args .bits .now)) (start .args .n) (start .args .starts .now) (start .args .neighbours .now)
-    (start .pre .0 .2) (start .pre .1 .0) (at-loop .loop .starts) (at-loop .loop .neighbours) (at-loop .loop .pos) (at-loop .loop .v)
-    (at-loop .loop .inv) (omega (arith, (c .loop-test .left), (at-loop .loop .inv .within)))
+    lists-done (rowsIn _) _ _ _
+    (start .pre .0 .2) (start .pre .1 .0) _ _ _ _
+    (at-loop .loop .inv) (omega arith)
 
 pub write-lists-spec : {M : Type 1} → statement M
 write-lists-spec =

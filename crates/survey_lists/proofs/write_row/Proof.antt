@@ -1,5 +1,6 @@
 -- `survey_lists::write_row` meets its contract: after w words the row's part below 64 * w is written.
 -- Assumes nothing.
+use borrow.Author.Needs.{needs}
 use Prim.Native.Nat.{_-_, _≤_}
 use native.Mathlib.Omega.{arith}
 use Rattle.base_lists.specs.Written.{Wrote}
@@ -15,24 +16,19 @@ abbrev μ-loop : tie.MeasureT-loop
 
 loop-holds : tie.Need-loop-holds Inv-loop μ-loop
 loop-holds c =
-    let start = c .before .before in
-    (omega arith, row-none (start .args .bits .now) (start .args .v) (start .args .neighbours .now) (start .args .at))
+    (omega arith, row-none _ _ _ _)
 
 mul-word : tie.Need-mul-word Inv-loop μ-loop
-mul-word c = omega (arith, (c .before .before .before .before .pre .0))
+mul-word c = search needs
 
 add-word : tie.Need-add-word Inv-loop μ-loop
-add-word c = omega (arith, (c .before .before .before .before .pre .0))
+add-word c = search needs
 
 mul-word-2 : tie.Need-mul-word-2 Inv-loop μ-loop
-mul-word-2 c =
-    let start = c .before .before .before .before in
-    omega (arith, (start .pre .0), (start .pre .1))
+mul-word-2 c = search needs
 
 shared-slice-read-word : tie.Need-shared-slice-read-word Inv-loop μ-loop
-shared-slice-read-word c =
-    let start = c .before .before .before .before .before in
-    omega (arith, (start .pre .0), (start .pre .1))
+shared-slice-read-word c = search needs
 
 mul-write-word : tie.Need-mul-write-word Inv-loop μ-loop
 mul-write-word c = omega arith
@@ -42,8 +38,8 @@ write-word-requires c κs =
     let start = c .before .before .before .before .before .before in
     let at-loop = c .before .before .before in (
       omega arith,
-      word-fits (start .args .bits .now) (start .args .v) (at-loop .loop .w) (c .before .before .loop-test .taken)
-          (start .args .neighbours .now) (at-loop .loop .neighbours) (start .args .at) (at-loop .loop .pos) (start .pre .2)
+      word-fits _ _ _ (c .before .before .loop-test .taken)
+          _ _ _ _ (start .pre .2)
           (at-loop .loop .inv .1),
     )
 
@@ -59,9 +55,9 @@ loop-again c =
     let at-loop = c .before .before .before .before .before .before in
     let at-write-word = c .before .before in (
       omega arith,
-      word-more (start .args .bits .now) (start .args .v) (at-loop .loop .w)
-          (c .before .before .before .before .before .loop-test .taken) (start .args .neighbours .now) (at-loop .loop .neighbours)
-          (start .args .at) (at-loop .loop .pos) (start .pre .2) (at-loop .loop .inv .1) (at-write-word .write-word .last .1 .1 .0) _
+      word-more _ _ _
+          (c .before .before .before .before .before .loop-test .taken) _ _
+          _ _ (start .pre .2) (at-loop .loop .inv .1) _ _
           (at-write-word .write-word .ensures),
     )
 
@@ -69,15 +65,14 @@ same-length : tie.Need-same-length Inv-loop μ-loop
 same-length c =
     let start = c .before .before .before .before in
     let at-loop = c .before in
-    row-long (start .args .bits .now) (start .args .v) (start .args .neighbours .now) (start .args .at) (at-loop .loop .w)
-    (at-loop .loop .neighbours) (at-loop .loop .pos) (at-loop .loop .inv .0) (start .pre .2) (at-loop .loop .inv .1)
+    row-long _ _ _ _ _
+    _ _ (at-loop .loop .inv .0) (start .pre .2) (at-loop .loop .inv .1)
 
 returns : tie.Need-returns Inv-loop μ-loop
 returns c =
-    let start = c .before .before .before .before in
     let at-loop = c .before in
-    row-whole (start .args .bits .now) (start .args .v) (start .args .neighbours .now) (start .args .at) (at-loop .loop .w)
-    (at-loop .loop .neighbours) (at-loop .loop .pos) (at-loop .loop .inv .0) (c .loop-test .left) (at-loop .loop .inv .1)
+    row-whole _ _ _ _ _
+    _ _ (at-loop .loop .inv .0) (c .loop-test .left) (at-loop .loop .inv .1)
 
 pub write-row-spec : {M : Type 1} → statement M
 write-row-spec =

@@ -1,5 +1,6 @@
 -- `survey_lists::write_word` meets its contract: what is written and the bits that are left are the bits of the word.
 -- Assumes nothing.
+use borrow.Author.Needs.{needs}
 use native.Mathlib.Omega.{arith}
 use lib.Count.{trailingZeros}
 use lib.Pow.{pow-pos}
@@ -23,12 +24,12 @@ cast-u c = omega (arith, (low _ _ _ _ _ _ _ (c .before .before .pre .1) (c .befo
 add-u : tie.Need-add-u Inv-loop μ-loop
 add-u c =
     let start = c .before .before in
-    omega (arith, (low _ _ _ _ _ _ _ (start .pre .1) (c .before .loop .inv) (omega arith)) .below, (start .pre .0))
+    omega (arith, (low _ _ _ _ _ _ _ (start .pre .1) (c .before .loop .inv) (omega arith)) .below)
 
 cast-neighbours : tie.Need-cast-neighbours Inv-loop μ-loop
 cast-neighbours c =
     let start = c .before .before in
-    omega (arith, (low _ _ _ _ _ _ _ (start .pre .1) (c .before .loop .inv) (omega arith)) .below, (start .pre .0))
+    omega (arith, (low _ _ _ _ _ _ _ (start .pre .1) (c .before .loop .inv) (omega arith)) .below)
 
 mul-neighbours : tie.Need-mul-neighbours Inv-loop μ-loop
 mul-neighbours c =
@@ -63,17 +64,16 @@ sub-left : tie.Need-sub-left Inv-loop μ-loop
 sub-left c =
     let start = c .before .before in
     let at-loop = c .before in
-    rw (shifted (trailingZeros 64 (at-loop .loop .left)) ((low _ _ _ _ _ _ _ (start .pre .1) (at-loop .loop .inv) (omega arith)) .below))
+    rw (shifted (trailingZeros 64 _) ((low _ _ _ _ _ _ _ (start .pre .1) (at-loop .loop .inv) (omega arith)) .below))
     ((low _ _ _ _ _ _ _ (start .pre .1) (at-loop .loop .inv) (omega arith)) .holds)
 
 loop-less : tie.Need-loop-less Inv-loop μ-loop
 loop-less c =
     let start = c .before .before in
     let at-loop = c .before in
-    rw (shifted (trailingZeros 64 (at-loop .loop .left)) ((low _ _ _ _ _ _ _ (start .pre .1) (at-loop .loop .inv) (omega arith)) .below))
+    rw (shifted (trailingZeros 64 _) ((low _ _ _ _ _ _ _ (start .pre .1) (at-loop .loop .inv) (omega arith)) .below))
     (omega (
       arith,
-      (low _ _ _ _ _ _ _ (start .pre .1) (at-loop .loop .inv) (omega arith)) .holds,
       pow-pos
           (trailingZeros 64 (at-loop .loop .left)),
     ))
@@ -82,7 +82,7 @@ loop-again : tie.Need-loop-again Inv-loop μ-loop
 loop-again c =
     let start = c .before .before in
     let at-loop = c .before in
-    rw (shifted (trailingZeros 64 (at-loop .loop .left)) ((low _ _ _ _ _ _ _ (start .pre .1) (at-loop .loop .inv) (omega arith)) .below))
+    rw (shifted (trailingZeros 64 _) ((low _ _ _ _ _ _ _ (start .pre .1) (at-loop .loop .inv) (omega arith)) .below))
     (some-more _ _ _ _ _ _ _ (start .pre .1) (at-loop .loop .inv) (omega arith))
 
 same-length : tie.Need-same-length Inv-loop μ-loop

@@ -31,13 +31,13 @@ write-lists-requires : tie.Need-write-lists-requires
 write-lists-requires c κs =
     let start = c .before .before .before .before .before .before .before .before .before .before .before in
     let at-read-links = c .before .before .before .before .before .before in
-    let d = (links-taken (start .args .n) (start .args .m) (length (start .args .starts .now)) (length (start .args .neighbours .now))
-    (drop (start .args .at) (start .args .text .now)) (at-read-links .read-links .last .1 .1 .1 .1 .0) (start .pre .0 .0)
+    let d = (links-taken _ _ (length (start .args .starts .now)) (length (start .args .neighbours .now))
+    (drop (start .args .at) _) _ (start .pre .0 .0)
     (subst (λ (r : Links). Told (readLinks (start .args .n) (start .args .m) [] (drop (start .args .at) (start .args .text .now))) r
     (at-read-links .read-links .last .1 .1 .1 .1 .0)) (c .before .before .before .enum-told .given .1)
     (at-read-links .read-links .ensures))) in (
       ((start .pre .0 .0), d .long, (start .pre .0 .2)),
-      (omega (arith, d .few, (start .pre .0 .3)), omega (arith, d .few, (start .pre .0 .1))),
+      (omega arith, omega arith),
     )
 
 returns : tie.Need-returns
@@ -46,9 +46,9 @@ returns c =
     let at-read-links = c .before .before .before .before in
     let at-r = c .before in
     read-refused (length (start .args .starts .now)) (length (start .args .neighbours .now)) (at-r .r .given .0 .0)
-    (start .args .starts .now) (start .args .neighbours .now) (start .pre .1 .0) (start .pre .1 .1) ∙ links-refused (start .args .n)
-    (start .args .m) (length (start .args .starts .now)) (length (start .args .neighbours .now))
-    (drop (start .args .at) (start .args .text .now)) (at-read-links .read-links .last .1 .1 .1 .1 .0) (at-r .r .given .0 .0)
+    _ _ (start .pre .1 .0) (start .pre .1 .1) ∙ links-refused _
+    _ (length (start .args .starts .now)) (length (start .args .neighbours .now))
+    (drop (start .args .at) _) _ _
     (subst (λ (r : Links). Told (readLinks (start .args .n) (start .args .m) [] (drop (start .args .at) (start .args .text .now))) r
     (at-read-links .read-links .last .1 .1 .1 .1 .0)) (at-r .r .given .1) (at-read-links .read-links .ensures))
 
@@ -64,14 +64,14 @@ returns-2 c =
     let at-read-links = c .before .before .before .before .before .before .before .before .before .before .before in
     let at-enum-told = c .before .before .before .before .before .before .before .before in
     let at-write-lists = c .before .before .before .before in
-    read-written (start .args .n) (start .args .m) (length (start .args .starts .now)) (length (start .args .neighbours .now))
-    (drop (start .args .at) (start .args .text .now)) (at-read-links .read-links .last .1 .1 .1 .1 .0)
-    (links-taken (start .args .n) (start .args .m) (length (start .args .starts .now)) (length (start .args .neighbours .now))
-    (drop (start .args .at) (start .args .text .now)) (at-read-links .read-links .last .1 .1 .1 .1 .0) (start .pre .0 .0)
+    read-written _ _ (length (start .args .starts .now)) (length (start .args .neighbours .now))
+    (drop (start .args .at) _) _
+    (links-taken _ _ (length (start .args .starts .now)) (length (start .args .neighbours .now))
+    (drop (start .args .at) _) _ (start .pre .0 .0)
     (subst (λ (r : Links). Told (readLinks (start .args .n) (start .args .m) [] (drop (start .args .at) (start .args .text .now))) r
     (at-read-links .read-links .last .1 .1 .1 .1 .0)) (at-enum-told .enum-told .given .1) (at-read-links .read-links .ensures)))
-    (start .args .starts .now) (start .args .neighbours .now) (at-write-lists .write-lists .last .1 .1 .0)
-    (at-write-lists .write-lists .last .1 .1 .1 .0) (start .pre .1 .0) (start .pre .1 .1) (at-write-lists .write-lists .ensures .0)
+    _ _ _
+    _ (start .pre .1 .0) (start .pre .1 .1) (at-write-lists .write-lists .ensures .0)
     (at-write-lists .write-lists .ensures .1)
 
 pub read-lists-spec : {M : Type 1} → statement M

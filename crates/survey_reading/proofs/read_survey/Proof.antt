@@ -1,5 +1,6 @@
 -- `survey_reading::read_survey` meets its contract: it reads within the limits of a survey, and what is read is right.
 -- Assumes nothing.
+use native.Mathlib.Omega.{arith}
 use lib.ListN.{length}
 use Rattle.survey_reading.proofs.ReadLaws.{read-is}
 use borrow.Author.Needs.{needs}
@@ -18,7 +19,7 @@ same-length-2 c = search needs
 returns : tie.Need-returns
 returns c =
     let start = c .before .before .before .before .before .before .before .before .before .before in
-    read-is (start .args .text .now) (length (start .args .starts .now)) (length (start .args .neighbours .now)) _
+    read-is _ (length (start .args .starts .now)) (length (start .args .neighbours .now)) _
     (c .before .before .before .before .read-within .ensures)
 
 pub read-survey-spec : {M : Type 1} → statement M

@@ -30,12 +30,12 @@ read-lists-requires c κs =
     let start = c .before .before .before .before .before .before .before .before .before .before .before .before .before .before .before .before .before in
     let at-fill32 = c .before .before .before .before .before .before .before .before .before .before .before .before in
     let at-fill16 = c .before .before .before .before .before .before .before .before in
-    let w = counts-within (start .args .most-nodes) (start .args .most-links) (length (at-fill32 .fill32 .last .0))
-    (length (at-fill16 .fill16 .last .0)) (start .args .text .now) _ _ _
-    (sym (sym (ap (lineAnswer (start .args .text .now)) (c .before .before .before .n .given .1)) ∙
+    let w = counts-within _ _ (length (at-fill32 .fill32 .last .0))
+    (length (at-fill16 .fill16 .last .0)) _ _ _ _
+    (sym (sym (ap (lineAnswer _) (c .before .before .before .n .given .1)) ∙
     (c .before .before .before .before .before .first-line .ensures)))
     in (
-      (omega (arith, w .size, (start .pre .0)), omega (arith, w .few, (start .pre .1)), w .room, w .list-room),
+      (omega arith, omega arith, w .room, w .list-room),
       (
         filled-own 0 (length (start .args .starts .now)) (at-fill32 .fill32 .ensures),
         filled-own 0
@@ -55,10 +55,10 @@ returns c =
     let at-fill32 = c .before .before .before .before .before .before .before .before .before .before in
     let at-fill16 = c .before .before .before .before .before .before in
     let at-r = c .before in
-    first-refused (start .args .most-nodes) (start .args .most-links) (start .args .text .now) (start .args .starts .now)
-    (start .args .neighbours .now) (at-fill32 .fill32 .last .0) (at-fill16 .fill16 .last .0) (at-fill32 .fill32 .ensures)
+    first-refused _ _ _ (start .args .starts .now)
+    (start .args .neighbours .now) _ _ (at-fill32 .fill32 .ensures)
     (at-fill16 .fill16 .ensures) (at-r .r .given .0 .0)
-    (sym (ap (lineAnswer (start .args .text .now)) (at-r .r .given .1)) ∙ (c .before .before .before .first-line .ensures))
+    (sym (ap (lineAnswer _) (at-r .r .given .1)) ∙ (c .before .before .before .first-line .ensures))
 
 same-length-3 : tie.Need-same-length-3
 same-length-3 c = search needs
@@ -73,9 +73,9 @@ returns-2 c =
     let at-fill16 = c .before .before .before .before .before .before .before .before .before .before .before .before .before in
     let at-first-line = c .before .before .before .before .before .before .before .before .before .before in
     let at-n = c .before .before .before .before .before .before .before .before in
-    first-read (start .args .most-nodes) (start .args .most-links) (start .args .text .now) (start .args .starts .now)
-    (start .args .neighbours .now) (at-fill32 .fill32 .last .0) (at-fill16 .fill16 .last .0) (at-fill32 .fill32 .ensures)
-    (at-fill16 .fill16 .ensures) _ _ _ (sym (ap (lineAnswer (start .args .text .now)) (at-n .n .given .1)) ∙
+    first-read _ _ _ (start .args .starts .now)
+    (start .args .neighbours .now) _ _ (at-fill32 .fill32 .ensures)
+    (at-fill16 .fill16 .ensures) _ _ _ (sym (ap (lineAnswer _) (at-n .n .given .1)) ∙
     (at-first-line .first-line .ensures)) _ (c .before .before .before .before .read-lists .ensures)
 
 pub read-within-spec : {M : Type 1} → statement M

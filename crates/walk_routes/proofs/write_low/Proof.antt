@@ -17,12 +17,12 @@ low-part-requires c κs = search needs
 returns : tie.Need-returns
 returns c =
     let start = c .before .before .before .before .before .before .before .before in
-    part-missed (start .args .answer) (start .args .walk .now) (start .pre .1) (c .before .before .low-part .ensures) (c .if1 .taken)
+    part-missed _ _ (start .pre .1) (c .before .before .low-part .ensures) (c .if1 .taken)
 
 returns-2 : tie.Need-returns-2
 returns-2 c =
     let start = c .before .before .before .before .before .before .before .before .before in
-    part-short (start .args .answer) (start .args .walk .now) (start .pre .1) _ (c .before .before .before .low-part .ensures)
+    part-short _ _ (start .pre .1) _ (c .before .before .before .low-part .ensures)
     (c .if2 .taken)
 
 array-share-prefix-nodes : tie.Need-array-share-prefix-nodes
@@ -30,30 +30,16 @@ array-share-prefix-nodes c = search needs
 
 slice-aggregate-copy16-reversed : tie.Need-slice-aggregate-copy16-reversed
 slice-aggregate-copy16-reversed c =
-    let start = c .before .before .before .before .before .before .before .before .before .before in
-    let at-low-part = c .before .before .before .before in
-    sym (length-take-le (at-low-part .low-part .result) (at-low-part .low-part .last .1 .1 .1 .1 .1 .1 .0)
-    (omega (
-      arith,
-      (at-low-part .low-part .ensures .few),
-      (start .pre .0 .0 .size),
-      (at-low-part .low-part .kept .1 .1 .1 .1 .1 .1 .0),
-    )))
+    sym (length-take-le _ _
+    (omega arith))
 
 copy16-reversed-requires : tie.Need-copy16-reversed-requires
 copy16-reversed-requires c κs =
-    let start = c .before .before .before .before .before .before .before .before .before .before .before in
     let at-low-part = c .before .before .before .before .before in
     omega (
       arith,
       (length-take-le (at-low-part .low-part .result) (at-low-part .low-part .last .1 .1 .1 .1 .1 .1 .0)
-          (omega (
-            arith,
-            (at-low-part .low-part .ensures .few),
-            (start .pre .0 .0 .size),
-            (at-low-part .low-part .kept .1 .1 .1 .1 .1 .1 .0),
-          ))),
-      (c .before .before .if2 .left),
+          (omega arith)),
     )
 
 same-length : tie.Need-same-length
@@ -64,7 +50,7 @@ returns-3 c =
     let start = c .before .before .before .before .before .before .before .before .before .before .before .before .before .before in
     let at-low-part = c .before .before .before .before .before .before .before .before in
     let at-if1 = c .before .before .before .before .before .before in
-    part-fits (start .args .answer) (start .args .walk .now) (start .pre .1) _ (at-low-part .low-part .ensures) (at-if1 .if1 .left)
+    part-fits _ _ (start .pre .1) _ (at-low-part .low-part .ensures) (at-if1 .if1 .left)
     (c .before .before .before .before .before .if2 .left) (c .before .before .copy16-reversed .ensures)
 
 pub write-low-spec : {M : Type 1} → statement M

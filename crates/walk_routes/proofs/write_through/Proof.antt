@@ -17,7 +17,7 @@ hub-part-requires c κs = search needs
 returns : tie.Need-returns
 returns c =
     let start = c .before .before .before .before .before .before .before .before in
-    first-missed (start .args .answer) (start .args .walk .now) (start .pre .1) _ (c .before .before .hub-part .ensures) (c .if1 .taken)
+    first-missed _ _ (start .pre .1) _ (c .before .before .hub-part .ensures) (c .if1 .taken)
 
 slice-aggregate-hub-part-2 : tie.Need-slice-aggregate-hub-part-2
 slice-aggregate-hub-part-2 c = search needs
@@ -28,7 +28,7 @@ hub-part-requires-2 c κs = search needs
 returns-2 : tie.Need-returns-2
 returns-2 c =
     let start = c .before .before .before .before .before .before .before .before .before .before .before .before in
-    second-missed (start .args .answer) (start .args .walk .now) (start .pre .1) _ (c .before .before .hub-part2 .ensures) (c .if2 .taken)
+    second-missed _ _ (start .pre .1) _ (c .before .before .hub-part2 .ensures) (c .if2 .taken)
 
 add-if3 : tie.Need-add-if3
 add-if3 c = search needs
@@ -40,7 +40,7 @@ returns-3 : tie.Need-returns-3
 returns-3 c =
     let start = c .before .before .before .before .before .before .before .before .before .before .before .before .before in
     let at-hub-part = c .before .before .before .before .before .before .before in
-    both-short (start .args .answer) (start .args .walk .now) (start .pre .1) _ _ (at-hub-part .hub-part .ensures)
+    both-short _ _ (start .pre .1) _ _ (at-hub-part .hub-part .ensures)
     (c .before .before .before .hub-part2 .ensures) (c .before .before .before .before .before .if1 .left) (c .before .if2 .left)
     (c .if3 .taken)
 
@@ -49,31 +49,16 @@ array-share-prefix-there c = search needs
 
 slice-aggregate-copy16-reversed : tie.Need-slice-aggregate-copy16-reversed
 slice-aggregate-copy16-reversed c =
-    let start = c .before .before .before .before .before .before .before .before .before .before .before .before .before .before in
-    let at-hub-part = c .before .before .before .before .before .before .before .before in
-    sym (length-take-le (at-hub-part .hub-part .result) (at-hub-part .hub-part .last .1 .1 .1 .1 .1 .1 .0)
-    (omega (
-      arith,
-      (at-hub-part .hub-part .ensures .few),
-      (start .pre .0 .0 .size),
-      (at-hub-part .hub-part .kept .1 .1 .1 .1 .1 .1 .0),
-    )))
+    sym (length-take-le _ _
+    (omega arith))
 
 copy16-reversed-requires : tie.Need-copy16-reversed-requires
 copy16-reversed-requires c κs =
-    let start = c .before .before .before .before .before .before .before .before .before .before .before .before .before .before .before in
     let at-hub-part = c .before .before .before .before .before .before .before .before .before in
     omega (
       arith,
       (length-take-le (at-hub-part .hub-part .result) (at-hub-part .hub-part .last .1 .1 .1 .1 .1 .1 .0)
-          (omega (
-            arith,
-            (at-hub-part .hub-part .ensures .few),
-            (start .pre .0 .0 .size),
-            (at-hub-part .hub-part .kept .1 .1 .1 .1 .1 .1 .0),
-          ))),
-      (c .before .before .if3 .left),
-      (c .before .before .before .if2 .left),
+          (omega arith)),
     )
 
 sub-copy16 : tie.Need-sub-copy16
@@ -100,7 +85,7 @@ returns-4 c =
     let at-if2 = c .before .before .before .before .before .before .before .before .before .before .before .before in
     let at-if3 = c .before .before .before .before .before .before .before .before .before .before .before in
     let at-copy16-reversed = c .before .before .before .before .before .before .before .before in
-    both-fit (start .args .answer) (start .args .walk .now) (start .pre .1) _ _ (at-hub-part .hub-part .ensures)
+    both-fit _ _ (start .pre .1) _ _ (at-hub-part .hub-part .ensures)
     (at-hub-part2 .hub-part2 .ensures) (at-if1 .if1 .left) (at-if2 .if2 .left) (at-if3 .if3 .left)
     (at-copy16-reversed .copy16-reversed .ensures) (c .before .before .copy16 .ensures)
 

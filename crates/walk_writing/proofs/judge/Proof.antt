@@ -12,35 +12,31 @@ use Rattle.walk_writing.proofs.judge.Tie as tie
 
 returns : tie.Need-returns
 returns c =
-    let start = c .before .before .before .before .before .before in
-    bad-size (start .args .n) (start .args .starts .now) (start .args .neighbours .now) (start .args .full .now) (start .args .low .now)
-    (start .args .report .now) (start .args .a) (start .args .b) (small-size (start .args .n) (c .if1 .taken))
+    bad-size _ _ _ _ _
+    _ _ _ (small-size _ (c .if1 .taken))
 
 returns-2 : tie.Need-returns-2
 returns-2 c =
-    let start = c .before .before .before .before .before .before .before in
-    bad-size (start .args .n) (start .args .starts .now) (start .args .neighbours .now) (start .args .full .now) (start .args .low .now)
-    (start .args .report .now) (start .args .a) (start .args .b) (large-size (start .args .n) (c .if2 .taken))
+    bad-size _ _ _ _ _
+    _ _ _ (large-size _ (c .if2 .taken))
 
 add-if3 : tie.Need-add-if3
 add-if3 c = search needs
 
 returns-3 : tie.Need-returns-3
 returns-3 c =
-    let start = c .before .before .before .before .before .before .before .before in
-    starts-short (start .args .n) (start .args .starts .now) (start .args .neighbours .now) (start .args .full .now)
-    (start .args .low .now) (start .args .report .now) (start .args .a) (start .args .b)
-    (good-size (start .args .n) (omega arith) (omega arith)) (c .if3 .taken)
+    starts-short _ _ _ _
+    _ _ _ _
+    (good-size _ (omega arith) (omega arith)) (c .if3 .taken)
 
 tables-short-requires : tie.Need-tables-short-requires
 tables-short-requires c κs = search needs
 
 returns-4 : tie.Need-returns-4
 returns-4 c =
-    let start = c .before .before .before .before .before .before .before .before .before .before in
-    tables-short (start .args .n) (start .args .starts .now) (start .args .neighbours .now) (start .args .full .now)
-    (start .args .low .now) (start .args .report .now) (start .args .a) (start .args .b)
-    (good-size (start .args .n) (omega arith) (omega arith)) (c .before .before .if3 .left)
+    tables-short _ _ _ _
+    _ _ _ _
+    (good-size _ (omega arith) (omega arith)) (c .before .before .if3 .left)
     (sym (c .before .tables-short .ensures) ∙ (c .if4 .taken))
 
 is-survey-requires : tie.Need-is-survey-requires
@@ -48,28 +44,25 @@ is-survey-requires c κs = search needs
 
 returns-5 : tie.Need-returns-5
 returns-5 c =
-    let start = c .before .before .before .before .before .before .before .before .before .before .before .before in
-    not-survey (start .args .n) (start .args .starts .now) (start .args .neighbours .now) (start .args .full .now) (start .args .low .now)
-    (start .args .report .now) (start .args .a) (start .args .b) (good-size (start .args .n) (omega arith) (omega arith))
+    not-survey _ _ _ _ _
+    _ _ _ (good-size _ (omega arith) (omega arith))
     (c .before .before .before .before .if3 .left)
     (sym (c .before .before .before .tables-short .ensures) ∙ (c .before .before .if4 .left))
     (sym (c .before .is-survey .ensures) ∙ not-true _ (c .if5 .taken))
 
 returns-6 : tie.Need-returns-6
 returns-6 c =
-    let start = c .before .before .before .before .before .before .before .before .before .before .before .before .before in
-    no-node (start .args .n) (start .args .starts .now) (start .args .neighbours .now) (start .args .full .now) (start .args .low .now)
-    (start .args .report .now) (start .args .a) (start .args .b) (good-size (start .args .n) (omega arith) (omega arith))
+    no-node _ _ _ _ _
+    _ _ _ (good-size _ (omega arith) (omega arith))
     (c .before .before .before .before .before .if3 .left)
     (sym (c .before .before .before .before .tables-short .ensures) ∙ (c .before .before .before .if4 .left))
     (sym (c .before .before .is-survey .ensures) ∙ not-false _ (c .before .if5 .left)) (rw (le-leb _ _ (c .if6 .taken)))
 
 returns-7 : tie.Need-returns-7
 returns-7 c =
-    let start = c .before .before .before .before .before .before .before .before .before .before .before .before .before .before in
     let at-if3 = c .before .before .before .before .before .before in
-    no-node (start .args .n) (start .args .starts .now) (start .args .neighbours .now) (start .args .full .now) (start .args .low .now)
-    (start .args .report .now) (start .args .a) (start .args .b) (good-size (start .args .n) (omega arith) (omega arith))
+    no-node _ _ _ _ _
+    _ _ _ (good-size _ (omega arith) (omega arith))
     (at-if3 .if3 .left) (sym (c .before .before .before .before .before .tables-short .ensures) ∙
     (c .before .before .before .before .if4 .left))
     (sym (c .before .before .before .is-survey .ensures) ∙ not-false _ (c .before .before .if5 .left))
@@ -83,11 +76,10 @@ pair-answer-requires c κs =
 
 returns-8 : tie.Need-returns-8
 returns-8 c =
-    let start = c .before .before .before .before .before .before .before .before .before .before .before .before .before .before .before in
     let at-if3 = c .before .before .before .before .before .before .before in
     let at-tables-short = c .before .before .before .before .before .before in
-    pair-judged (start .args .n) (start .args .starts .now) (start .args .neighbours .now) (start .args .full .now) (start .args .low .now)
-    (start .args .report .now) (start .args .a) (start .args .b) (good-size (start .args .n) (omega arith) (omega arith))
+    pair-judged _ _ _ _ _
+    _ _ _ (good-size _ (omega arith) (omega arith))
     (at-if3 .if3 .left) (sym (at-tables-short .tables-short .ensures) ∙ (c .before .before .before .before .before .if4 .left))
     (sym (c .before .before .before .before .is-survey .ensures) ∙ not-false _ (c .before .before .before .if5 .left))
     (c .before .before .if6 .left) (c .before .if7 .left) (c .pair-answer .ensures)

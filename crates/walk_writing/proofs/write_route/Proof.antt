@@ -14,14 +14,12 @@ enum-told c = search needs
 returns : tie.Need-returns
 returns c =
     let start = c .before .before .before .before .before .before .before .before in
-    itself-short (start .args .n) (threshold (start .args .n)) (neighboursOf (start .args .starts .now) (start .args .neighbours .now))
-    (start .args .full .now) (start .args .low .now) (start .args .a) (start .args .b) (start .args .answer) (start .args .walk .now)
+    itself-short _ (threshold _) (neighboursOf _ _)
+    _ _ _ _ _ _
     (start .pre .1) (c .before .enum-told .given .1) (c .if1 .taken)
 
 cast-walk : tie.Need-cast-walk
-cast-walk c =
-    let start = c .before .before .before .before .before .before .before .before in
-    omega (arith, (start .pre .0 .first), (start .pre .0 .survey .size))
+cast-walk c = search needs
 
 slice-write-walk : tie.Need-slice-write-walk
 slice-write-walk c = search needs
@@ -30,9 +28,7 @@ enum-told-2 : tie.Need-enum-told-2
 enum-told-2 c = search needs
 
 write-low-requires : tie.Need-write-low-requires
-write-low-requires c κs =
-    let start = c .before .before .before .before .before .before .before .before in
-    (((start .pre .0 .survey), (start .pre .0 .in-low), (start .pre .0 .first), (start .pre .0 .last)), (start .pre .1))
+write-low-requires c κs = search needs
 
 enum-known-route : tie.Need-enum-known-route
 enum-known-route c = search needs
@@ -50,7 +46,7 @@ write-through-requires c κs =
         (start .pre .0 .first),
         (start .pre .0 .last),
         (start .pre .0 .hub)
-            (at-route .route .given .0 .0) (at-route .route .given .1),
+            _ (at-route .route .given .1),
       ),
       (start .pre .1),
     )
@@ -64,8 +60,8 @@ same-length c = search needs
 returns-2 : tie.Need-returns-2
 returns-2 c =
     let start = c .before .before .before .before .before .before .before .before in
-    itself-fits (start .args .n) (threshold (start .args .n)) (neighboursOf (start .args .starts .now) (start .args .neighbours .now))
-    (start .args .full .now) (start .args .low .now) (start .args .a) (start .args .b) (start .args .answer) (start .args .walk .now)
+    itself-fits _ (threshold _) (neighboursOf _ _)
+    _ _ _ _ _ _
     (start .pre .1) (c .before .enum-told .given .1) (c .if1 .left)
 
 same-length-2 : tie.Need-same-length-2
@@ -74,8 +70,8 @@ same-length-2 c = search needs
 returns-3 : tie.Need-returns-3
 returns-3 c =
     let start = c .before .before .before .before .before .before .before .before .before .before .before in
-    low-given (start .args .n) (threshold (start .args .n)) (neighboursOf (start .args .starts .now) (start .args .neighbours .now))
-    (start .args .full .now) (start .args .low .now) (start .args .a) (start .args .b) (start .args .answer) (start .args .walk .now)
+    low-given _ (threshold _) (neighboursOf _ _)
+    _ _ _ _ _ (start .args .walk .now)
     (c .before .before .before .before .enum-told2 .given .1) (c .before .before .write-low .ensures)
 
 same-length-3 : tie.Need-same-length-3
@@ -85,15 +81,15 @@ returns-4 : tie.Need-returns-4
 returns-4 c =
     let start = c .before .before .before .before .before .before .before .before .before .before .before .before in
     let at-route = c .before .before .before .before .before in
-    through-given (start .args .n) (threshold (start .args .n)) (neighboursOf (start .args .starts .now) (start .args .neighbours .now))
-    (start .args .full .now) (start .args .low .now) (start .args .a) (start .args .b) (start .args .answer) (start .args .walk .now)
-    (at-route .route .given .0 .0) (at-route .route .given .1) (c .before .before .write-through .ensures)
+    through-given _ (threshold _) (neighboursOf _ _)
+    _ _ _ _ _ (start .args .walk .now)
+    _ (at-route .route .given .1) (c .before .before .write-through .ensures)
 
 returns-5 : tie.Need-returns-5
 returns-5 c =
     let start = c .before .before .before .before .before .before .before in
-    none-given (start .args .n) (threshold (start .args .n)) (neighboursOf (start .args .starts .now) (start .args .neighbours .now))
-    (start .args .full .now) (start .args .low .now) (start .args .a) (start .args .b) (start .args .answer) (start .args .walk .now)
+    none-given _ (threshold _) (neighboursOf _ _)
+    _ _ _ _ _ _
     (start .pre .1) (c .enum-told3 .given .1)
 
 pub write-route-spec : {M : Type 1} → statement M

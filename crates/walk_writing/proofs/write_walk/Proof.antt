@@ -1,5 +1,6 @@
 -- `walk_writing::write_walk` meets its contract: the list becomes all none, then the answer that was judged says what is written.
 -- Assumes nothing.
+use native.Mathlib.Omega.{arith}
 use mathlib.Core.Path.{ap}
 use lib.ListN.{length}
 use Rattle.base_lists.proofs.Filling.{filled-own}
@@ -27,7 +28,7 @@ write-route-requires c κs =
     let start = c .before .before .before .before .before .before .before .before .before .before .before .before .before .before .before in
     let at-fill16 = c .before .before .before .before .before .before .before in
     let at-x = c .before .before in (
-      (c .before .before .before .before .judge .ensures .1) (at-x .x .given .0 .0) (ap pairAnswer (at-x .x .given .1)),
+      (c .before .before .before .before .judge .ensures .1) _ (ap pairAnswer (at-x .x .given .1)),
       filled-own none
           (length (start .args .walk .now)) (at-fill16 .fill16 .ensures),
     )
@@ -39,8 +40,8 @@ returns : tie.Need-returns
 returns c =
     let start = c .before .before .before .before .before .before .before .before .before .before .before .before .before .before in
     let at-fill16 = c .before .before .before .before .before .before in
-    refused-written (start .args .n) (start .args .starts .now) (start .args .neighbours .now) (start .args .full .now)
-    (start .args .low .now) (start .args .report .now) (start .args .a) (start .args .b) (length (start .args .walk .now))
+    refused-written _ _ _ _
+    _ _ _ _ (length (start .args .walk .now))
     (c .before .before .before .judge .ensures .0) (ap pairAnswer (c .before .k .given .1)) (at-fill16 .fill16 .ensures)
 
 same-length-2 : tie.Need-same-length-2
@@ -52,9 +53,9 @@ returns-2 c =
     let at-fill16 = c .before .before .before .before .before .before .before .before .before .before in
     let at-judge = c .before .before .before .before .before .before .before in
     let at-x = c .before .before .before .before .before in
-    route-written (start .args .n) (start .args .starts .now) (start .args .neighbours .now) (start .args .full .now)
-    (start .args .low .now) (start .args .report .now) (start .args .a) (start .args .b) (length (start .args .walk .now))
-    (at-judge .judge .ensures .0) (at-x .x .given .0 .0) (ap pairAnswer (at-x .x .given .1)) (at-fill16 .fill16 .ensures)
+    route-written _ _ _ _
+    _ _ _ _ (length (start .args .walk .now))
+    (at-judge .judge .ensures .0) _ (ap pairAnswer (at-x .x .given .1)) (at-fill16 .fill16 .ensures)
     (c .before .before .write-route .ensures)
 
 pub write-walk-spec : {M : Type 1} → statement M
