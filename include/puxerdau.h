@@ -19,7 +19,7 @@
  * The declarations, the constants and the inline functions of this file are not proved. examples/run and comparison/stack use them;
  * comparison/compare holds the constants to their numbers and takes every answer apart by the functions below.
  *
- * An answer is one number of 64 bits: `code` of crates/codes/specs/Code.antt, taken apart by the functions below. */
+ * An answer is one number of 64 bits: `code` of crates/base_answer_codes/specs/Code.antt, taken apart by the functions below. */
 #ifndef PUXERDAU_H
 #define PUXERDAU_H
 

@@ -1,4 +1,4 @@
-//! The archive's functions. Each answers one number: `code` of crates/codes/specs/Code.antt.
+//! The archive's functions. Each answers one number: `code` of crates/base_answer_codes/specs/Code.antt.
 
 mod raw {
     extern "C" {

@@ -1,32 +1,32 @@
 //! Command line: `reference COMMAND`; NOTES.md lists the commands.
 
-mod cases;
-mod cases_tables;
 mod commands;
 #[path = "../tests/common/mod.rs"]
 mod common;
 mod examples;
-mod large;
 mod reports_compared;
-mod script;
-mod script_tables;
+mod test_largest;
+mod test_surveys;
+mod test_surveys_input;
+mod test_tables;
+mod test_tables_input;
 
 use std::io::{self, Read, Write};
 use std::process::ExitCode;
 
-const USAGE: &str = "usage: reference examples | reports | script | cases | script-tables | cases-tables | survey-large | large | compare-reports PROGRAM COUNT SEED";
+const USAGE: &str = "usage: reference examples | reports | test-surveys-input | test-surveys | test-tables-input | test-tables | test-largest-input | test-largest | compare-reports PROGRAM COUNT SEED";
 
 fn main() -> ExitCode {
     let arguments: Vec<String> = std::env::args().skip(1).collect();
     let outcome = match arguments.iter().map(String::as_str).collect::<Vec<_>>()[..] {
         ["examples"] => print_examples(),
         ["reports"] => print_reports(),
-        ["script"] => print_bytes(&script::make()),
-        ["cases"] => print_cases(cases::run),
-        ["script-tables"] => print_bytes(&script_tables::make()),
-        ["cases-tables"] => print_cases(cases_tables::run),
-        ["survey-large"] => print_bytes(large::make().as_bytes()),
-        ["large"] => print_cases(large::run),
+        ["test-surveys-input"] => print_bytes(&test_surveys_input::make()),
+        ["test-surveys"] => print_answers(test_surveys::run),
+        ["test-tables-input"] => print_bytes(&test_tables_input::make()),
+        ["test-tables"] => print_answers(test_tables::run),
+        ["test-largest-input"] => print_bytes(test_largest::make().as_bytes()),
+        ["test-largest"] => print_answers(test_largest::run),
         ["compare-reports", program, count, seed] => compare_reports(program, count, seed),
         _ => Err(String::from(USAGE)),
     };
@@ -48,7 +48,7 @@ fn print_reports() -> Result<(), String> {
     print_bytes(&reference::reports(&standard_input()?))
 }
 
-fn print_cases(run: fn(&[u8]) -> String) -> Result<(), String> {
+fn print_answers(run: fn(&[u8]) -> String) -> Result<(), String> {
     print_bytes(run(&standard_input()?).as_bytes())
 }
 

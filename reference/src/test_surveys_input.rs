@@ -1,13 +1,13 @@
-//! Makes the script that the Rattle program `cases` is run on: document
-//! 01's examples, texts damaged by hand and by chance, and lists that are
+//! Makes the script that the Rattle program `test_surveys` is run on: the
+//! rules' examples, texts damaged by hand and by chance, and lists that are
 //! no survey's.
 
 use crate::common::{small_samples, Random, Sample, COURSE};
 
 const COURSE_TURNED: &str = "S,6,6\nL,2,1\nL,5,4\nL,3,5\nL,5,0\nL,2,5\nL,5,1\n";
 
-/// Texts for reading, each into long lists. The first five are document
-/// 01's examples: the course survey, and refusals 2 and 3.
+/// Texts for reading, each into long lists. The first five are the
+/// rules' examples: the course survey, and refusals 2 and 3.
 const TEXTS: &[&str] = &[
     COURSE,
     COURSE_TURNED,

@@ -1,5 +1,5 @@
 //! Runs a script of building, asking, walking and testing. The Rattle
-//! program `cases_tables` runs the same scripts; its source describes their
+//! program `test_tables` runs the same scripts; its source describes their
 //! lines.
 
 use crate::commands::{self, outcome, run_read, sum, test_numbers, Command, Script};

@@ -1,15 +1,15 @@
-//! Makes the script that the Rattle program `cases_tables` is run on:
+//! Makes the script that the Rattle program `test_tables` is run on:
 //! the rules' examples, surveys of many shapes, wrong lengths and
 //! numbers, lists that are no survey's, and altered tables.
 
-use crate::cases_tables::{
-    Numbers, FULL, HUBS, LENGTHS, LOW, NEIGHBOURS, NODES, REPORT, STARTS, WALK,
-};
 use crate::common::{
     blocks, complete_and_path, cycle, from_links, joined_blocks, path, random_links, star, tree,
     two_parts, Built, Random, Sample, COURSE,
 };
-use crate::script::{line, read_into};
+use crate::test_surveys_input::{line, read_into};
+use crate::test_tables::{
+    Numbers, FULL, HUBS, LENGTHS, LOW, NEIGHBOURS, NODES, REPORT, STARTS, WALK,
+};
 use reference::NONE;
 
 /// The course survey with a seventh node that has no link.

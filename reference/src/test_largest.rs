@@ -1,4 +1,4 @@
-//! The largest survey, and what the Rattle program `large` prints for it.
+//! The largest survey, and what the Rattle program `test_largest` prints for it.
 
 use crate::commands::{line, outcome, sum, test_numbers};
 use crate::common::{Random, Sample};
