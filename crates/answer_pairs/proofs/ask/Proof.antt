@@ -12,37 +12,34 @@ use Rattle.answer_pairs.proofs.ask.Tie as tie
 
 returns : tie.Need-returns
 returns c =
-    let start = c .before .before .before .before in
-    bad-size (start .args .n) (start .args .full .now) (start .args .low .now) (start .args .report .now) (start .args .a) (start .args .b)
-    (small-size (start .args .n) (c .if1 .taken))
+    bad-size _ _ _ _ _ _
+    (small-size _ (c .if1 .taken))
 
 returns-2 : tie.Need-returns-2
 returns-2 c =
-    let start = c .before .before .before .before .before in
-    bad-size (start .args .n) (start .args .full .now) (start .args .low .now) (start .args .report .now) (start .args .a) (start .args .b)
-    (large-size (start .args .n) (c .if2 .taken))
+    bad-size _ _ _ _ _ _
+    (large-size _ (c .if2 .taken))
 
 tables-short-requires : tie.Need-tables-short-requires
 tables-short-requires c κs = search needs
 
 returns-3 : tie.Need-returns-3
 returns-3 c =
-    let start = c .before .before .before .before .before .before .before in
-    too-short (start .args .n) (start .args .full .now) (start .args .low .now) (start .args .report .now) (start .args .a)
-    (start .args .b) (good-size (start .args .n) (omega arith) (omega arith)) (sym (c .before .tables-short .ensures) ∙ (c .if3 .taken))
+    too-short _ _ _ _ _
+    _ (good-size _ (omega arith) (omega arith)) (sym (c .before .tables-short .ensures) ∙ (c .if3 .taken))
 
 returns-4 : tie.Need-returns-4
 returns-4 c =
     let start = c .before .before .before .before .before .before .before .before in
-    no-node (start .args .n) (start .args .full .now) (start .args .low .now) (start .args .report .now) (start .args .a) (start .args .b)
-    (good-size (start .args .n) (omega arith) (omega arith)) (sym (c .before .before .tables-short .ensures) ∙ (c .before .if3 .left))
+    no-node _ _ _ _ _ _
+    (good-size _ (omega arith) (omega arith)) (sym (c .before .before .tables-short .ensures) ∙ (c .before .if3 .left))
     (rw (le-leb (start .args .n) (start .args .a) (omega arith)))
 
 returns-5 : tie.Need-returns-5
 returns-5 c =
     let start = c .before .before .before .before .before .before .before .before .before in
-    no-node (start .args .n) (start .args .full .now) (start .args .low .now) (start .args .report .now) (start .args .a) (start .args .b)
-    (good-size (start .args .n) (omega arith) (omega arith))
+    no-node _ _ _ _ _ _
+    (good-size _ (omega arith) (omega arith))
     (sym (c .before .before .before .tables-short .ensures) ∙ (c .before .before .if3 .left))
     (rw (lt-leb _ _ (c .before .if4 .left), le-leb (start .args .n) (start .args .b) (omega arith)))
 
@@ -53,9 +50,8 @@ pair-answer-requires c κs = let r = of-long-tables _ _ _ _
 
 returns-6 : tie.Need-returns-6
 returns-6 c =
-    let start = c .before .before .before .before .before .before .before .before .before .before in
-    pair-asked (start .args .n) (start .args .full .now) (start .args .low .now) (start .args .report .now) (start .args .a)
-    (start .args .b) (good-size (start .args .n) (omega arith) (omega arith))
+    pair-asked _ _ _ _ _
+    _ (good-size _ (omega arith) (omega arith))
     (sym (c .before .before .before .before .tables-short .ensures) ∙ (c .before .before .before .if3 .left))
     (rw (lt-leb _ _ (c .before .before .if4 .left), lt-leb _ _ (c .before .if5 .left))) (c .pair-answer .ensures)
 

@@ -15,9 +15,7 @@ abbrev μ-loop : tie.MeasureT-loop
 μ-loop n full a b r h₀ h = n - h
 
 loop-holds : tie.Need-loop-holds Inv-loop μ-loop
-loop-holds c =
-    let start = c .before in
-    tried-none (start .args .n) (start .args .full .now) (start .args .a) (start .args .b) (start .args .r)
+loop-holds c = search needs
 
 hub-attains-requires : tie.Need-hub-attains-requires Inv-loop μ-loop
 hub-attains-requires c κs = search needs
@@ -27,9 +25,8 @@ cast-result c = omega arith
 
 returns : tie.Need-returns Inv-loop μ-loop
 returns c =
-    let start = c .before .before .before .before .before in
     let at-loop = c .before .before .before in
-    tried-found (start .args .n) (start .args .full .now) (start .args .a) (start .args .b) (start .args .r) (at-loop .loop .h)
+    tried-found _ _ _ _ _ _
     (at-loop .loop .inv) (c .before .before .loop-test .taken) (sym (c .before .hub-attains .ensures) ∙ (c .if1 .taken))
 
 add-h : tie.Need-add-h Inv-loop μ-loop
@@ -40,16 +37,14 @@ loop-less c = omega arith
 
 loop-again : tie.Need-loop-again Inv-loop μ-loop
 loop-again c =
-    let start = c .before .before .before .before .before in
     let at-loop = c .before .before .before in
-    tried-more (start .args .n) (start .args .full .now) (start .args .a) (start .args .b) (start .args .r) (at-loop .loop .h)
+    tried-more _ _ _ _ _ _
     (at-loop .loop .inv) (c .before .before .loop-test .taken) (sym (c .before .hub-attains .ensures) ∙ (c .if1 .left))
 
 returns-2 : tie.Need-returns-2 Inv-loop μ-loop
 returns-2 c =
-    let start = c .before .before .before in
     let at-loop = c .before in
-    tried-all (start .args .n) (start .args .full .now) (start .args .a) (start .args .b) (start .args .r) (at-loop .loop .h)
+    tried-all _ _ _ _ _ _
     (at-loop .loop .inv) (c .loop-test .left)
 
 pub attaining-hub-spec : {M : Type 1} → statement M

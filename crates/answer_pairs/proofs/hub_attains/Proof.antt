@@ -1,5 +1,6 @@
 -- `answer_pairs::hub_attains` meets its contract.
 -- Assumes nothing.
+use native.Mathlib.Omega.{arith}
 use mathlib.Core.Path.{sym, _∙_}
 use Rattle.answer_pairs.proofs.HubLaws.{first-none, second-none, neither-none}
 use borrow.Author.Needs.{needs}
@@ -11,8 +12,7 @@ entry-at-requires c κs = search needs
 
 returns : tie.Need-returns
 returns c =
-    let start = c .before .before .before in
-    first-none (start .args .n) (start .args .full .now) (start .args .a) (start .args .b) (start .args .r) (start .args .h)
+    first-none _ _ _ _ _ _
     (sym (c .before .entry-at .ensures) ∙ (c .if1 .taken))
 
 entry-at-requires-2 : tie.Need-entry-at-requires-2
@@ -20,8 +20,7 @@ entry-at-requires-2 c κs = search needs
 
 returns-2 : tie.Need-returns-2
 returns-2 c =
-    let start = c .before .before .before .before .before in
-    second-none (start .args .n) (start .args .full .now) (start .args .a) (start .args .b) (start .args .r) (start .args .h)
+    second-none _ _ _ _ _ _
     (λ e. (c .before .before .if1 .left) ((c .before .before .before .entry-at .ensures) ∙ e))
     (sym (c .before .entry-at2 .ensures) ∙ (c .if2 .taken))
 
@@ -36,11 +35,10 @@ add-result c = search needs
 
 returns-3 : tie.Need-returns-3
 returns-3 c =
-    let start = c .before .before .before .before .before in
     let at-entry-at = c .before .before .before in
     let at-entry-at2 = c .before in
     rw ((at-entry-at .entry-at .ensures), (at-entry-at2 .entry-at2 .ensures))
-    (neither-none (start .args .n) (start .args .full .now) (start .args .a) (start .args .b) (start .args .r) (start .args .h)
+    (neither-none _ _ _ _ _ _
     (λ e. (c .before .before .if1 .left) ((at-entry-at .entry-at .ensures) ∙ e))
     (λ e. (c .if2 .left) ((at-entry-at2 .entry-at2 .ensures) ∙ e)))
 

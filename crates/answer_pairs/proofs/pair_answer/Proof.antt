@@ -1,5 +1,6 @@
 -- `answer_pairs::pair_answer` meets its contract: at each `return` the tests that led there say which case holds.
 -- Assumes nothing.
+use native.Mathlib.Omega.{arith}
 use mathlib.Core.Path.{_∙_}
 use borrow.Author.Tests.{eq-eqb, ne-eqb}
 use Rattle.model.specs.Pair.{choose, pairBy, pair}

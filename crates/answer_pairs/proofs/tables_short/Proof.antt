@@ -1,5 +1,6 @@
 -- `answer_pairs::tables_short` meets its contract.
 -- Assumes nothing.
+use borrow.Author.Needs.{needs}
 use native.Mathlib.Omega.{arith}
 use borrow.Author.Tests.{lt-ltb, le-ltb}
 use Rattle.model.proofs.Entries.{square-small}
@@ -7,7 +8,7 @@ use Rattle.answer_pairs.proofs.tables_short.Statement.{statement}
 use Rattle.answer_pairs.proofs.tables_short.Tie as tie
 
 mul-size : tie.Need-mul-size
-mul-size c = omega (arith, square-small (c .args .n) (c .pre))
+mul-size c = omega (arith, square-small _ (c .pre))
 
 returns : tie.Need-returns
 returns c = rw (lt-ltb _ _ (c .if1 .taken))

@@ -12,11 +12,11 @@ use Rattle.survey_acceptance.proofs.accept.Tie as tie
 
 returns : tie.Need-returns
 unfolding accepting
-returns c = rw (small-size (c .before .before .before .args .n) (c .if1 .taken))
+returns c = rw (small-size _ (c .if1 .taken))
 
 returns-2 : tie.Need-returns-2
 unfolding accepting
-returns-2 c = rw (large-size (c .before .before .before .before .args .n) (c .if2 .taken))
+returns-2 c = rw (large-size _ (c .if2 .taken))
 
 add-if3 : tie.Need-add-if3
 add-if3 c = search needs

@@ -13,8 +13,7 @@ starts-rise-requires c κs = search needs
 
 returns : tie.Need-returns
 returns c =
-    let start = c .before .before .before .before in
-    sym (not-rising (start .args .n) (start .args .starts .now) (start .args .neighbours .now)
+    sym (not-rising _ _ _
     (sym (c .before .starts-rise .ensures) ∙ not-true _ (c .if1 .taken)))
 
 mul-last : tie.Need-mul-last
@@ -28,23 +27,20 @@ cast-last c = omega (arith, (c .shared-slice-known3 .given) (c .before .before .
 
 returns-2 : tie.Need-returns-2
 returns-2 c =
-    let start = c .before .before .before .before .before .before in
-    sym (not-even (start .args .n) (start .args .starts .now) (start .args .neighbours .now) (c .if2 .taken))
+    sym (not-even _ _ _ (c .if2 .taken))
 
 returns-3 : tie.Need-returns-3
 returns-3 c =
-    let start = c .before .before .before .before .before .before .before in
-    sym (not-few (start .args .n) (start .args .starts .now) (start .args .neighbours .now) (c .if3 .taken))
+    sym (not-few _ _ _ (c .if3 .taken))
 
 returns-4 : tie.Need-returns-4
 returns-4 c =
-    let start = c .before .before .before .before .before .before .before .before in
-    sym (not-within (start .args .n) (start .args .starts .now) (start .args .neighbours .now) (c .if4 .taken))
+    sym (not-within _ _ _ (c .if4 .taken))
 
 matched-requires : tie.Need-matched-requires
 matched-requires c κs =
     let start = c .before .before .before .before .before .before .before .before in (
-      rows (start .args .n) (start .args .starts .now) (start .args .neighbours .now) (start .pre .1) (start .pre .2)
+      rows _ _ _ (start .pre .1) (start .pre .2)
           (sym (c .before .before .before .before .before .starts-rise .ensures) ∙ not-false _
           (c .before .before .before .before .if1 .left)) (c .if4 .left),
       (c .before .before .if2 .left),

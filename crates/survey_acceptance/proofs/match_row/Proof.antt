@@ -20,7 +20,7 @@ abbrev μ-loop : tie.MeasureT-loop
 μ-loop n last v row neighbours cursors₀ before₀ wrong₀ i₀ cursors before wrong i = length row - i
 
 loop-holds : tie.Need-loop-holds Inv-loop μ-loop
-loop-holds c = (omega arith, refl, refl)
+loop-holds c = search needs
 
 mul-x : tie.Need-mul-x Inv-loop μ-loop
 mul-x c = search needs
@@ -32,36 +32,36 @@ cast-x : tie.Need-cast-x Inv-loop μ-loop
 cast-x c = omega (arith, (c .shared-slice-known .given) (c .before .before .loop .i))
 
 same-length : tie.Need-same-length Inv-loop μ-loop
-same-length c = (c .before .before .before .loop .inv .1)
+same-length c = search needs
 
 returns : tie.Need-returns Inv-loop μ-loop
 returns c =
     let start = c .before .before .before .before in
     let at-loop = c .before .before .before in
-    fits-of (start .args .neighbours .now) (start .args .last) (start .args .n) (start .args .v) (start .args .row .now)
-    (start .args .cursors .now) (start .pre .0) _ _
-    (sym (match-low (start .args .neighbours .now) (start .args .last) (start .args .n) (start .args .v) (start .args .row .now)
-    (eqb (at-loop .loop .wrong) 0) (at-loop .loop .before) (at-loop .loop .i) (at-loop .loop .cursors)
-    (c .before .before .loop-test .taken) (omega (arith, (c .if1 .taken)))) ∙ (at-loop .loop .inv .2))
+    fits-of _ _ _ _ _
+    _ (start .pre .0) _ _
+    (sym (match-low _ _ _ _ _
+    (eqb (at-loop .loop .wrong) 0) _ _ _
+    (c .before .before .loop-test .taken) (omega arith)) ∙ (at-loop .loop .inv .2))
 
 same-length-2 : tie.Need-same-length-2 Inv-loop μ-loop
-same-length-2 c = (c .before .before .before .before .loop .inv .1)
+same-length-2 c = search needs
 
 returns-2 : tie.Need-returns-2 Inv-loop μ-loop
 returns-2 c =
     let start = c .before .before .before .before .before in
     let at-loop = c .before .before .before .before in
-    fits-of (start .args .neighbours .now) (start .args .last) (start .args .n) (start .args .v) (start .args .row .now)
-    (start .args .cursors .now) (start .pre .0) _ _
-    (sym (match-high (start .args .neighbours .now) (start .args .last) (start .args .n) (start .args .v) (start .args .row .now)
-    (eqb (at-loop .loop .wrong) 0) (at-loop .loop .before) (at-loop .loop .i) (at-loop .loop .cursors)
-    (c .before .before .before .loop-test .taken) (omega (arith, (c .before .if1 .left))) (c .if2 .taken)) ∙ (at-loop .loop .inv .2))
+    fits-of _ _ _ _ _
+    _ (start .pre .0) _ _
+    (sym (match-high _ _ _ _ _
+    (eqb (at-loop .loop .wrong) 0) _ _ _
+    (c .before .before .before .loop-test .taken) (omega arith) (c .if2 .taken)) ∙ (at-loop .loop .inv .2))
 
 mul-at : tie.Need-mul-at Inv-loop μ-loop
 mul-at c = search needs
 
 slice-read-at : tie.Need-slice-read-at Inv-loop μ-loop
-slice-read-at c = omega (arith, (c .before .before .before .before .before .loop .inv .1))
+slice-read-at c = search needs
 
 cast-at : tie.Need-cast-at Inv-loop μ-loop
 cast-at c =
@@ -69,29 +69,24 @@ cast-at c =
     omega (arith, (c .slice-known .given) (getD (start .args .row .now) (c .before .before .before .before .before .loop .i) 0))
 
 same-length-3 : tie.Need-same-length-3 Inv-loop μ-loop
-same-length-3 c =
-    let at-loop = c .before .before .before .before .before .before in
-    (at-loop .loop .inv .1)
+same-length-3 c = search needs
 
 returns-3 : tie.Need-returns-3 Inv-loop μ-loop
 returns-3 c =
     let start = c .before .before .before .before .before .before .before in
     let at-loop = c .before .before .before .before .before .before in
-    fits-of (start .args .neighbours .now) (start .args .last) (start .args .n) (start .args .v) (start .args .row .now)
-    (start .args .cursors .now) (start .pre .0) _ _
-    (sym (match-past (start .args .neighbours .now) (start .args .last) (start .args .n) (start .args .v) (start .args .row .now)
-    (eqb (at-loop .loop .wrong) 0) (at-loop .loop .before) (at-loop .loop .i) (at-loop .loop .cursors)
-    (c .before .before .before .before .before .loop-test .taken) (omega (arith, (c .before .before .before .if1 .left)))
+    fits-of _ _ _ _ _
+    _ (start .pre .0) _ _
+    (sym (match-past _ _ _ _ _
+    (eqb (at-loop .loop .wrong) 0) _ _ _
+    (c .before .before .before .before .before .loop-test .taken) (omega arith)
     (c .before .before .if2 .left) (c .if3 .taken)) ∙ (at-loop .loop .inv .2))
 
 mul-wrong : tie.Need-mul-wrong Inv-loop μ-loop
-mul-wrong c =
-    let start = c .before .before .before .before .before .before .before in
-    let at-loop = c .before .before .before .before .before .before in
-    omega (arith, (c .before .slice-known .given) (getD (start .args .row .now) (at-loop .loop .i) 0))
+mul-wrong c = search needs
 
 shared-slice-read-wrong : tie.Need-shared-slice-read-wrong Inv-loop μ-loop
-shared-slice-read-wrong c = omega (arith, (c .before .if3 .left))
+shared-slice-read-wrong c = search needs
 
 cast-wrong : tie.Need-cast-wrong Inv-loop μ-loop
 cast-wrong c =
@@ -100,21 +95,16 @@ cast-wrong c =
     omega (arith, (c .shared-slice-known2 .given) (getD (at-loop .loop .cursors) (getD (start .args .row .now) (at-loop .loop .i) 0) 0))
 
 add-cursors : tie.Need-add-cursors Inv-loop μ-loop
-add-cursors c =
-    let start = c .before .before .before .before .before .before .before .before in
-    let at-loop = c .before .before .before .before .before .before .before in
-    omega (arith, (c .before .before .slice-known .given) (getD (start .args .row .now) (at-loop .loop .i) 0))
+add-cursors c = search needs
 
 cast-cursors : tie.Need-cast-cursors Inv-loop μ-loop
-cast-cursors c = omega (arith, (c .before .if3 .left))
+cast-cursors c = search needs
 
 mul-cursors : tie.Need-mul-cursors Inv-loop μ-loop
 mul-cursors c = search needs
 
 slice-write-cursors : tie.Need-slice-write-cursors Inv-loop μ-loop
-slice-write-cursors c =
-    let at-loop = c .before .before .before .before .before .before .before in
-    omega (arith, (at-loop .loop .inv .1), (c .before .before .before .if2 .left))
+slice-write-cursors c = search needs
 
 add-i : tie.Need-add-i Inv-loop μ-loop
 add-i c = search needs
@@ -128,32 +118,32 @@ loop-again c =
     let at-loop = c .before .before .before .before .before .before .before in
     let at-loop-test = c .before .before .before .before .before .before in (
       omega arith,
-      length-set (at-loop .loop .cursors) (getD (start .args .row .now) (at-loop .loop .i) 0)
-          (getD (at-loop .loop .cursors) (getD (start .args .row .now) (at-loop .loop .i) 0) 0 + 1) ∙ (at-loop .loop .inv .1),
+      length-set (at-loop .loop .cursors) (getD (start .args .row .now) _ 0)
+          (getD (at-loop .loop .cursors) (getD (start .args .row .now) _ 0) 0 + 1) ∙ (at-loop .loop .inv .1),
       ap
           (λ (g : Bool). matchRow (start .args .neighbours .now) (start .args .last) (start .args .n) (start .args .v) g
           (getD (start .args .row .now) (at-loop .loop .i) 0) (drop ((at-loop .loop .i) + 1) (start .args .row .now))
           (set (at-loop .loop .cursors) (getD (start .args .row .now) (at-loop .loop .i) 0)
           (getD (at-loop .loop .cursors) (getD (start .args .row .now) (at-loop .loop .i) 0) 0 + 1)))
           (collected (at-loop .loop .wrong) (getD (start .args .neighbours .now)
-          (getD (at-loop .loop .cursors) (getD (start .args .row .now) (at-loop .loop .i) 0) 0) 0) (start .args .v)) ∙ sym
-          (match-next (start .args .neighbours .now) (start .args .last) (start .args .n) (start .args .v) (start .args .row .now)
-          (eqb (at-loop .loop .wrong) 0) (at-loop .loop .before) (at-loop .loop .i) (at-loop .loop .cursors) (at-loop-test .loop-test .taken)
-          (omega (arith, (c .before .before .before .before .if1 .left))) (c .before .before .before .if2 .left) (c .before .if3 .left)) ∙
+          (getD (at-loop .loop .cursors) (getD (start .args .row .now) _ 0) 0) 0) _) ∙ sym
+          (match-next _ _ _ _ _
+          (eqb (at-loop .loop .wrong) 0) _ _ _ (at-loop-test .loop-test .taken)
+          (omega arith) (c .before .before .before .if2 .left) (c .before .if3 .left)) ∙
           (at-loop .loop .inv .2),
     )
 
 same-length-4 : tie.Need-same-length-4 Inv-loop μ-loop
-same-length-4 c = (c .before .loop .inv .1)
+same-length-4 c = search needs
 
 returns-4 : tie.Need-returns-4 Inv-loop μ-loop
 returns-4 c =
     let start = c .before .before in
     let at-loop = c .before in
-    fits-of (start .args .neighbours .now) (start .args .last) (start .args .n) (start .args .v) (start .args .row .now)
-    (start .args .cursors .now) (start .pre .0) _ _
-    (sym (match-end (start .args .neighbours .now) (start .args .last) (start .args .n) (start .args .v) (start .args .row .now)
-    (eqb (at-loop .loop .wrong) 0) (at-loop .loop .before) (at-loop .loop .i) (at-loop .loop .cursors) (c .loop-test .left)) ∙
+    fits-of _ _ _ _ _
+    _ (start .pre .0) _ _
+    (sym (match-end _ _ _ _ _
+    (eqb (at-loop .loop .wrong) 0) _ _ _ (c .loop-test .left)) ∙
     (at-loop .loop .inv .2))
 
 pub match-row-spec : {M : Type 1} → statement M

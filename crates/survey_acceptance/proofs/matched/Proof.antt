@@ -17,7 +17,7 @@ match-rows-requires : tie.Need-match-rows-requires
 match-rows-requires c κs = search needs
 
 returns : tie.Need-returns
-returns c = (c .before .match-rows .ensures)
+returns c = search needs
 
 pub matched-spec : {M : Type 1} → statement M
 matched-spec =

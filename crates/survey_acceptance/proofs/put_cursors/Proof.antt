@@ -17,7 +17,7 @@ abbrev μ-loop : tie.MeasureT-loop
 μ-loop n starts cursors₀ v₀ cursors v = n - v
 
 loop-holds : tie.Need-loop-holds Inv-loop μ-loop
-loop-holds c = (omega arith, refl, λ x h. absurd (omega arith))
+loop-holds c = search needs
 
 mul-cursors : tie.Need-mul-cursors Inv-loop μ-loop
 mul-cursors c = search needs
@@ -29,7 +29,7 @@ mul-cursors-2 : tie.Need-mul-cursors-2 Inv-loop μ-loop
 mul-cursors-2 c = search needs
 
 slice-write-cursors : tie.Need-slice-write-cursors Inv-loop μ-loop
-slice-write-cursors c = omega (arith, (c .before .before .loop .inv .1))
+slice-write-cursors c = search needs
 
 add-v : tie.Need-add-v Inv-loop μ-loop
 add-v c = search needs
@@ -42,19 +42,19 @@ loop-again c =
     let start = c .before .before .before in
     let at-loop = c .before .before in (
       omega arith,
-      length-set (at-loop .loop .cursors) (at-loop .loop .v) (getD (start .args .starts .now) (at-loop .loop .v) 0) ∙
+      length-set (at-loop .loop .cursors) _ (getD (start .args .starts .now) _ 0) ∙
           (at-loop .loop .inv .1),
       below-next (λ (x : ℕ). getD
-          (set (at-loop .loop .cursors) (at-loop .loop .v) (getD (start .args .starts .now) (at-loop .loop .v) 0)) x 0 ≡ getD
-          (start .args .starts .now) x 0) (at-loop .loop .v)
-          (λ x h. getD-set-other (at-loop .loop .cursors) (at-loop .loop .v) x (getD (start .args .starts .now) (at-loop .loop .v) 0) 0
+          (set (at-loop .loop .cursors) _ (getD (start .args .starts .now) _ 0)) x 0 ≡ getD
+          (start .args .starts .now) x 0) _
+          (λ x h. getD-set-other (at-loop .loop .cursors) _ x (getD (start .args .starts .now) _ 0) 0
           (λ e. omega arith) ∙ (at-loop .loop .inv .2) x h)
-          (getD-set-same (at-loop .loop .cursors) (at-loop .loop .v) (getD (start .args .starts .now) (at-loop .loop .v) 0) 0
-          (omega (arith, (at-loop .loop .inv .1)))),
+          (getD-set-same (at-loop .loop .cursors) _ (getD (start .args .starts .now) _ 0) 0
+          (omega arith)),
     )
 
 same-length : tie.Need-same-length Inv-loop μ-loop
-same-length c = (c .before .loop .inv .1)
+same-length c = search needs
 
 returns : tie.Need-returns Inv-loop μ-loop
 returns c = λ x h. (c .before .loop .inv .2) x (omega arith)

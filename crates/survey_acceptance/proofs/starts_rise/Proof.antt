@@ -29,7 +29,7 @@ loop-holds c =
       omega arith,
       ap (λ (k : ℕ). eqb (getD (start .args .starts .now) 0 0) 0 && all
           (λ u. leb (getD (start .args .starts .now) u 0) (getD (start .args .starts .now) (u + 1) 0)) (from 0 k))
-          (sub-zero (start .args .n)),
+          (sub-zero _),
     )
 
 mul-good : tie.Need-mul-good Inv-loop μ-loop
@@ -59,15 +59,15 @@ loop-again c =
     let at-loop = c .before .before .before in (
       omega arith,
       rest-next (λ u. leb (getD (start .args .starts .now) u 0) (getD (start .args .starts .now) (u + 1) 0))
-          (at-loop .loop .good) (start .args .n) (at-loop .loop .v) (c .before .before .loop-test .taken) ∙ (at-loop .loop .inv .1),
+          (at-loop .loop .good) _ _ (c .before .before .loop-test .taken) ∙ (at-loop .loop .inv .1),
     )
 
 returns : tie.Need-returns Inv-loop μ-loop
 returns c =
     let start = c .before .before .before in
     let at-loop = c .before in
-    rest-end (λ u. leb (getD (start .args .starts .now) u 0) (getD (start .args .starts .now) (u + 1) 0)) (at-loop .loop .good)
-    (start .args .n) (at-loop .loop .v) (c .loop-test .left) ∙ (at-loop .loop .inv .1)
+    rest-end (λ u. leb (getD (start .args .starts .now) u 0) (getD (start .args .starts .now) (u + 1) 0)) _
+    _ _ (c .loop-test .left) ∙ (at-loop .loop .inv .1)
 
 pub starts-rise-spec : {M : Type 1} → statement M
 starts-rise-spec =

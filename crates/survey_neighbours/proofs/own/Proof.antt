@@ -34,7 +34,7 @@ cast-e : tie.Need-cast-e
 cast-e c = omega (arith, c .shared-slice-known2 .given (c .before .before .args .v + 1))
 
 mul-result : tie.Need-mul-result
-mul-result c = let p = part-of (c .before .before) in omega (arith, p .from-to, p .end)
+mul-result c = let p = part-of (c .before .before) in omega arith
 
 sub-result : tie.Need-sub-result
 sub-result c = part-of (c .before .before) .from-to
@@ -47,7 +47,7 @@ part-result-end c = part-of (c .before .before) .end
 
 returns : tie.Need-returns
 unfolding neighboursOf
-returns c = refl
+returns c = search needs
 
 pub own-spec : {M : Type 1} → statement M
 own-spec =

@@ -1,5 +1,6 @@
 -- `table_degrees::low_nodes` meets its contract: all nodes, without the high ones.
 -- Assumes nothing.
+use native.Mathlib.Omega.{arith}
 use mathlib.Core.Path.{refl, sym, ap, _∙_}
 use Prim.Native.Nat.{ℕ}
 use lib.ListN.{length, length-replicate}
@@ -13,17 +14,13 @@ slice-aggregate-high-nodes : tie.Need-slice-aggregate-high-nodes
 slice-aggregate-high-nodes c = search needs
 
 high-nodes-requires : tie.Need-high-nodes-requires
-high-nodes-requires c κs = ((c .before .before .before .before .pre .0), refl)
+high-nodes-requires c κs = search needs
 
 insert-below-requires : tie.Need-insert-below-requires
-insert-below-requires c κs =
-    let start = c .before .before .before .before .before .before .before in
-    ((start .pre .1), (start .pre .0 .size))
+insert-below-requires c κs = search needs
 
 slice-aggregate-subtract : tie.Need-slice-aggregate-subtract
-slice-aggregate-subtract c =
-    let at-high-nodes = c .before .before .before .before .before .before .before in
-    sym ((at-high-nodes .high-nodes .kept .1 .1 .1 .1 .0) ∙ length-replicate {A = ℕ} 16 0)
+slice-aggregate-subtract c = search needs
 
 subtract-requires : tie.Need-subtract-requires
 subtract-requires c κs =
@@ -37,10 +34,9 @@ same-length c = search needs
 
 returns : tie.Need-returns
 returns c =
-    let start = c .before .before .before .before .before .before .before .before .before .before .before .before .before .before .before in
     let at-high-nodes = c .before .before .before .before .before .before .before .before .before .before in
     let at-insert-below = c .before .before .before .before .before .before .before in
-    low-set (start .args .n) (start .args .s) (neighboursOf (start .args .starts .now) (start .args .neighbours .now)) _ _ _
+    low-set _ _ (neighboursOf _ _) _ _ _
     (at-insert-below .insert-below .ensures) (at-high-nodes .high-nodes .ensures) (c .before .before .subtract .ensures)
 
 pub low-nodes-spec : {M : Type 1} → statement M

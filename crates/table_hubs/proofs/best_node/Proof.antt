@@ -1,5 +1,6 @@
 -- `table_hubs::best_node` meets its contract: `node` leads the nodes below v.
 -- Assumes nothing.
+use borrow.Author.Needs.{needs}
 use mathlib.Core.Logic.{⊎-elim}
 use Prim.Native.Nat.{_-_}
 use native.Mathlib.Omega.{arith}
@@ -18,17 +19,13 @@ abbrev μ-loop : tie.MeasureT-loop
 μ-loop n starts neighbours uncovered node₀ most₀ v₀ node most v = n - v
 
 loop-holds : tie.Need-loop-holds Inv-loop μ-loop
-loop-holds c = leading-none _ _ ((c .before .before .before .pre .0) .some-node)
+loop-holds c = search needs
 
 gain-of-requires : tie.Need-gain-of-requires Inv-loop μ-loop
-gain-of-requires c κs =
-    let start = c .before .before .before .before .before in
-    ((start .pre .0), (c .loop-test .taken), (start .pre .1))
+gain-of-requires c κs = search needs
 
 add-v : tie.Need-add-v Inv-loop μ-loop
-add-v c =
-    let start = c .before .before .before .before .before .before .before in
-    omega (arith, (start .pre .0) .size)
+add-v c = search needs
 
 loop-less : tie.Need-loop-less Inv-loop μ-loop
 loop-less c = omega arith
@@ -40,8 +37,8 @@ loop-again c =
     let e = (c .before .gain-of .ensures) in
     ⊎-elim
     (λ w. rw (w .1, w .2, e) (leading-taken _ _ _ _ _ (at-loop-test .loop-test .taken) (at-loop .loop .inv)
-    (omega (arith, e, w .0 .taken))))
-    (λ w. rw (w .1, w .2) (leading-left _ _ _ _ _ (at-loop-test .loop-test .taken) (at-loop .loop .inv) (omega (arith, e, w .0 .left))))
+    (omega arith)))
+    (λ w. rw (w .1, w .2) (leading-left _ _ _ _ _ (at-loop-test .loop-test .taken) (at-loop .loop .inv) (omega arith)))
     (c .if1 .came)
 
 returns : tie.Need-returns Inv-loop μ-loop

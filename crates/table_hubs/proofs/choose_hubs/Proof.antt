@@ -16,10 +16,10 @@ abbrev μ-loop : tie.MeasureT-loop
 μ-loop n s starts neighbours list₀ uncovered₀ count₀ list uncovered count = n - count
 
 slice-aggregate-high-nodes : tie.Need-slice-aggregate-high-nodes Inv-loop μ-loop
-slice-aggregate-high-nodes c = refl
+slice-aggregate-high-nodes c = search needs
 
 high-nodes-requires : tie.Need-high-nodes-requires Inv-loop μ-loop
-high-nodes-requires c κs = ((c .before .before .before .before .pre .0), refl)
+high-nodes-requires c κs = search needs
 
 loop-holds : tie.Need-loop-holds Inv-loop μ-loop
 loop-holds c =
@@ -29,18 +29,16 @@ loop-holds c =
     (at-high-nodes .high-nodes .ensures)
 
 slice-aggregate-smallest : tie.Need-slice-aggregate-smallest Inv-loop μ-loop
-slice-aggregate-smallest c = sym ((c .before .loop .inv) .long)
+slice-aggregate-smallest c = search needs
 
 smallest-requires : tie.Need-smallest-requires Inv-loop μ-loop
-smallest-requires c κs = omega (arith, (c .before .loop .inv) .long)
+smallest-requires c κs = search needs
 
 slice-aggregate-best-node : tie.Need-slice-aggregate-best-node Inv-loop μ-loop
-slice-aggregate-best-node c = sym ((c .before .before .before .before .loop .inv) .long)
+slice-aggregate-best-node c = search needs
 
 best-node-requires : tie.Need-best-node-requires Inv-loop μ-loop
-best-node-requires c κs =
-    let start = c .before .before .before .before .before .before .before .before .before .before .before in
-    ((start .pre .0), (c .before .before .before .before .loop .inv) .long)
+best-node-requires c κs = search needs
 
 cast-list : tie.Need-cast-list Inv-loop μ-loop
 cast-list c =
@@ -48,8 +46,6 @@ cast-list c =
     omega (
       arith,
       choosing-node (at-loop .loop .inv) (c .before .before .before .smallest .ensures) (c .before .before .if1 .left),
-      (c .best-node .ensures),
-      (at-loop .loop .inv) .size,
     )
 
 mul-list : tie.Need-mul-list Inv-loop μ-loop
@@ -58,7 +54,6 @@ mul-list c =
     omega (
       arith,
       choosing-room (at-loop .loop .inv) (c .before .before .before .smallest .ensures) (c .before .before .if1 .left) .0,
-      (at-loop .loop .inv) .size,
     )
 
 slice-write-list : tie.Need-slice-write-list Inv-loop μ-loop
@@ -71,13 +66,10 @@ add-count c =
     omega (
       arith,
       choosing-room (at-loop .loop .inv) (c .before .before .before .smallest .ensures) (c .before .before .if1 .left) .0,
-      (at-loop .loop .inv) .size,
     )
 
 slice-aggregate-cover : tie.Need-slice-aggregate-cover Inv-loop μ-loop
-slice-aggregate-cover c =
-    let at-loop = c .before .before .before .before .before .before in
-    sym ((at-loop .loop .inv) .long)
+slice-aggregate-cover c = search needs
 
 cover-requires : tie.Need-cover-requires Inv-loop μ-loop
 cover-requires c κs =
@@ -88,7 +80,6 @@ cover-requires c κs =
         arith,
         choosing-node (at-loop .loop .inv) (c .before .before .before .before .smallest .ensures)
             (c .before .before .before .if1 .left),
-        (c .before .best-node .ensures),
       ),
       (at-loop .loop .inv) .long,
     )
@@ -114,7 +105,7 @@ loop-again c =
 mul-fill16 : tie.Need-mul-fill16 Inv-loop μ-loop
 mul-fill16 c =
     let at-loop = c .before .before .before in
-    omega (arith, choosing-part (at-loop .loop .inv) .0, (at-loop .loop .inv) .size)
+    omega (arith, choosing-part (at-loop .loop .inv) .0)
 
 sub-fill16 : tie.Need-sub-fill16 Inv-loop μ-loop
 sub-fill16 c = choosing-part (c .before .before .before .loop .inv) .0
@@ -139,7 +130,7 @@ returns c =
     let at-loop = c .before .before .before .before .before .before .before in
     let at-fill16 = c .before .before in
     choosing-all (at-loop .loop .inv) (c .before .before .before .before .before .smallest .ensures)
-    (c .before .before .before .before .if1 .taken) (at-fill16 .fill16 .last .0) (at-fill16 .fill16 .ensures)
+    (c .before .before .before .before .if1 .taken) _ (at-fill16 .fill16 .ensures)
 
 pub choose-hubs-spec : {M : Type 1} → statement M
 choose-hubs-spec =

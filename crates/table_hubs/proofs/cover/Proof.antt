@@ -1,5 +1,6 @@
 -- `table_hubs::cover` meets its contract: the closed neighbourhood is taken out.
 -- Assumes nothing.
+use native.Mathlib.Omega.{arith}
 use mathlib.Core.Path.{ap, _∙_}
 use Rattle.base_nodeset.specs.NodeSet.{member, difference}
 use borrow.Author.Needs.{needs}
@@ -23,9 +24,8 @@ same-length c = search needs
 
 returns : tie.Need-returns
 returns c =
-    let start = c .before .before .before .before .before .before .before .before .before .before .before in
     let at-insert-closed = c .before .before .before .before .before .before in
-    (c .before .before .subtract .ensures) ∙ ap (difference (member (start .args .uncovered .now)))
+    (c .before .before .subtract .ensures) ∙ ap (difference (member _))
     (at-insert-closed .insert-closed .ensures)
 
 pub cover-spec : {M : Type 1} → statement M

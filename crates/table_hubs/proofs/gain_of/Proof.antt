@@ -1,5 +1,6 @@
 -- `table_hubs::gain_of` meets its contract: words in count-intersection, counted.
 -- Assumes nothing.
+use native.Mathlib.Omega.{arith}
 use mathlib.Core.Path.{_∙_}
 use Rattle.table_hubs.proofs.Sets.{gain-words}
 use borrow.Author.Needs.{needs}

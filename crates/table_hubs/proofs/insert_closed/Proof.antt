@@ -15,7 +15,7 @@ use Rattle.table_hubs.proofs.insert_closed.Tie as tie
 insert-requires : tie.Need-insert-requires
 insert-requires c κs =
     let start = c .before .before .before .before in
-    omega (arith, ap length (start .pre .2), (start .pre .1), (start .pre .0) .size)
+    omega (arith, ap length (start .pre .2))
 
 own-requires : tie.Need-own-requires
 own-requires c κs = search needs
@@ -28,8 +28,6 @@ insert-list-requires c κs =
       own-below _ _ _ (start .pre .0) _ (start .pre .1) x
           (subst (λ (l : List ℕ). T (has x l)) (c .before .own .ensures) t),
       ap length (start .pre .2),
-      (c .before .before .before .before .insert .kept .0),
-      (start .pre .0) .size,
     )
 
 same-length : tie.Need-same-length

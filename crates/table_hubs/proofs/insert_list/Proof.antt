@@ -16,7 +16,7 @@ abbrev μ-loop : tie.MeasureT-loop
 μ-loop list set₀ i₀ set i = length list - i
 
 loop-holds : tie.Need-loop-holds Inv-loop μ-loop
-loop-holds c = (omega arith, inserted-none _ _)
+loop-holds c = search needs
 
 mul-insert : tie.Need-mul-insert Inv-loop μ-loop
 mul-insert c = search needs
@@ -32,7 +32,7 @@ insert-requires c κs =
     let start = c .before .before .before .before .before .before in
     let at-loop = c .before .before .before in
     rw ((at-loop .loop .inv .1) .same) ((start .pre) _
-    (getD-has (start .args .list .now) (at-loop .loop .i) (c .before .before .loop-test .taken)))
+    (getD-has _ _ (c .before .before .loop-test .taken)))
 
 add-i : tie.Need-add-i Inv-loop μ-loop
 add-i c = search needs
@@ -50,7 +50,7 @@ loop-again c =
     )
 
 same-length : tie.Need-same-length Inv-loop μ-loop
-same-length c = (c .before .loop .inv .1) .same
+same-length c = search needs
 
 returns : tie.Need-returns Inv-loop μ-loop
 returns c = inserted-all _ _ _ _ (c .before .loop .inv .1) (c .loop-test .left)
