@@ -17,7 +17,7 @@
  *  - Compared with a second implementation, on random input: what the compiled functions answer and leave (comparison/compare).
  *  - Measured: the stack (comparison/stack).
  * The declarations, the constants and the inline functions of this file are not proved. examples/run and comparison/stack use them;
- * comparison/compare holds the constants to their numbers and takes every answer apart by the functions below.
+ * comparison/compare checks the constants' numbers and takes every answer apart by the functions below.
  *
  * An answer is one number of 64 bits: `code` of crates/base_answer_codes/specs/Code.antt, taken apart by the functions below. */
 #ifndef PUXERDAU_H
