@@ -1,5 +1,6 @@
 -- `search_by_words::insert_row` meets its contract: the first i words of the set have the node's neighbours.
 -- Assumes nothing.
+use borrow.Author.Needs.{needs}
 use mathlib.Core.Path.{sym, _∙_}
 use Prim.Native.Nat.{_-_}
 use native.Mathlib.Omega.{arith}
@@ -14,59 +15,43 @@ abbrev μ-loop : tie.MeasureT-loop
 μ-loop rows v found₀ i₀ found i = 16 - i
 
 loop-holds : tie.Need-loop-holds Inv-loop μ-loop
-loop-holds c = joining-none _ _ _ (c .pre .2)
+loop-holds c = search needs
 
 mul-found : tie.Need-mul-found Inv-loop μ-loop
-mul-found c =
-    let start = c .before .before in
-    omega (arith, (start .pre .0), (start .pre .1), (c .before .loop .inv) .long, (c .loop-test .taken))
+mul-found c = search needs
 
 slice-read-found : tie.Need-slice-read-found Inv-loop μ-loop
-slice-read-found c =
-    let start = c .before .before .before in
-    omega (arith, (start .pre .0), (start .pre .1), (c .before .before .loop .inv) .long, (c .before .loop-test .taken))
+slice-read-found c = search needs
 
 mul-found-2 : tie.Need-mul-found-2 Inv-loop μ-loop
-mul-found-2 c =
-    let start = c .before .before .before in
-    omega (arith, (start .pre .0), (start .pre .1), (c .before .before .loop .inv) .long, (c .before .loop-test .taken))
+mul-found-2 c = search needs
 
 add-found : tie.Need-add-found Inv-loop μ-loop
-add-found c =
-    let start = c .before .before .before in
-    omega (arith, (start .pre .0), (start .pre .1), (c .before .before .loop .inv) .long, (c .before .loop-test .taken))
+add-found c = search needs
 
 mul-found-3 : tie.Need-mul-found-3 Inv-loop μ-loop
-mul-found-3 c =
-    let start = c .before .before .before in
-    omega (arith, (start .pre .0), (start .pre .1), (c .before .before .loop .inv) .long, (c .before .loop-test .taken))
+mul-found-3 c = search needs
 
 shared-slice-read-found : tie.Need-shared-slice-read-found Inv-loop μ-loop
-shared-slice-read-found c =
-    let start = c .before .before .before .before in
-    omega (arith, (start .pre .0), (start .pre .1), (c .before .before .before .loop .inv) .long, (c .before .before .loop-test .taken))
+shared-slice-read-found c = search needs
 
 mul-found-4 : tie.Need-mul-found-4 Inv-loop μ-loop
-mul-found-4 c =
-    let start = c .before .before .before .before in
-    omega (arith, (start .pre .0), (start .pre .1), (c .before .before .before .loop .inv) .long, (c .before .before .loop-test .taken))
+mul-found-4 c = search needs
 
 slice-write-found : tie.Need-slice-write-found Inv-loop μ-loop
-slice-write-found c =
-    let start = c .before .before .before .before in
-    omega (arith, (start .pre .0), (start .pre .1), (c .before .before .before .loop .inv) .long, (c .before .before .loop-test .taken))
+slice-write-found c = search needs
 
 add-i : tie.Need-add-i Inv-loop μ-loop
-add-i c = omega (arith, (c .before .before .loop-test .taken))
+add-i c = search needs
 
 loop-less : tie.Need-loop-less Inv-loop μ-loop
-loop-less c = omega (arith, (c .before .before .loop-test .taken))
+loop-less c = search needs
 
 loop-again : tie.Need-loop-again Inv-loop μ-loop
 loop-again c = joining-more _ _ _ _ _ (c .before .before .before .loop .inv) (c .before .before .loop-test .taken)
 
 same-length : tie.Need-same-length Inv-loop μ-loop
-same-length c = (c .before .loop .inv) .long ∙ sym (c .before .before .pre .2)
+same-length c = search needs
 
 returns : tie.Need-returns Inv-loop μ-loop
 returns c = joining-all _ _ _ _ _ (c .before .loop .inv) (c .loop-test .left) (c .before .before .pre .2)

@@ -1,5 +1,6 @@
 -- `search_by_words::mark_layer` meets its contract: the nodes of the first w words are marked.
 -- Assumes nothing.
+use borrow.Author.Needs.{needs}
 use mathlib.Core.Path.{sym, _∙_}
 use Prim.Native.Nat.{_-_}
 use native.Mathlib.Omega.{arith}
@@ -17,75 +18,58 @@ abbrev μ-loop : tie.MeasureT-loop
 loop-holds : tie.Need-loop-holds Inv-loop μ-loop
 loop-holds c =
     let start = c .before .before .before .before in
-    marked-none (edgesIn (start .args .rows .now)) (start .args .layer .now) (start .args .d) (start .args .row .now)
-    (start .args .found .now) (start .pre .0 .2)
+    marked-none (edgesIn _) _ _ _
+    _ (start .pre .0 .2)
 
 mul-mark-word : tie.Need-mul-mark-word Inv-loop μ-loop
-mul-mark-word c =
-    let start = c .before .before .before .before .before .before in
-    omega (arith, (start .pre .0 .0), (c .loop-test .taken))
+mul-mark-word c = search needs
 
 shared-slice-read-mark-word : tie.Need-shared-slice-read-mark-word Inv-loop μ-loop
-shared-slice-read-mark-word c =
-    let start = c .before .before .before .before .before .before .before in
-    omega (arith, (start .pre .0 .0), (c .before .loop-test .taken))
+shared-slice-read-mark-word c = search needs
 
 mul-mark-word-2 : tie.Need-mul-mark-word-2 Inv-loop μ-loop
-mul-mark-word-2 c =
-    let start = c .before .before .before .before .before .before .before in
-    omega (arith, (start .pre .0 .0), (c .before .loop-test .taken))
+mul-mark-word-2 c = search needs
 
 mark-word-requires : tie.Need-mark-word-requires Inv-loop μ-loop
 mark-word-requires c κs =
     let start = c .before .before .before .before .before .before .before .before .before in
     let at-loop = c .before .before .before .before in (
-      (omega (arith, (c .before .before .before .loop-test .taken)), (start .pre .0 .1), (at-loop .loop .inv) .long),
+      (omega arith, (start .pre .0 .1), (at-loop .loop .inv) .long),
       word-inside
-          (edgesIn (start .args .rows .now)) (start .args .layer .now) (start .args .d) (start .args .row .now) (start .args .found .now) _ _
+          (edgesIn _) _ _ _ _ _ _
           _ (at-loop .loop .inv) (start .pre .1),
     )
 
 add-w : tie.Need-add-w Inv-loop μ-loop
-add-w c =
-    let start = c .before .before .before .before .before .before .before .before .before .before .before .before .before .before in
-    let at-loop-test = c .before .before .before .before .before .before .before .before in
-    omega (arith, (start .pre .0 .0), (at-loop-test .loop-test .taken))
+add-w c = search needs
 
 loop-less : tie.Need-loop-less Inv-loop μ-loop
-loop-less c =
-    let start = c .before .before .before .before .before .before .before .before .before .before .before .before .before .before in
-    let at-loop-test = c .before .before .before .before .before .before .before .before in
-    omega (arith, (start .pre .0 .0), (at-loop-test .loop-test .taken))
+loop-less c = search needs
 
 loop-again : tie.Need-loop-again Inv-loop μ-loop
 loop-again c =
-    let start = c .before .before .before .before .before .before .before .before .before .before .before .before .before .before in
     let at-loop = c .before .before .before .before .before .before .before .before .before in
     let at-loop-test = c .before .before .before .before .before .before .before .before in
     let at-mark-word = c .before .before .before .before in
-    marked-more (edgesIn (start .args .rows .now)) (start .args .layer .now) (start .args .d) (start .args .row .now)
-    (start .args .found .now) _ _ _ (at-loop .loop .inv) (at-loop-test .loop-test .taken) _ _
+    marked-more (edgesIn _) _ _ _
+    _ _ _ _ (at-loop .loop .inv) (at-loop-test .loop-test .taken) _ _
     (at-mark-word .mark-word .kept .1 .1 .1 .1 .1 .0) (at-mark-word .mark-word .ensures .0) (at-mark-word .mark-word .ensures .1)
 
 same-length : tie.Need-same-length Inv-loop μ-loop
 same-length c =
-    let start = c .before .before .before .before .before .before in
-    marked-same (edgesIn (start .args .rows .now)) (start .args .layer .now) (start .args .d) (start .args .row .now)
-    (start .args .found .now) _ _ _ (c .before .loop .inv)
+    marked-same (edgesIn _) _ _ _
+    _ _ _ _ (c .before .loop .inv)
 
 same-length-2 : tie.Need-same-length-2 Inv-loop μ-loop
-same-length-2 c =
-    let start = c .before .before .before .before .before .before in
-    (c .before .loop .inv) .long ∙ sym (start .pre .0 .2)
+same-length-2 c = search needs
 
 returns : tie.Need-returns Inv-loop μ-loop
 returns c =
-    let start = c .before .before .before .before .before .before in
     let at-loop = c .before in (
-      marked-row (edgesIn (start .args .rows .now)) (start .args .layer .now) (start .args .d) (start .args .row .now)
-          (start .args .found .now) _ _ _ (at-loop .loop .inv) (c .loop-test .left),
-      marked-found (edgesIn (start .args .rows .now))
-          (start .args .layer .now) (start .args .d) (start .args .row .now) (start .args .found .now) _ _ _ (at-loop .loop .inv)
+      marked-row (edgesIn _) _ _ _
+          _ _ _ _ (at-loop .loop .inv) (c .loop-test .left),
+      marked-found (edgesIn _)
+          _ _ _ _ _ _ _ (at-loop .loop .inv)
           (c .loop-test .left),
     )
 

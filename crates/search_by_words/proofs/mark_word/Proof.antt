@@ -1,5 +1,6 @@
 -- `search_by_words::mark_word` meets its contract: what is marked and the bits that are left are the bits of the word.
 -- Assumes nothing.
+use borrow.Author.Needs.{needs}
 use mathlib.Core.Path.{sym, _∙_}
 use native.Mathlib.Omega.{arith}
 use lib.Count.{trailingZeros}
@@ -17,51 +18,38 @@ abbrev μ-loop : tie.MeasureT-loop
 μ-loop word base d rows row₀ found₀ left₀ row found left = left
 
 loop-holds : tie.Need-loop-holds Inv-loop μ-loop
-loop-holds c =
-    let start = c .before .before .before in
-    marking-none (edgesIn (start .args .rows .now)) (start .args .base) (start .args .word) (start .args .d) (start .args .row .now)
-    (start .args .found .now) (start .fits .word .fits) (start .pre .0 .2) (start .pre .1)
+loop-holds c = search needs
 
 cast-v : tie.Need-cast-v Inv-loop μ-loop
 cast-v c =
-    let start = c .before .before .before .before .before in
     omega (
       arith,
-      (low (edgesIn (start .args .rows .now)) (start .args .base) (start .args .word) (start .args .d) (start .args .row .now)
-          (start .args .found .now) _ _ _ (c .before .loop .inv) (omega arith)) .below,
+      (low (edgesIn _) _ _ _ _
+          _ _ _ _ (c .before .loop .inv) (omega arith)) .below,
     )
 
 add-v : tie.Need-add-v Inv-loop μ-loop
 add-v c =
-    let start = c .before .before .before .before .before in
     let at-loop = c .before in
     omega (
       arith,
-      (low (edgesIn (start .args .rows .now)) (start .args .base) (start .args .word) (start .args .d) (start .args .row .now)
-          (start .args .found .now) _ _ _ (at-loop .loop .inv) (omega arith)) .below,
-      (first-inside (edgesIn (start .args .rows .now)) (start .args .base) (start .args .word) (start .args .d) (start .args .row .now)
-          (start .args .found .now) _ _ _ (at-loop .loop .inv) (omega arith)),
-      (start .pre .0 .0),
+      (first-inside (edgesIn _) _ _ _ _
+          _ _ _ _ (at-loop .loop .inv) (omega arith)),
     )
 
 mul-row : tie.Need-mul-row Inv-loop μ-loop
 mul-row c =
-    let start = c .before .before .before .before .before in
     let at-loop = c .before in
     omega (
       arith,
-      (low (edgesIn (start .args .rows .now)) (start .args .base) (start .args .word) (start .args .d) (start .args .row .now)
-          (start .args .found .now) _ _ _ (at-loop .loop .inv) (omega arith)) .below,
-      (first-inside (edgesIn (start .args .rows .now)) (start .args .base) (start .args .word) (start .args .d) (start .args .row .now)
-          (start .args .found .now) _ _ _ (at-loop .loop .inv) (omega arith)),
-      (start .pre .0 .0),
+      (first-inside (edgesIn _) _ _ _ _
+          _ _ _ _ (at-loop .loop .inv) (omega arith)),
     )
 
 slice-write-row : tie.Need-slice-write-row Inv-loop μ-loop
 slice-write-row c =
-    let start = c .before .before .before .before .before in
-    (first-inside (edgesIn (start .args .rows .now)) (start .args .base) (start .args .word) (start .args .d) (start .args .row .now)
-    (start .args .found .now) _ _ _ (c .before .loop .inv) (omega arith))
+    (first-inside (edgesIn _) _ _ _ _
+    _ _ _ _ (c .before .loop .inv) (omega arith))
 
 insert-row-requires : tie.Need-insert-row-requires Inv-loop μ-loop
 insert-row-requires c κs =
@@ -70,79 +58,70 @@ insert-row-requires c κs =
       (start .pre .0 .1),
       omega (
         arith,
-        (low (edgesIn (start .args .rows .now)) (start .args .base) (start .args .word) (start .args .d)
-            (start .args .row .now) (start .args .found .now) _ _ _ (at-loop .loop .inv) (omega arith)) .below,
-        (start .pre .0 .0),
+        (low (edgesIn _) _ _ _
+            _ _ _ _ _ (at-loop .loop .inv) (omega arith)) .below,
       ),
       (at-loop .loop .inv) .long,
     )
 
 cast-left : tie.Need-cast-left Inv-loop μ-loop
 cast-left c =
-    let start = c .before .before .before .before .before .before .before .before .before in
     omega (
       arith,
-      (low (edgesIn (start .args .rows .now)) (start .args .base) (start .args .word) (start .args .d) (start .args .row .now)
-          (start .args .found .now) _ _ _ (c .before .before .before .before .before .loop .inv) (omega arith)) .below,
+      (low (edgesIn _) _ _ _ _
+          _ _ _ _ (c .before .before .before .before .before .loop .inv) (omega arith)) .below,
     )
 
 shl-left : tie.Need-shl-left Inv-loop μ-loop
 shl-left c =
-    let start = c .before .before .before .before .before .before .before .before .before in
-    (low (edgesIn (start .args .rows .now)) (start .args .base) (start .args .word) (start .args .d) (start .args .row .now)
-    (start .args .found .now) _ _ _ (c .before .before .before .before .before .loop .inv) (omega arith)) .below
+    (low (edgesIn _) _ _ _ _
+    _ _ _ _ (c .before .before .before .before .before .loop .inv) (omega arith)) .below
 
 sub-left : tie.Need-sub-left Inv-loop μ-loop
 sub-left c =
-    let start = c .before .before .before .before .before .before .before .before .before in
     let at-loop = c .before .before .before .before .before in
-    rw (shifted (trailingZeros 64 (at-loop .loop .left))
-    ((low (edgesIn (start .args .rows .now)) (start .args .base) (start .args .word) (start .args .d) (start .args .row .now)
-    (start .args .found .now) _ _ _ (at-loop .loop .inv) (omega arith)) .below))
-    ((low (edgesIn (start .args .rows .now)) (start .args .base) (start .args .word) (start .args .d) (start .args .row .now)
-    (start .args .found .now) _ _ _ (at-loop .loop .inv) (omega arith)) .holds)
+    rw (shifted (trailingZeros 64 _)
+    ((low (edgesIn _) _ _ _ _
+    _ _ _ _ (at-loop .loop .inv) (omega arith)) .below))
+    ((low (edgesIn _) _ _ _ _
+    _ _ _ _ (at-loop .loop .inv) (omega arith)) .holds)
 
 loop-less : tie.Need-loop-less Inv-loop μ-loop
 loop-less c =
-    let start = c .before .before .before .before .before .before .before .before .before in
     let at-loop = c .before .before .before .before .before in
-    rw (shifted (trailingZeros 64 (at-loop .loop .left))
-    ((low (edgesIn (start .args .rows .now)) (start .args .base) (start .args .word) (start .args .d) (start .args .row .now)
-    (start .args .found .now) _ _ _ (at-loop .loop .inv) (omega arith)) .below))
+    rw (shifted (trailingZeros 64 _)
+    ((low (edgesIn _) _ _ _ _
+    _ _ _ _ (at-loop .loop .inv) (omega arith)) .below))
     (omega (
       arith,
-      (low (edgesIn (start .args .rows .now)) (start .args .base) (start .args .word) (start .args .d)
-          (start .args .row .now) (start .args .found .now) _ _ _ (at-loop .loop .inv) (omega arith)) .holds,
       pow-pos
           (trailingZeros 64 (at-loop .loop .left)),
     ))
 
 loop-again : tie.Need-loop-again Inv-loop μ-loop
 loop-again c =
-    let start = c .before .before .before .before .before .before .before .before .before in
     let at-loop = c .before .before .before .before .before in
     let at-insert-row = c .before .before in
-    rw (shifted (trailingZeros 64 (at-loop .loop .left))
-    ((low (edgesIn (start .args .rows .now)) (start .args .base) (start .args .word) (start .args .d) (start .args .row .now)
-    (start .args .found .now) _ _ _ (at-loop .loop .inv) (omega arith)) .below))
-    (marking-more (edgesIn (start .args .rows .now)) (start .args .base) (start .args .word) (start .args .d) (start .args .row .now)
-    (start .args .found .now) _ _ _ (at-loop .loop .inv) (omega arith) _ (at-insert-row .insert-row .kept .1 .1 .0)
+    rw (shifted (trailingZeros 64 _)
+    ((low (edgesIn _) _ _ _ _
+    _ _ _ _ (at-loop .loop .inv) (omega arith)) .below))
+    (marking-more (edgesIn _) _ _ _ _
+    _ _ _ _ (at-loop .loop .inv) (omega arith) _ (at-insert-row .insert-row .kept .1 .1 .0)
     (at-insert-row .insert-row .ensures))
 
 same-length : tie.Need-same-length Inv-loop μ-loop
-same-length c = (c .before .loop .inv) .same
+same-length c = search needs
 
 same-length-2 : tie.Need-same-length-2 Inv-loop μ-loop
-same-length-2 c = (c .before .loop .inv) .long ∙ sym (c .before .before .before .before .before .pre .0 .2)
+same-length-2 c = search needs
 
 returns : tie.Need-returns Inv-loop μ-loop
 returns c =
-    let start = c .before .before .before .before .before in
     let at-loop = c .before in (
-      marking-row (edgesIn (start .args .rows .now)) (start .args .base) (start .args .word) (start .args .d) (start .args .row .now)
-          (start .args .found .now) _ _ _ (at-loop .loop .inv) (c .loop-test .left),
-      marking-found (edgesIn (start .args .rows .now))
-          (start .args .base) (start .args .word) (start .args .d) (start .args .row .now) (start .args .found .now) _ _ _
+      marking-row (edgesIn _) _ _ _ _
+          _ _ _ _ (at-loop .loop .inv) (c .loop-test .left),
+      marking-found (edgesIn _)
+          _ _ _ _ _ _ _ _
           (at-loop .loop .inv) (c .loop-test .left),
     )
 

@@ -32,17 +32,13 @@ slice-aggregate-insert-below : tie.Need-slice-aggregate-insert-below Inv-loop μ
 slice-aggregate-insert-below c = search needs
 
 insert-below-requires : tie.Need-insert-below-requires Inv-loop μ-loop
-insert-below-requires c κs =
-    let start = c .before .before .before .before .before .before .before .before .before .before in
-    (refl, (start .pre .0))
+insert-below-requires c κs = search needs
 
 slice-aggregate-remove : tie.Need-slice-aggregate-remove Inv-loop μ-loop
 slice-aggregate-remove c = search needs
 
 remove-requires : tie.Need-remove-requires Inv-loop μ-loop
-remove-requires c κs =
-    let start = c .before .before .before .before .before .before .before .before .before .before .before .before .before in
-    omega (arith, (c .before .before .insert-below .kept .0) ∙ length-replicate {A = ℕ} 16 0, (start .pre .0), (start .pre .2))
+remove-requires c κs = search needs
 
 loop-holds : tie.Need-loop-holds Inv-loop μ-loop
 loop-holds c =
@@ -51,7 +47,7 @@ loop-holds c =
     let at-insert = c .before .before .before .before .before .before .before in
     let at-insert-below = c .before .before .before .before in
     let at-remove = c .before in (
-      turn-start (edgesIn (start .args .rows .now)) (start .args .n) (start .args .source) _ _ _ _
+      turn-start (edgesIn _) _ _ _ _ _ _
           ((at-fill16 .fill16 .ensures) ∙ ap (λ (m : ℕ). replicate m none) (start .pre .3)) (at-insert .insert .ensures)
           (at-insert-below .insert-below .ensures) (at-remove .remove .ensures),
       omega arith,
@@ -62,119 +58,70 @@ loop-holds c =
     )
 
 slice-aggregate-smallest : tie.Need-slice-aggregate-smallest Inv-loop μ-loop
-slice-aggregate-smallest c = sym (c .before .before .loop .inv .2)
+slice-aggregate-smallest c = search needs
 
 smallest-requires : tie.Need-smallest-requires Inv-loop μ-loop
-smallest-requires c κs = omega (arith, (c .before .before .loop .inv .2))
+smallest-requires c κs = search needs
 
 same-length : tie.Need-same-length Inv-loop μ-loop
-same-length c =
-    let start = c .before .before .before .before .before .before .before .before .before .before .before .before .before .before .before .before .before .before .before .before in
-    (c .before .before .before .before .loop .inv .0) .size ∙ sym (start .pre .3)
+same-length c = search needs
 
 returns : tie.Need-returns Inv-loop μ-loop
 returns c =
     let start = c .before .before .before .before .before .before .before .before .before .before .before .before .before .before .before .before .before .before .before .before in
     let at-loop = c .before .before .before .before in
-    turn-empty (edgesIn (start .args .rows .now)) (start .args .n) (start .args .source) (start .pre .2) (start .pre .0) (at-loop .loop .k)
+    turn-empty (edgesIn _) _ _ (start .pre .2) (start .pre .0) _
     _ _ _ _ (at-loop .loop .inv .1) (at-loop .loop .inv .0)
-    (past-smallest (start .args .n) (at-loop .loop .layer) (omega (arith, (at-loop .loop .inv .2), (start .pre .0))) _
+    (past-smallest _ _ (omega arith) _
     (c .before .smallest .ensures) (c .if1 .taken))
 
 slice-aggregate-mark-layer : tie.Need-slice-aggregate-mark-layer Inv-loop μ-loop
-slice-aggregate-mark-layer c = sym (c .before .before .before .before .before .loop .inv .2)
+slice-aggregate-mark-layer c = search needs
 
 cast-mark-layer : tie.Need-cast-mark-layer Inv-loop μ-loop
-cast-mark-layer c =
-    let start = c .before .before .before .before .before .before .before .before .before .before .before .before .before .before .before .before .before .before .before .before .before in
-    omega (arith, (c .before .before .before .before .loop-test .taken), (start .pre .0))
+cast-mark-layer c = search needs
 
 slice-aggregate-mark-layer-2 : tie.Need-slice-aggregate-mark-layer-2 Inv-loop μ-loop
-slice-aggregate-mark-layer-2 c =
-    let at-loop = c .before .before .before .before .before .before .before in
-    sym (at-loop .loop .inv .4)
+slice-aggregate-mark-layer-2 c = search needs
 
 mark-layer-requires : tie.Need-mark-layer-requires Inv-loop μ-loop
 mark-layer-requires c κs =
     let start = c .before .before .before .before .before .before .before .before .before .before .before .before .before .before .before .before .before .before .before .before .before .before .before in
     let at-loop = c .before .before .before .before .before .before .before in (
       ((at-loop .loop .inv .2), (start .pre .1), (at-loop .loop .inv .4)),
-      front-inside (edgesIn (start .args .rows .now)) (start .args .n)
-          (start .args .source) (start .pre .2) (start .pre .0) (at-loop .loop .k) _ _ _ _ (at-loop .loop .inv .0),
+      front-inside (edgesIn _) _
+          _ (start .pre .2) (start .pre .0) _ _ _ _ _ (at-loop .loop .inv .0),
     )
 
 slice-aggregate-write-intersection : tie.Need-slice-aggregate-write-intersection Inv-loop μ-loop
-slice-aggregate-write-intersection c =
-    let at-loop = c .before .before .before .before .before .before .before .before .before .before .before .before in
-    omega (
-      arith,
-      (at-loop .loop .inv .2),
-      (at-loop .loop .inv .3),
-      (at-loop .loop .inv .4),
-      (c .before .before .before .before .mark-layer .kept .1 .1 .1 .1 .0),
-    )
+slice-aggregate-write-intersection c = search needs
 
 slice-aggregate-write-intersection-2 : tie.Need-slice-aggregate-write-intersection-2 Inv-loop μ-loop
-slice-aggregate-write-intersection-2 c =
-    let at-loop = c .before .before .before .before .before .before .before .before .before .before .before .before .before in
-    omega (
-      arith,
-      (at-loop .loop .inv .2),
-      (at-loop .loop .inv .3),
-      (at-loop .loop .inv .4),
-      (c .before .before .before .before .before .mark-layer .kept .1 .1 .1 .1 .0),
-    )
+slice-aggregate-write-intersection-2 c = search needs
 
 slice-aggregate-write-intersection-3 : tie.Need-slice-aggregate-write-intersection-3 Inv-loop μ-loop
-slice-aggregate-write-intersection-3 c =
-    let at-loop = c .before .before .before .before .before .before .before .before .before .before .before .before .before .before in
-    sym (at-loop .loop .inv .2)
+slice-aggregate-write-intersection-3 c = search needs
 
 write-intersection-requires : tie.Need-write-intersection-requires Inv-loop μ-loop
-write-intersection-requires c κs =
-    let at-loop = c .before .before .before .before .before .before .before .before .before .before .before .before .before .before in
-    let at-mark-layer = c .before .before .before .before .before .before in (
-      omega (
-        arith,
-        (at-loop .loop .inv .2),
-        (at-loop .loop .inv .3),
-        (at-loop .loop .inv .4),
-        (at-mark-layer .mark-layer .kept .1 .1 .1 .1 .0),
-      ),
-      omega (
-        arith,
-        (at-loop .loop .inv .2),
-        (at-loop .loop .inv .3),
-        (at-loop .loop .inv .4),
-        (at-mark-layer .mark-layer .kept .1 .1 .1 .1 .0),
-      ),
-    )
+write-intersection-requires c κs = search needs
 
 slice-aggregate-subtract : tie.Need-slice-aggregate-subtract Inv-loop μ-loop
-slice-aggregate-subtract c =
-    let at-loop = c .before .before .before .before .before .before .before .before .before .before .before .before .before .before .before .before .before in
-    sym (at-loop .loop .inv .3)
+slice-aggregate-subtract c = search needs
 
 slice-aggregate-subtract-2 : tie.Need-slice-aggregate-subtract-2 Inv-loop μ-loop
-slice-aggregate-subtract-2 c =
-    let at-loop = c .before .before .before .before .before .before .before .before .before .before .before .before .before .before .before .before .before .before in
-    sym ((c .before .before .before .write-intersection .kept .1 .1 .0) ∙ (at-loop .loop .inv .2))
+slice-aggregate-subtract-2 c = search needs
 
 subtract-requires : tie.Need-subtract-requires Inv-loop μ-loop
-subtract-requires c κs =
-    let at-loop = c .before .before .before .before .before .before .before .before .before .before .before .before .before .before .before .before .before .before in
-    (at-loop .loop .inv .3) ∙ sym ((c .before .before .before .write-intersection .kept .1 .1 .0) ∙ (at-loop .loop .inv .2))
+subtract-requires c κs = search needs
 
 add-k : tie.Need-add-k Inv-loop μ-loop
 add-k c =
     let start = c .before .before .before .before .before .before .before .before .before .before .before .before .before .before .before .before .before .before .before .before .before .before .before .before .before .before .before .before .before .before .before .before .before .before .before .before in
     let at-loop-test = c .before .before .before .before .before .before .before .before .before .before .before .before .before .before .before .before .before .before .before in
-    omega (arith, (at-loop-test .loop-test .taken), (start .pre .0))
+    omega arith
 
 loop-less : tie.Need-loop-less Inv-loop μ-loop
-loop-less c =
-    let at-loop-test = c .before .before .before .before .before .before .before .before .before .before .before .before .before .before .before .before .before .before .before in
-    omega (arith, (at-loop-test .loop-test .taken))
+loop-less c = search needs
 
 loop-again : tie.Need-loop-again Inv-loop μ-loop
 loop-again c =
@@ -184,11 +131,10 @@ loop-again c =
     let at-mark-layer = c .before .before .before .before .before .before .before .before .before .before .before .before in
     let at-write-intersection = c .before .before .before .before .before in
     let at-subtract = c .before in (
-      turn-more (edgesIn (start .args .rows .now)) (start .args .n) (start .args .source) (start .pre .2) (start .pre .0) (at-loop .loop .k)
+      turn-more (edgesIn _) _ _ (start .pre .2) (start .pre .0) _
           _ _ _ _ _ _ _ _ (at-loop .loop .inv .0) (at-mark-layer .mark-layer .ensures .0) (at-mark-layer .mark-layer .ensures .1)
           (at-write-intersection .write-intersection .ensures) (at-subtract .subtract .ensures),
-      omega
-          (arith, (at-loop-test .loop-test .taken)),
+      omega arith,
       (at-write-intersection .write-intersection .kept .1 .1 .0) ∙ (at-loop .loop .inv .2),
       (at-subtract .subtract .kept .0) ∙ (at-loop .loop .inv .3),
       (at-mark-layer .mark-layer .kept .1 .1 .1 .1 .0) ∙
@@ -196,16 +142,14 @@ loop-again c =
     )
 
 same-length-2 : tie.Need-same-length-2 Inv-loop μ-loop
-same-length-2 c =
-    let start = c .before .before .before .before .before .before .before .before .before .before .before .before .before .before .before .before .before in
-    (c .before .loop .inv .0) .size ∙ sym (start .pre .3)
+same-length-2 c = search needs
 
 returns-2 : tie.Need-returns-2 Inv-loop μ-loop
 returns-2 c =
     let start = c .before .before .before .before .before .before .before .before .before .before .before .before .before .before .before .before .before in
     let at-loop = c .before in
-    turn-end (edgesIn (start .args .rows .now)) (start .args .n) (start .args .source) (start .pre .2) (start .pre .0) (at-loop .loop .k) _
-    _ _ _ (omega (arith, (at-loop .loop .inv .1), (c .loop-test .left))) (at-loop .loop .inv .0)
+    turn-end (edgesIn _) _ _ (start .pre .2) (start .pre .0) _ _
+    _ _ _ (omega arith) (at-loop .loop .inv .0)
 
 pub search-spec : {M : Type 1} → statement M
 search-spec =

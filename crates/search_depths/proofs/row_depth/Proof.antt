@@ -17,7 +17,7 @@ abbrev μ-loop : tie.MeasureT-loop
 μ-loop row most₀ i₀ most i = length row - i
 
 loop-holds : tie.Need-loop-holds Inv-loop μ-loop
-loop-holds c = (omega arith, omega arith)
+loop-holds c = search needs
 
 mul-greater : tie.Need-mul-greater Inv-loop μ-loop
 mul-greater c = search needs
@@ -41,14 +41,14 @@ loop-again c =
       omega arith,
       subst (λ (m : ℕ). max m (greatest (drop ((at-loop .loop .i) + 1) (start .args .row .now))) ≡ greatest
           (start .args .row .now)) (sym (c .greater .ensures))
-          (row-turn (start .args .row .now) (at-loop .loop .i) (at-loop .loop .most) (c .before .before .loop-test .taken)
+          (row-turn _ _ _ (c .before .before .loop-test .taken)
           (at-loop .loop .inv .1)),
     )
 
 returns : tie.Need-returns Inv-loop μ-loop
 returns c =
     let at-loop = c .before in
-    row-end (c .before .before .before .args .row .now) (at-loop .loop .i) (at-loop .loop .most) (c .loop-test .left)
+    row-end _ _ _ (c .loop-test .left)
     (at-loop .loop .inv .1)
 
 pub row-depth-spec : {M : Type 1} → statement M

@@ -29,13 +29,13 @@ slice-aggregate-insert-below : tie.Need-slice-aggregate-insert-below Inv-loop μ
 slice-aggregate-insert-below c = search needs
 
 insert-below-requires : tie.Need-insert-below-requires Inv-loop μ-loop
-insert-below-requires c κs = (refl, (c .before .before .before .before .pre .0 .size))
+insert-below-requires c κs = search needs
 
 loop-holds : tie.Need-loop-holds Inv-loop μ-loop
-loop-holds c = (omega arith, length-replicate {A = ℕ} 1024 0, omega arith)
+loop-holds c = search needs
 
 slice-aggregate-search : tie.Need-slice-aggregate-search Inv-loop μ-loop
-slice-aggregate-search c = sym ((c .before .before .before .before .insert-below .kept .0) ∙ length-replicate {A = ℕ} 16 0)
+slice-aggregate-search c = search needs
 
 mul-search : tie.Need-mul-search Inv-loop μ-loop
 mul-search c = search needs
@@ -47,15 +47,11 @@ cast-search : tie.Need-cast-search Inv-loop μ-loop
 cast-search c = omega (arith, (c .shared-slice-known4 .given) (c .before .before .before .loop .i))
 
 array-borrow-prefix-row : tie.Need-array-borrow-prefix-row Inv-loop μ-loop
-array-borrow-prefix-row c =
-    let start = c .before .before .before .before .before .before .before .before .before .before in
-    omega (arith, (start .pre .0 .size), (c .before .before .before .loop .inv .1))
+array-borrow-prefix-row c = search needs
 
 slice-aggregate-search-2 : tie.Need-slice-aggregate-search-2 Inv-loop μ-loop
 slice-aggregate-search-2 c =
-    let start = c .before .before .before .before .before .before .before .before .before .before .before in
-    let at-loop = c .before .before .before .before in
-    sym (length-take-le (start .args .n) (at-loop .loop .row) (omega (arith, (start .pre .0 .size), (at-loop .loop .inv .1))))
+    sym (length-take-le _ _ (omega arith))
 
 search-requires : tie.Need-search-requires Inv-loop μ-loop
 search-requires c κs =
@@ -65,15 +61,15 @@ search-requires c κs =
     let at-loop-test = c .before .before .before in (
       ((start .pre .0), ((at-insert-below .insert-below .kept .0) ∙ length-replicate {A = ℕ} 16 0)),
       (
-        ((start .pre .1) (getD (start .args .sources .now) (at-loop .loop .i) 0)
-            (getD-has (start .args .sources .now) (at-loop .loop .i) (at-loop-test .loop-test .taken))),
+        ((start .pre .1) (getD (start .args .sources .now) _ 0)
+            (getD-has (start .args .sources .now) _ (at-loop-test .loop-test .taken))),
         subst T
             (sym (ap (λ (q : ℕ → Bool). q (getD (start .args .sources .now) (at-loop .loop .i) 0)) (at-insert-below .insert-below .ensures)))
-            (lt→ltb (getD (start .args .sources .now) (at-loop .loop .i) 0) (start .args .n)
-            ((start .pre .1) (getD (start .args .sources .now) (at-loop .loop .i) 0)
-            (getD-has (start .args .sources .now) (at-loop .loop .i) (at-loop-test .loop-test .taken)))),
-        length-take-le (start .args .n)
-            (at-loop .loop .row) (omega (arith, (start .pre .0 .size), (at-loop .loop .inv .1))),
+            (lt→ltb (getD (start .args .sources .now) _ 0) _
+            ((start .pre .1) (getD (start .args .sources .now) _ 0)
+            (getD-has (start .args .sources .now) _ (at-loop-test .loop-test .taken)))),
+        length-take-le _
+            _ (omega arith),
       ),
     )
 
@@ -84,25 +80,23 @@ array-share-prefix-row c =
     let at-search = c .before in
     omega (
       arith,
-      (start .pre .0 .size),
-      (row-kept (start .args .n) (at-loop .loop .row) (at-search .search .last .1 .1 .1 .1 .1 .0)
+      (row-kept _ (at-loop .loop .row) (at-search .search .last .1 .1 .1 .1 .1 .0)
           (start .pre .0 .size) (at-loop .loop .inv .1)
-          ((at-search .search .kept .1 .1 .1 .1 .1 .0) ∙ length-take-le (start .args .n) (at-loop .loop .row)
-          (omega (arith, (start .pre .0 .size), (at-loop .loop .inv .1))))),
+          ((at-search .search .kept .1 .1 .1 .1 .1 .0) ∙ length-take-le _ _
+          (omega arith))),
     )
 
 slice-aggregate-row-depth : tie.Need-slice-aggregate-row-depth Inv-loop μ-loop
 slice-aggregate-row-depth c =
     let start = c .before .before .before .before .before .before .before .before .before .before .before .before .before .before in
     let at-insert-below = c .before .before .before .before .before .before .before .before .before in
-    let at-loop = c .before .before .before .before .before .before .before in
     let at-search = c .before .before in
-    sym (ap length (row-searched (start .args .n) (neighboursOf (start .args .starts .now) (start .args .neighbours .now))
-    (member (at-insert-below .insert-below .last .0)) (at-insert-below .insert-below .ensures)
-    (getD (start .args .sources .now) (at-loop .loop .i) 0) (at-loop .loop .row) (at-search .search .last .1 .1 .1 .1 .1 .0)
+    sym (ap length (row-searched _ (neighboursOf _ _)
+    (member _) (at-insert-below .insert-below .ensures)
+    (getD (start .args .sources .now) _ 0) _ _
     (at-search .search .ensures)) ∙ length-row
-    ((fewest (linked (start .args .n) (neighboursOf (start .args .starts .now) (start .args .neighbours .now))) (start .args .n))
-    (getD (start .args .sources .now) (at-loop .loop .i) 0)) (start .args .n))
+    ((fewest (linked _ (neighboursOf _ _)) _)
+    (getD (start .args .sources .now) _ 0)) _)
 
 row-depth-requires : tie.Need-row-depth-requires Inv-loop μ-loop
 row-depth-requires c κs = search needs
@@ -118,21 +112,21 @@ returns c =
     let at-loop-test = c .before .before .before .before .before .before .before .before .before in
     let at-search = c .before .before .before .before .before in
     let at-greater = c .before in
-    search-none (start .args .n) (neighboursOf (start .args .starts .now) (start .args .neighbours .now)) (start .args .sources .now)
-    ((at-loop .loop .i) + 1) (at-greater .greater .result) (start .pre .0 .size) (c .if1 .taken)
+    search-none _ (neighboursOf _ _) _
+    ((at-loop .loop .i) + 1) _ (start .pre .0 .size) (c .if1 .taken)
     (subst (λ (m : ℕ). max m (greatest (rowsOf (start .args .n)
     (fewest (linked (start .args .n) (neighboursOf (start .args .starts .now) (start .args .neighbours .now))) (start .args .n))
     (drop ((at-loop .loop .i) + 1) (start .args .sources .now)))) ≡ greatest
     (rowsOf (start .args .n) (fewest (linked (start .args .n) (neighboursOf (start .args .starts .now) (start .args .neighbours .now)))
     (start .args .n)) (start .args .sources .now)))
-    (sym ((at-greater .greater .ensures) ∙ ap (max (at-loop .loop .most))
+    (sym ((at-greater .greater .ensures) ∙ ap (max _)
     ((c .before .before .row-depth .ensures) ∙ ap greatest
-    (row-searched (start .args .n) (neighboursOf (start .args .starts .now) (start .args .neighbours .now))
-    (member (at-insert-below .insert-below .last .0)) (at-insert-below .insert-below .ensures)
-    (getD (start .args .sources .now) (at-loop .loop .i) 0) (at-loop .loop .row) (at-search .search .last .1 .1 .1 .1 .1 .0)
-    (at-search .search .ensures))))) (search-turn (start .args .n)
-    (fewest (linked (start .args .n) (neighboursOf (start .args .starts .now) (start .args .neighbours .now))) (start .args .n))
-    (start .args .sources .now) (at-loop .loop .i) (at-loop .loop .most) (at-loop-test .loop-test .taken) (at-loop .loop .inv .2)))
+    (row-searched _ (neighboursOf _ _)
+    (member _) (at-insert-below .insert-below .ensures)
+    (getD (start .args .sources .now) _ 0) _ _
+    (at-search .search .ensures))))) (search-turn _
+    (fewest (linked _ (neighboursOf _ _)) _)
+    _ _ _ (at-loop-test .loop-test .taken) (at-loop .loop .inv .2)))
 
 add-i : tie.Need-add-i Inv-loop μ-loop
 add-i c = search needs
@@ -148,30 +142,29 @@ loop-again c =
     let at-loop-test = c .before .before .before .before .before .before .before .before .before in
     let at-search = c .before .before .before .before .before in (
       omega arith,
-      (row-kept (start .args .n) (at-loop .loop .row) (at-search .search .last .1 .1 .1 .1 .1 .0) (start .pre .0 .size)
-          (at-loop .loop .inv .1) ((at-search .search .kept .1 .1 .1 .1 .1 .0) ∙ length-take-le (start .args .n) (at-loop .loop .row)
-          (omega (arith, (start .pre .0 .size), (at-loop .loop .inv .1))))),
+      (row-kept _ _ (at-search .search .last .1 .1 .1 .1 .1 .0) (start .pre .0 .size)
+          (at-loop .loop .inv .1) ((at-search .search .kept .1 .1 .1 .1 .1 .0) ∙ length-take-le _ _
+          (omega arith))),
       (subst (λ (m : ℕ). max m (greatest (rowsOf (start .args .n)
           (fewest (linked (start .args .n) (neighboursOf (start .args .starts .now) (start .args .neighbours .now))) (start .args .n))
           (drop ((at-loop .loop .i) + 1) (start .args .sources .now)))) ≡ greatest
           (rowsOf (start .args .n) (fewest (linked (start .args .n) (neighboursOf (start .args .starts .now) (start .args .neighbours .now)))
           (start .args .n)) (start .args .sources .now)))
-          (sym ((c .before .greater .ensures) ∙ ap (max (at-loop .loop .most))
+          (sym ((c .before .greater .ensures) ∙ ap (max _)
           ((c .before .before .row-depth .ensures) ∙ ap greatest
-          (row-searched (start .args .n) (neighboursOf (start .args .starts .now) (start .args .neighbours .now))
-          (member (at-insert-below .insert-below .last .0)) (at-insert-below .insert-below .ensures)
-          (getD (start .args .sources .now) (at-loop .loop .i) 0) (at-loop .loop .row) (at-search .search .last .1 .1 .1 .1 .1 .0)
-          (at-search .search .ensures))))) (search-turn (start .args .n)
-          (fewest (linked (start .args .n) (neighboursOf (start .args .starts .now) (start .args .neighbours .now))) (start .args .n))
-          (start .args .sources .now) (at-loop .loop .i) (at-loop .loop .most) (at-loop-test .loop-test .taken) (at-loop .loop .inv .2))),
+          (row-searched _ (neighboursOf _ _)
+          (member _) (at-insert-below .insert-below .ensures)
+          (getD (start .args .sources .now) _ 0) _ _
+          (at-search .search .ensures))))) (search-turn _
+          (fewest (linked _ (neighboursOf _ _)) _)
+          _ _ _ (at-loop-test .loop-test .taken) (at-loop .loop .inv .2))),
     )
 
 returns-2 : tie.Need-returns-2 Inv-loop μ-loop
 returns-2 c =
-    let start = c .before .before .before .before .before .before .before .before in
     let at-loop = c .before in
-    search-end (start .args .n) (fewest (linked (start .args .n) (neighboursOf (start .args .starts .now) (start .args .neighbours .now)))
-    (start .args .n)) (start .args .sources .now) (at-loop .loop .i) (at-loop .loop .most) (c .loop-test .left) (at-loop .loop .inv .2)
+    search-end _ (fewest (linked _ (neighboursOf _ _))
+    _) _ _ _ (c .loop-test .left) (at-loop .loop .inv .2)
 
 pub search-depth-spec : {M : Type 1} → statement M
 search-depth-spec =

@@ -1,5 +1,6 @@
 -- `search_matrix::link` meets its contract: a node that is not allowed adds no link.
 -- Assumes nothing.
+use native.Mathlib.Omega.{arith}
 use mathlib.Core.Path.{sym, _∙_}
 use borrow.Author.Tests.{not-true, not-false}
 use Rattle.base_nodeset.specs.Matrix.{edgesIn}
@@ -14,8 +15,7 @@ contains-requires c κs = search needs
 
 returns : tie.Need-returns
 returns c =
-    let start = c .before .before .before .before in
-    link-not (edgesIn (start .args .rows .now)) (member (start .args .allowed .now)) (start .args .v) (start .args .w)
+    link-not (edgesIn _) (member _) _ _
     (sym (c .before .contains .ensures) ∙ not-true _ (c .if1 .taken))
 
 mul-insert : tie.Need-mul-insert
@@ -33,7 +33,7 @@ same-length c = search needs
 returns-2 : tie.Need-returns-2
 returns-2 c =
     let start = c .before .before .before .before .before .before .before .before in
-    link-put (start .args .rows .now) _ (member (start .args .allowed .now)) (start .args .v) (start .args .w) (start .pre .1)
+    link-put _ _ (member _) _ _ (start .pre .1)
     (sym (c .before .before .before .before .before .contains .ensures) ∙ not-false _ (c .before .before .before .before .if1 .left))
     (c .before .before .insert .ensures)
 

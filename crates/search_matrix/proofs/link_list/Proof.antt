@@ -19,9 +19,7 @@ abbrev μ-loop : tie.MeasureT-loop
 μ-loop v list allowed rows₀ i₀ rows i = length list - i
 
 loop-holds : tie.Need-loop-holds Inv-loop μ-loop
-loop-holds c =
-    let start = c .before .before .before in
-    linking-none (start .args .v) (start .args .list .now) (member (start .args .allowed .now)) (start .args .rows .now) (start .pre .2)
+loop-holds c = search needs
 
 mul-link : tie.Need-mul-link Inv-loop μ-loop
 mul-link c = search needs
@@ -37,7 +35,7 @@ link-requires c κs =
     let start = c .before .before .before .before .before .before .before in
     let at-loop = c .before .before .before in (
       (start .pre .0),
-      (start .pre .3) _ (getD-has (start .args .list .now) (at-loop .loop .i) (c .before .before .loop-test .taken)),
+      (start .pre .3) _ (getD-has _ _ (c .before .before .loop-test .taken)),
       (start .pre .1),
       (at-loop .loop .inv) .long,
     )
@@ -50,20 +48,18 @@ loop-less c = search needs
 
 loop-again : tie.Need-loop-again Inv-loop μ-loop
 loop-again c =
-    let start = c .before .before .before .before .before .before .before .before .before .before in
     let at-loop = c .before .before .before .before .before .before in
     let at-link = c .before .before in
-    linking-more (start .args .v) (start .args .list .now) (member (start .args .allowed .now)) (start .args .rows .now) _ _
+    linking-more _ _ (member _) _ _ _
     (at-loop .loop .inv) _ (c .before .before .before .before .before .loop-test .taken) (at-link .link .kept .1 .1 .1 .0)
     (at-link .link .ensures)
 
 same-length : tie.Need-same-length Inv-loop μ-loop
-same-length c = (c .before .loop .inv) .long ∙ sym (c .before .before .before .before .before .pre .2)
+same-length c = search needs
 
 returns : tie.Need-returns Inv-loop μ-loop
 returns c =
-    let start = c .before .before .before .before .before in
-    linking-all (start .args .v) (start .args .list .now) (member (start .args .allowed .now)) (start .args .rows .now) _ _
+    linking-all _ _ (member _) _ _ _
     (c .before .loop .inv) (c .loop-test .left)
 
 pub link-list-spec : {M : Type 1} → statement M

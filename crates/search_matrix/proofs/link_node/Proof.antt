@@ -21,8 +21,8 @@ contains-requires c κs = search needs
 returns : tie.Need-returns
 returns c =
     let start = c .before .before .before .before .before .before in
-    node-not (start .args .n) (neighboursOf (start .args .starts .now) (start .args .neighbours .now)) (start .pre .0 .lists .graph)
-    (member (start .args .allowed .now)) (start .args .v) (edgesIn (start .args .rows .now))
+    node-not _ (neighboursOf _ _) (start .pre .0 .lists .graph)
+    (member _) _ (edgesIn _)
     (sym (c .before .contains .ensures) ∙ not-true _ (c .if1 .taken))
 
 own-requires : tie.Need-own-requires
@@ -31,14 +31,13 @@ own-requires c κs = search needs
 link-list-requires : tie.Need-link-list-requires
 link-list-requires c κs =
     let start = c .before .before .before .before .before .before .before .before in (
-      omega (arith, (start .pre .2), (start .pre .0 .size)),
+      omega arith,
       (start .pre .1),
       (start .pre .3),
       λ x t. omega (
         arith,
-        (start .pre .0 .lists .graph .below) (start .args .v) x (start .pre .2)
+        (start .pre .0 .lists .graph .below) _ x (start .pre .2)
             (subst (λ (l : List ℕ). T (has x l)) (c .before .own .ensures) t),
-        (start .pre .0 .size),
       ),
     )
 
@@ -49,8 +48,8 @@ returns-2 : tie.Need-returns-2
 returns-2 c =
     let start = c .before .before .before .before .before .before .before .before .before .before .before in
     let at-contains = c .before .before .before .before .before .before in
-    node-put (start .args .n) (neighboursOf (start .args .starts .now) (start .args .neighbours .now)) (start .pre .0 .lists .graph)
-    (member (start .args .allowed .now)) (start .args .v) (edgesIn (start .args .rows .now)) _ _ (start .pre .2)
+    node-put _ (neighboursOf _ _) (start .pre .0 .lists .graph)
+    (member _) _ (edgesIn _) _ _ (start .pre .2)
     (sym (at-contains .contains .ensures) ∙ not-false _ (c .before .before .before .before .before .if1 .left))
     (c .before .before .before .before .own .ensures) (c .before .before .link-list .ensures)
 

@@ -1,5 +1,6 @@
 -- `search_matrix::link_rows` meets its contract: the matrix has the links of the nodes below v.
 -- Assumes nothing.
+use borrow.Author.Needs.{needs}
 use mathlib.Core.Path.{_≡_, sym, ap, _∙_}
 use mathlib.Core.Bool.{_&&_}
 use Prim.Native.Nat.{ℕ, _-_, _≤_}
@@ -26,34 +27,30 @@ loop-holds c =
       omega arith,
       (ap length (start .pre .2) ∙ length-replicate {A = ℕ} 16384 0),
       rows-none
-          (between (member (start .args .allowed .now))
-          (linked (start .args .n) (neighboursOf (start .args .starts .now) (start .args .neighbours .now)))) (start .args .rows .now)
+          (between (member _)
+          (linked _ (neighboursOf _ _))) _
           (start .pre .2),
     )
 
 link-node-requires : tie.Need-link-node-requires Inv-loop μ-loop
-link-node-requires c κs =
-    let start = c .before .before .before .before .before .before .before in
-    ((start .pre .0), (start .pre .1), (c .before .loop-test .taken), (c .before .before .loop .inv .1))
+link-node-requires c κs = search needs
 
 add-v : tie.Need-add-v Inv-loop μ-loop
-add-v c =
-    let start = c .before .before .before .before .before .before .before .before .before .before in
-    omega (arith, (c .before .before .before .before .loop-test .taken), (start .pre .0 .size))
+add-v c = search needs
 
 loop-less : tie.Need-loop-less Inv-loop μ-loop
-loop-less c = omega (arith, (c .before .before .before .before .loop-test .taken))
+loop-less c = search needs
 
 loop-again : tie.Need-loop-again Inv-loop μ-loop
 loop-again c =
     let start = c .before .before .before .before .before .before .before .before .before .before in
     let at-loop = c .before .before .before .before .before in
     let at-link-node = c .before .before in (
-      omega (arith, (c .before .before .before .before .loop-test .taken)),
+      omega arith,
       (at-link-node .link-node .kept .1 .1 .1 .1 .1 .0) ∙
           (at-loop .loop .inv .1),
-      rows-next (start .args .n) (neighboursOf (start .args .starts .now) (start .args .neighbours .now))
-          (start .pre .0 .lists .graph) (member (start .args .allowed .now)) (at-loop .loop .v) _ _ (at-loop .loop .inv .2)
+      rows-next _ (neighboursOf _ _)
+          (start .pre .0 .lists .graph) (member _) _ _ _ (at-loop .loop .inv .2)
           (at-link-node .link-node .ensures),
     )
 
@@ -64,10 +61,9 @@ same-length c =
 
 returns : tie.Need-returns Inv-loop μ-loop
 returns c =
-    let start = c .before .before .before .before .before .before in
     let at-loop = c .before in
-    rows-all (start .args .n) (at-loop .loop .v) (neighboursOf (start .args .starts .now) (start .args .neighbours .now))
-    (member (start .args .allowed .now)) _ (omega (arith, (at-loop .loop .inv .0), (c .loop-test .left))) (at-loop .loop .inv .2)
+    rows-all _ _ (neighboursOf _ _)
+    (member _) _ (omega arith) (at-loop .loop .inv .2)
 
 pub link-rows-spec : {M : Type 1} → statement M
 link-rows-spec =

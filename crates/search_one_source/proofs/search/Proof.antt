@@ -28,27 +28,19 @@ fill16-requires : tie.Need-fill16-requires Inv-loop μ-loop
 fill16-requires c κs = search needs
 
 mul-row : tie.Need-mul-row Inv-loop μ-loop
-mul-row c =
-    let start = c .before .before .before .before .before .before .before .before in
-    omega (arith, (c .before .before .fill16 .kept .0), (start .pre .1 .0), (start .pre .1 .2))
+mul-row c = search needs
 
 slice-write-row : tie.Need-slice-write-row Inv-loop μ-loop
-slice-write-row c =
-    let start = c .before .before .before .before .before .before .before .before in
-    omega (arith, (c .before .before .fill16 .kept .0), (start .pre .1 .0), (start .pre .1 .2))
+slice-write-row c = search needs
 
 slice-aggregate-unvisited-nodes : tie.Need-slice-aggregate-unvisited-nodes Inv-loop μ-loop
 slice-aggregate-unvisited-nodes c = search needs
 
 unvisited-nodes-requires : tie.Need-unvisited-nodes-requires Inv-loop μ-loop
-unvisited-nodes-requires c κs =
-    let start = c .before .before .before .before .before .before .before .before .before in
-    ((start .pre .0 .0 .size), (start .pre .0 .1), (start .pre .1 .0), refl)
+unvisited-nodes-requires c κs = search needs
 
 cast-queue : tie.Need-cast-queue Inv-loop μ-loop
-cast-queue c =
-    let start = c .before .before .before .before .before .before .before .before .before .before .before in
-    omega (arith, (start .pre .0 .0 .size), (start .pre .1 .0))
+cast-queue c = search needs
 
 array-write-queue : tie.Need-array-write-queue Inv-loop μ-loop
 array-write-queue c = search needs
@@ -58,48 +50,26 @@ loop-holds c =
     let start = c .before .before .before .before .before .before .before .before .before .before .before in
     let at-fill16 = c .before .before .before .before .before in
     let at-unvisited-nodes = c .before in (
-      search-start _ (start .args .source) (start .args .n) (start .pre .0 .0 .size) (start .pre .1 .0) _ refl refl _
+      search-start _ _ _ (start .pre .0 .0 .size) (start .pre .1 .0) _ refl refl _
           ((at-fill16 .fill16 .ensures) ∙ ap (λ (k : ℕ). replicate k none) (start .pre .1 .2)),
       (at-unvisited-nodes .unvisited-nodes .kept .1 .1 .1 .0),
-      unvisited-row (member (start .args .allowed .now)) _ (start .args .n)
-          (start .args .source) _ ((at-fill16 .fill16 .ensures) ∙ ap (λ (k : ℕ). replicate k none) (start .pre .1 .2))
+      unvisited-row (member _) _ (start .args .n)
+          _ _ ((at-fill16 .fill16 .ensures) ∙ ap (λ (k : ℕ). replicate k none) (start .pre .1 .2))
           (at-unvisited-nodes .unvisited-nodes .ensures),
     )
 
 mul-v : tie.Need-mul-v Inv-loop μ-loop
-mul-v c =
-    let at-loop = c .before in
-    omega (
-      arith,
-      (c .loop-test .taken),
-      (at-loop .loop .inv .0 .count),
-      (at-loop .loop .inv .0 .few),
-      (at-loop .loop .inv .0 .queue-length),
-      (at-loop .loop .inv .0 .row-length),
-    )
+mul-v c = search needs
 
 array-read-v : tie.Need-array-read-v Inv-loop μ-loop
-array-read-v c =
-    let at-loop = c .before in
-    omega (
-      arith,
-      (c .loop-test .taken),
-      (at-loop .loop .inv .0 .count),
-      (at-loop .loop .inv .0 .few),
-      (at-loop .loop .inv .0 .queue-length),
-      (at-loop .loop .inv .0 .row-length),
-    )
+array-read-v c = search needs
 
 cast-v : tie.Need-cast-v Inv-loop μ-loop
 cast-v c =
     let at-loop = c .before in
     omega (
       arith,
-      ((at-loop .loop .inv .0 .node) (at-loop .loop .head) (c .loop-test .taken)),
-      (at-loop .loop .inv .0 .count),
-      (at-loop .loop .inv .0 .few),
-      (at-loop .loop .inv .0 .queue-length),
-      (at-loop .loop .inv .0 .row-length),
+      ((at-loop .loop .inv .0 .node) _ (c .loop-test .taken)),
     )
 
 mul-d : tie.Need-mul-d Inv-loop μ-loop
@@ -107,11 +77,7 @@ mul-d c =
     let at-loop = c .before in
     omega (
       arith,
-      ((at-loop .loop .inv .0 .node) (at-loop .loop .head) (c .loop-test .taken)),
-      (at-loop .loop .inv .0 .count),
-      (at-loop .loop .inv .0 .few),
-      (at-loop .loop .inv .0 .queue-length),
-      (at-loop .loop .inv .0 .row-length),
+      ((at-loop .loop .inv .0 .node) _ (c .loop-test .taken)),
     )
 
 slice-read-d : tie.Need-slice-read-d Inv-loop μ-loop
@@ -119,11 +85,7 @@ slice-read-d c =
     let at-loop = c .before .before in
     omega (
       arith,
-      ((at-loop .loop .inv .0 .node) (at-loop .loop .head) (c .before .loop-test .taken)),
-      (at-loop .loop .inv .0 .count),
-      (at-loop .loop .inv .0 .few),
-      (at-loop .loop .inv .0 .queue-length),
-      (at-loop .loop .inv .0 .row-length),
+      ((at-loop .loop .inv .0 .node) _ (c .before .loop-test .taken)),
     )
 
 add-d : tie.Need-add-d Inv-loop μ-loop
@@ -132,17 +94,14 @@ add-d c =
     let at-loop-test = c .before in
     omega (
       arith,
-      (at-loop .loop .inv .0 .small) (at-loop .loop .head) (at-loop-test .loop-test .taken),
-      (at-loop .loop .inv .0 .count),
-      (at-loop .loop .inv .0 .few),
-      (at-loop-test .loop-test .taken),
+      (at-loop .loop .inv .0 .small) _ (at-loop-test .loop-test .taken),
     )
 
 own-requires : tie.Need-own-requires Inv-loop μ-loop
 own-requires c κs =
     let start = c .before .before .before .before .before .before .before .before .before .before .before .before .before .before in
     let at-loop = c .before .before in
-    (rows-of (start .pre .0 .0), ((at-loop .loop .inv .0 .node) (at-loop .loop .head) (c .before .loop-test .taken)))
+    (rows-of (start .pre .0 .0), ((at-loop .loop .inv .0 .node) _ (c .before .loop-test .taken)))
 
 slice-aggregate-visit-all : tie.Need-slice-aggregate-visit-all Inv-loop μ-loop
 slice-aggregate-visit-all c = search needs
@@ -153,26 +112,17 @@ visit-all-requires c κs =
     let at-loop = c .before .before .before .before .before .before in
     let at-loop-test = c .before .before .before .before .before in (
       (
-        own-below (member (start .args .allowed .now)) (start .args .n)
-            (neighboursOf (start .args .starts .now) (start .args .neighbours .now)) _ _ _ (at-loop .loop .inv .0)
+        own-below (member _) _
+            (neighboursOf _ _) _ _ _ (at-loop .loop .inv .0)
             (at-loop-test .loop-test .taken) (start .pre .0 .0 .lists .graph) _ (c .before .before .before .own .ensures),
         omega (
           arith,
-          (at-loop .loop .inv .0 .small) (at-loop .loop .head) (at-loop-test .loop-test .taken),
-          (at-loop .loop .inv .0 .count),
-          (at-loop .loop .inv .0 .few),
-          (at-loop-test .loop-test .taken),
+          (at-loop .loop .inv .0 .small) _ (at-loop-test .loop-test .taken),
         ),
       ),
       (
         (
-          omega (
-            arith,
-            (at-loop .loop .inv .0 .count),
-            (at-loop .loop .inv .0 .few),
-            (at-loop .loop .inv .0 .queue-length),
-            (at-loop .loop .inv .0 .row-length),
-          ),
+          omega arith,
           (at-loop .loop .inv .0 .count) ∙ sym (at-loop .loop .inv .0 .row-length),
         ),
         ((at-loop .loop .inv .1), (at-loop .loop .inv .2)),
@@ -186,37 +136,20 @@ next-place-requires : tie.Need-next-place-requires Inv-loop μ-loop
 next-place-requires c κs =
     let start = c .before .before .before .before .before .before .before .before .before .before .before .before .before .before .before .before .before .before .before .before .before .before .before in
     let at-loop = c .before .before .before .before .before .before .before .before .before .before .before in
-    let at-loop-test = c .before .before .before .before .before .before .before .before .before .before in
     let at-visit-all = c .before .before .before .before in (
       (start .pre .0 .0 .size),
       ((at-visit-all .visit-all .kept .1 .1 .1 .0) ∙ (at-loop .loop .inv .1)),
       omega
-          (arith, (at-loop-test .loop-test .taken), longer _ _ _ _ _ (at-visit-all .visit-all .ensures .0)),
+          (arith, longer _ _ _ _ _ (at-visit-all .visit-all .ensures .0)),
     )
 
 loop-less : tie.Need-loop-less Inv-loop μ-loop
 loop-less c =
-    let at-loop = c .before .before .before .before .before .before .before .before .before .before .before .before in
-    let at-loop-test = c .before .before .before .before .before .before .before .before .before .before .before in
-    ⊎-elim (λ e. omega (
-      arith,
-      e,
-      (at-loop-test .loop-test .taken),
-      (at-loop .loop .inv .0 .count),
-      (at-loop .loop .inv .0 .few),
-      (at-loop .loop .inv .0 .queue-length),
-      (at-loop .loop .inv .0 .row-length),
-    ))
+    ⊎-elim (λ e. omega arith)
     (λ r. omega (
       arith,
-      r .0,
-      (at-loop-test .loop-test .taken),
       longer _ _ _ _ _
           (c .before .before .before .before .before .visit-all .ensures .0),
-      (at-loop .loop .inv .0 .count),
-      (at-loop .loop .inv .0 .few),
-      (at-loop .loop .inv .0 .queue-length),
-      (at-loop .loop .inv .0 .row-length),
     )) (c .next-place .ensures)
 
 loop-again : tie.Need-loop-again Inv-loop μ-loop
@@ -226,10 +159,10 @@ loop-again c =
     let at-loop-test = c .before .before .before .before .before .before .before .before .before .before .before in
     let at-own = c .before .before .before .before .before .before .before .before .before in
     let at-visit-all = c .before .before .before .before .before in (
-      search-next (member (start .args .allowed .now)) (start .args .n)
-          (neighboursOf (start .args .starts .now) (start .args .neighbours .now)) (start .args .source) _ ((at-loop .loop .head) + 1)
-          (search-turn (member (start .args .allowed .now)) (start .args .n)
-          (neighboursOf (start .args .starts .now) (start .args .neighbours .now)) _ _ _ (at-loop .loop .inv .0)
+      search-next (member _) _
+          (neighboursOf _ _) _ _ (_ + 1)
+          (search-turn (member _) _
+          (neighboursOf _ _) _ _ _ (at-loop .loop .inv .0)
           (at-loop-test .loop-test .taken) (start .pre .0 .0 .lists .graph) _ (at-own .own .ensures) (start .pre .1 .1) _
           (at-visit-all .visit-all .ensures .0)) _ _ refl _ (at-visit-all .visit-all .ensures .1) (c .next-place .ensures),
       ((at-visit-all .visit-all .kept .1 .1 .1 .0) ∙ (at-loop .loop .inv .1)),
@@ -237,15 +170,13 @@ loop-again c =
     )
 
 same-length : tie.Need-same-length Inv-loop μ-loop
-same-length c =
-    let start = c .before .before .before .before .before .before .before .before .before .before .before .before .before in
-    (c .before .loop .inv .0 .row-length) ∙ sym (start .pre .1 .2)
+same-length c = search needs
 
 returns : tie.Need-returns Inv-loop μ-loop
 returns c =
     let start = c .before .before .before .before .before .before .before .before .before .before .before .before .before in
-    search-end (member (start .args .allowed .now)) (start .args .n)
-    (neighboursOf (start .args .starts .now) (start .args .neighbours .now)) _ _ _ (c .before .loop .inv .0) (c .loop-test .left)
+    search-end (member _) _
+    (neighboursOf _ _) _ _ _ (c .before .loop .inv .0) (c .loop-test .left)
     (start .pre .1 .0)
 
 pub search-spec : {M : Type 1} → statement M

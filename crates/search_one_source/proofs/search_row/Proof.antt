@@ -33,7 +33,7 @@ part-search-end c = omega (arith, fits (c .before .before .before .before))
 
 search-requires : tie.Need-search-requires
 search-requires c κs = let s = c .before .before .before .before .before
-    in (s .pre .0, (omega arith, s .pre .1 .1, mid-length _ (s .args .n) (s .args .table .now) (omega (arith, fits s))))
+    in (s .pre .0, (omega arith, s .pre .1 .1, mid-length _ (s .args .n) _ (omega (arith, fits s))))
 
 same-length : tie.Need-same-length
 same-length c = search needs
@@ -42,8 +42,8 @@ returns : tie.Need-returns
 returns c =
     let s = c .before .before .before .before .before .before .before .before in
     let r = c .before .before .search in
-    row-put _ (s .args .n) (s .args .table .now) _ _
-    (r .kept .1 .1 .1 .1 .1 .0 ∙ mid-length _ (s .args .n) (s .args .table .now) (omega (arith, fits s))) (r .ensures)
+    row-put _ _ _ _ _
+    (r .kept .1 .1 .1 .1 .1 .0 ∙ mid-length _ (s .args .n) _ (omega (arith, fits s))) (r .ensures)
 
 pub search-row-spec : {M : Type 1} → statement M
 search-row-spec =

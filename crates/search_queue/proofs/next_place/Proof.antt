@@ -13,8 +13,7 @@ smallest-requires c κs = search needs
 
 returns : tie.Need-returns
 returns c =
-    let start = c .before .before .before in
-    inr (refl, past-smallest _ _ (omega (arith, (start .pre .0), (start .pre .1))) _ (c .before .smallest .ensures) (c .if1 .taken))
+    inr (refl, past-smallest _ _ (omega arith) _ (c .before .smallest .ensures) (c .if1 .taken))
 
 add-result : tie.Need-add-result
 add-result c = search needs

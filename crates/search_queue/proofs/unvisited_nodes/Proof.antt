@@ -36,16 +36,9 @@ slice-aggregate-subtract-2 c = search needs
 subtract-requires-2 : tie.Need-subtract-requires-2
 subtract-requires-2 c κs =
     let start = c .before .before .before .before .before .before .before .before .before .before .before .before .before .before .before .before .before in
-    let at-insert-below = c .before .before .before .before .before .before .before .before .before .before .before .before .before in
-    let at-subtract = c .before .before .before .before .before .before .before .before .before .before in
-    let at-insert = c .before .before .before .before .before .before .before in
     omega (
       arith,
       ap length (start .pre .3),
-      (c .before .before .before .before .insert-below2 .kept .0),
-      (at-insert .insert .kept .0),
-      (at-subtract .subtract .kept .0),
-      (at-insert-below .insert-below .kept .0),
     )
 
 same-length : tie.Need-same-length
@@ -58,7 +51,7 @@ returns c =
     let at-subtract = c .before .before .before .before .before .before .before .before .before .before .before .before .before in
     let at-insert = c .before .before .before .before .before .before .before .before .before .before in
     let at-insert-below2 = c .before .before .before .before .before .before .before in
-    unvisited-start (member (start .args .allowed .now)) (start .args .n) (start .args .source) (at-insert-below .insert-below .ensures)
+    unvisited-start (member _) _ _ (at-insert-below .insert-below .ensures)
     (at-subtract .subtract .ensures) (at-insert .insert .ensures) (at-insert-below2 .insert-below2 .ensures)
     (c .before .before .subtract2 .ensures) (start .pre .2)
 

@@ -18,7 +18,7 @@ same-length c = search needs
 returns : tie.Need-returns
 returns c =
     let start = c .before .before .before .before .before .before in (
-      sym (visited-not _ _ _ _ (sym ((start .pre .1 .1) (start .args .w) (start .pre .0 .0)) ∙
+      sym (visited-not _ _ _ _ (sym ((start .pre .1 .1) _ (start .pre .0 .0)) ∙
           (sym (c .before .contains .ensures) ∙ not-true _ (c .if1 .taken)))),
       (start .pre .1 .1),
     )
@@ -43,11 +43,9 @@ element-write-queue c =
     let start = c .before .before .before .before .before .before .before .before .before .before in
     omega (
       arith,
-      (start .pre .0 .1),
-      (start .pre .0 .3),
-      unreached-set (start .args .row .now) (start .args .w) 0 (start .pre .0 .0)
-          (unvisited-new (member (start .args .allowed .now)) (member (start .args .unvisited .now)) (start .args .row .now)
-          (start .pre .1 .1) (start .args .w) (start .pre .0 .0)
+      unreached-set (start .args .row .now) _ 0 (start .pre .0 .0)
+          (unvisited-new (member _) (member _) (start .args .row .now)
+          (start .pre .1 .1) _ (start .pre .0 .0)
           (sym (c .before .before .before .before .before .contains .ensures) ∙ not-false _ (c .before .before .before .before .if1 .left)))
           (λ e. omega arith),
     )
@@ -64,12 +62,12 @@ same-length-3 c = search needs
 returns-2 : tie.Need-returns-2
 returns-2 c =
     let start = c .before .before .before .before .before .before .before .before .before .before in (
-      sym (visited-new _ _ _ _ (sym ((start .pre .1 .1) (start .args .w) (start .pre .0 .0)) ∙
+      sym (visited-new _ _ _ _ (sym ((start .pre .1 .1) _ (start .pre .0 .0)) ∙
           (sym (c .before .before .before .before .before .contains .ensures) ∙ not-false _
           (c .before .before .before .before .if1 .left)))),
-      unvisited-joined (member (start .args .allowed .now))
-          (member (start .args .unvisited .now)) (start .args .row .now) (start .pre .1 .1) (start .args .w) (start .pre .0 .0)
-          (start .args .d) (start .pre .0 .2) _ (c .before .before .remove .ensures),
+      unvisited-joined (member _)
+          (member _) (start .args .row .now) (start .pre .1 .1) _ (start .pre .0 .0)
+          _ (start .pre .0 .2) _ (c .before .before .remove .ensures),
     )
 
 pub visit-spec : {M : Type 1} → statement M

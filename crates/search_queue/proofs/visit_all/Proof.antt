@@ -18,9 +18,7 @@ abbrev μ-loop : tie.MeasureT-loop
 μ-loop nodes d allowed unvisited₀ row₀ queue₀ tail end₀ i₀ unvisited row queue end i = length nodes - i
 
 loop-holds : tie.Need-loop-holds Inv-loop μ-loop
-loop-holds c =
-    let start = c .before .before .before .before in
-    (visiting-none _ _ _ _ (start .pre .1 .0 .1), (start .pre .1 .1 .0), (start .pre .1 .1 .1))
+loop-holds c = search needs
 
 mul-visit : tie.Need-mul-visit Inv-loop μ-loop
 mul-visit c = search needs
@@ -36,9 +34,9 @@ visit-requires c κs =
     let start = c .before .before .before .before .before .before .before .before .before .before in
     let at-loop = c .before .before .before .before .before in (
       (
-        next-below _ _ _ _ (start .pre .0 .0) (at-loop .loop .i) _ (at-loop .loop .inv .0)
+        next-below _ _ _ _ (start .pre .0 .0) _ _ (at-loop .loop .inv .0)
             (c .before .before .before .before .loop-test .taken),
-        omega (arith, (at-loop .loop .inv .0 .same), (start .pre .1 .0 .0)),
+        omega arith,
         (start .pre .0 .1),
         (at-loop .loop .inv .0 .count) ∙ sym (at-loop .loop .inv .0 .same),
       ),
@@ -57,24 +55,22 @@ loop-again c =
     let at-loop = c .before .before .before .before .before .before .before .before .before .before in
     let at-loop-test = c .before .before .before .before .before .before .before .before .before in
     let at-visit = c .before .before .before .before in (
-      visiting-next _ _ _ _ (start .pre .0 .0) (at-loop .loop .i) _ (at-loop .loop .inv .0) (start .pre .0 .1)
+      visiting-next _ _ _ _ (start .pre .0 .0) _ _ (at-loop .loop .inv .0) (start .pre .0 .1)
           (at-loop-test .loop-test .taken) _ (at-visit .visit .ensures .0),
       (at-visit .visit .kept .1 .1 .1 .0) ∙ (at-loop .loop .inv .1),
       (at-visit .visit .ensures .1),
     )
 
 same-length : tie.Need-same-length Inv-loop μ-loop
-same-length c =
-    let start = c .before .before .before .before .before .before in
-    (c .before .loop .inv .1) ∙ sym (start .pre .1 .1 .0)
+same-length c = search needs
 
 same-length-2 : tie.Need-same-length-2 Inv-loop μ-loop
-same-length-2 c = (c .before .loop .inv .0 .same)
+same-length-2 c = search needs
 
 returns : tie.Need-returns Inv-loop μ-loop
 returns c =
     let at-loop = c .before in
-    (visiting-all _ _ _ _ (at-loop .loop .i) _ (c .loop-test .left) (at-loop .loop .inv .0), (at-loop .loop .inv .2))
+    (visiting-all _ _ _ _ _ _ (c .loop-test .left) (at-loop .loop .inv .0), (at-loop .loop .inv .2))
 
 pub visit-all-spec : {M : Type 1} → statement M
 visit-all-spec =

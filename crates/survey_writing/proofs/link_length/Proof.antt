@@ -15,16 +15,14 @@ line-length-requires : tie.Need-line-length-requires
 line-length-requires c κs = search needs
 
 returns : tie.Need-returns
-returns c =
-    let start = c .before .before in (
-      (c .line-length .ensures .0) 76 ∙ ap length (sym (line-taken (start .args .a) (start .args .b) (c .before .if1 .taken))),
-      (c .line-length .ensures .1),
-    )
+returns c = (
+  (c .line-length .ensures .0) 76 ∙ ap length (sym (line-taken _ _ (c .before .if1 .taken))),
+  (c .line-length .ensures .1),
+)
 
 returns-2 : tie.Need-returns-2
 returns-2 c =
-    let start = c .before in
-    (ap length (sym (line-left (start .args .a) (start .args .b) (c .if1 .left))), omega arith)
+    (ap length (sym (line-left _ _ (c .if1 .left))), omega arith)
 
 pub link-length-spec : {M : Type 1} → statement M
 link-length-spec = tie.close (tie.spec cast-line-length line-length-requires returns returns-2)

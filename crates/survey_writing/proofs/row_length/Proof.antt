@@ -1,5 +1,6 @@
 -- `survey_writing::row_length` meets its contract: the bytes counted and those of the lines left are all.
 -- Assumes nothing.
+use borrow.Author.Needs.{needs}
 use Prim.Native.Nat.{_-_, _≤_}
 use native.Mathlib.Omega.{arith}
 use lib.ListN.{length, drop}
@@ -15,9 +16,7 @@ abbrev μ-loop : tie.MeasureT-loop
 μ-loop a row total₀ i₀ total i = length row - i
 
 loop-holds : tie.Need-loop-holds Inv-loop μ-loop
-loop-holds c =
-    let start = c .before in
-    (omega arith, row-none (start .args .a) (start .args .row .now))
+loop-holds c = search needs
 
 mul-link-length : tie.Need-mul-link-length Inv-loop μ-loop
 mul-link-length c = omega arith
@@ -29,12 +28,7 @@ link-length-requires : tie.Need-link-length-requires Inv-loop μ-loop
 link-length-requires c κs = omega arith
 
 add-total : tie.Need-add-total Inv-loop μ-loop
-add-total c = omega (
-  arith,
-  (c .before .before .before .loop .inv .1 .few),
-  (c .link-length .ensures .1),
-  (c .before .before .before .before .before .pre .1),
-)
+add-total c = search needs
 
 add-i : tie.Need-add-i Inv-loop μ-loop
 add-i c = omega arith
@@ -44,18 +38,16 @@ loop-less c = omega arith
 
 loop-again : tie.Need-loop-again Inv-loop μ-loop
 loop-again c =
-    let start = c .before .before .before .before .before in
     let at-loop = c .before .before .before in (
       omega arith,
-      row-more (start .args .a) (start .args .row .now) (at-loop .loop .total) (at-loop .loop .i) _
+      row-more _ _ _ _ _
           (c .before .before .loop-test .taken) (at-loop .loop .inv .1) (c .link-length .ensures),
     )
 
 returns : tie.Need-returns Inv-loop μ-loop
 returns c =
-    let start = c .before .before .before in
     let at-loop = c .before in
-    row-done (start .args .a) (start .args .row .now) (at-loop .loop .total) (at-loop .loop .i) (c .loop-test .left)
+    row-done _ _ _ _ (c .loop-test .left)
     (at-loop .loop .inv .0) (at-loop .loop .inv .1)
 
 pub row-length-spec : {M : Type 1} → statement M

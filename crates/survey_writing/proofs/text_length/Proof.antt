@@ -2,6 +2,7 @@
 -- Assumes nothing.
 -- `survey_writing::text_length` meets its contract: the bytes counted and those of the rows left are all.
 -- Assumes nothing.
+use borrow.Author.Needs.{needs}
 use mathlib.Core.Path.{_≡_, sym, ap, subst}
 use mathlib.Core.List.{List}
 use Prim.Native.Nat.{ℕ, _+_, _-_, _*_, _≤_}
@@ -22,13 +23,13 @@ abbrev μ-loop : tie.MeasureT-loop
 μ-loop n starts neighbours total₀ v₀ total v = n - v
 
 cast-line-length : tie.Need-cast-line-length Inv-loop μ-loop
-cast-line-length c = omega (arith, (c .before .before .pre .size))
+cast-line-length c = search needs
 
 mul-line-length : tie.Need-mul-line-length Inv-loop μ-loop
-mul-line-length c = omega (arith, (c .before .before .pre .size))
+mul-line-length c = search needs
 
 shared-slice-read-line-length : tie.Need-shared-slice-read-line-length Inv-loop μ-loop
-shared-slice-read-line-length c = omega (arith, (c .before .before .before .pre .room))
+shared-slice-read-line-length c = search needs
 
 line-length-requires : tie.Need-line-length-requires Inv-loop μ-loop
 line-length-requires c κs = omega arith
@@ -37,28 +38,26 @@ loop-holds : tie.Need-loop-holds Inv-loop μ-loop
 loop-holds c =
     let start = c .before .before .before .before in (
       omega arith,
-      text-none (start .args .n) (start .args .starts .now) (start .args .neighbours .now) (start .pre) _ 0
+      text-none _ _ _ (start .pre) _ 0
           ((c .line-length .ensures .0) 83) (c .line-length .ensures .1),
     )
 
 own-requires : tie.Need-own-requires Inv-loop μ-loop
-own-requires c κs =
-    let start = c .before .before .before .before .before .before in
-    (rows-of (start .pre), (c .loop-test .taken))
+own-requires c κs = search needs
 
 row-length-requires : tie.Need-row-length-requires Inv-loop μ-loop
 row-length-requires c κs =
     let start = c .before .before .before .before .before .before .before in
     let at-loop = c .before .before in
     let at-loop-test = c .before in (
-      omega (arith, (start .pre .size), (at-loop-test .loop-test .taken)),
+      omega arith,
       subst (λ (l : List ℕ). length l ≤ 32768) (sym (c .own .ensures))
           (omega (
             arith,
-            own-end (start .args .n) (start .args .starts .now) (start .args .neighbours .now) (start .pre) (at-loop .loop .v)
+            own-end _ _ _ (start .pre) _
                 (at-loop-test .loop-test .taken),
-            own-few (start .args .n) (start .args .starts .now) (start .args .neighbours .now) (start .pre)
-                ((at-loop .loop .v) + 1) (omega (arith, (at-loop-test .loop-test .taken))),
+            own-few _ _ _ (start .pre)
+                ((at-loop .loop .v) + 1) (omega arith),
           )),
     )
 
@@ -69,20 +68,16 @@ add-total c =
     let at-loop-test = c .before .before in
     omega (
       arith,
-      (at-loop .loop .inv .1 .few),
-      (c .row-length .ensures .1),
       ap length (c .before .own .ensures),
-      own-end (start .args .n)
-          (start .args .starts .now) (start .args .neighbours .now) (start .pre) (at-loop .loop .v) (at-loop-test .loop-test .taken),
+      own-end _
+          _ _ (start .pre) _ (at-loop-test .loop-test .taken),
       own-few
-          (start .args .n) (start .args .starts .now) (start .args .neighbours .now) (start .pre) ((at-loop .loop .v) + 1)
-          (omega (arith, (at-loop-test .loop-test .taken))),
+          _ _ _ (start .pre) ((at-loop .loop .v) + 1)
+          (omega arith),
     )
 
 add-v : tie.Need-add-v Inv-loop μ-loop
-add-v c =
-    let start = c .before .before .before .before .before .before .before .before in
-    omega (arith, (start .pre .size))
+add-v c = search needs
 
 loop-less : tie.Need-loop-less Inv-loop μ-loop
 loop-less c = omega arith
@@ -92,8 +87,8 @@ loop-again c =
     let start = c .before .before .before .before .before .before .before .before in
     let at-loop = c .before .before .before in (
       omega arith,
-      text-more (start .args .n) (start .args .starts .now) (start .args .neighbours .now) (start .pre) (at-loop .loop .total)
-          (at-loop .loop .v) _ (c .before .before .loop-test .taken) (at-loop .loop .inv .1)
+      text-more _ _ _ (start .pre) _
+          _ _ (c .before .before .loop-test .taken) (at-loop .loop .inv .1)
           (subst (λ (l : List ℕ). ((c .row-length .result) ≡ length (linesOf (at-loop .loop .v) l)) ×
           ((c .row-length .result) ≤ 24 * length l)) (c .before .own .ensures) (c .row-length .ensures)),
     )
@@ -102,8 +97,8 @@ returns : tie.Need-returns Inv-loop μ-loop
 returns c =
     let start = c .before .before .before .before .before .before in
     let at-loop = c .before in
-    text-done (start .args .n) (start .args .starts .now) (start .args .neighbours .now) (start .pre) (at-loop .loop .total)
-    (at-loop .loop .v) (c .loop-test .left) (at-loop .loop .inv .1)
+    text-done _ _ _ (start .pre) _
+    _ (c .loop-test .left) (at-loop .loop .inv .1)
 
 pub text-length-spec : {M : Type 1} → statement M
 text-length-spec =

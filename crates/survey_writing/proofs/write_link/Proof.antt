@@ -1,5 +1,6 @@
 -- `survey_writing::write_link` meets its contract.
 -- Assumes nothing.
+use native.Mathlib.Omega.{arith}
 use mathlib.Core.Path.{sym, subst}
 use mathlib.Core.List.{List}
 use Prim.Native.Nat.{ℕ, _+_, _≤_}
@@ -15,7 +16,7 @@ returns : tie.Need-returns
 returns c =
     let start = c .before .before in
     subst (λ (t : List ℕ). Wrote (start .args .buffer .now) (start .args .buffer .now) (start .args .at) (start .args .at) t)
-    (sym (line-left (start .args .a) (start .args .b) (c .if1 .taken))) (wrote-none (start .args .buffer .now) (start .args .at))
+    (sym (line-left _ _ (c .if1 .taken))) (wrote-none _ _)
 
 cast-write-line : tie.Need-cast-write-line
 cast-write-line c = search needs
@@ -24,7 +25,7 @@ write-line-requires : tie.Need-write-line-requires
 write-line-requires c κs =
     let start = c .before .before .before in
     subst (λ (t : List ℕ). (start .args .at) + length t ≤ length (start .args .buffer .now))
-    (line-taken (start .args .a) (start .args .b) (c .before .if1 .left)) (start .pre .1)
+    (line-taken _ _ (c .before .if1 .left)) (start .pre .1)
 
 same-length : tie.Need-same-length
 same-length c = search needs
@@ -35,7 +36,7 @@ returns-2 c =
     let at-write-line = c .before .before in
     subst (λ (t : List ℕ). Wrote (start .args .buffer .now) (at-write-line .write-line .last .0) (start .args .at)
     (at-write-line .write-line .result) t) (sym
-    (line-taken (start .args .a) (start .args .b) (c .before .before .before .before .if1 .left))) (at-write-line .write-line .ensures)
+    (line-taken _ _ (c .before .before .before .before .if1 .left))) (at-write-line .write-line .ensures)
 
 pub write-link-spec : {M : Type 1} → statement M
 write-link-spec =

@@ -1,5 +1,6 @@
 -- `survey_writing::write_row` meets its contract: the lines written and those left are all.
 -- Assumes nothing.
+use borrow.Author.Needs.{needs}
 use mathlib.Core.Path.{subst}
 use mathlib.Core.List.{List, [], _∷_}
 use Prim.Native.Nat.{ℕ, _+_, _-_, _≤_}
@@ -19,8 +20,7 @@ abbrev μ-loop : tie.MeasureT-loop
 
 loop-holds : tie.Need-loop-holds Inv-loop μ-loop
 loop-holds c =
-    let start = c .before .before in
-    (omega arith, left-all (start .args .buffer .now) (start .args .at) (linesOf (start .args .a) (start .args .row .now)))
+    (omega arith, left-all _ _ (linesOf _ _))
 
 mul-write-link : tie.Need-mul-write-link Inv-loop μ-loop
 mul-write-link c = omega arith
@@ -35,11 +35,11 @@ write-link-requires c κs =
       (start .pre .0),
       omega (
         arith,
-        left-room (start .args .buffer .now) (start .args .at)
-            (linesOf (start .args .a) (start .args .row .now)) (start .pre .1) (at-loop .loop .buffer) (at-loop .loop .pos) _
+        left-room _ _
+            (linesOf _ _) (start .pre .1) _ _ _
             (subst (λ (t : List ℕ). Left (start .args .buffer .now) (at-loop .loop .buffer) (start .args .at) (at-loop .loop .pos)
             (linesOf (start .args .a) (start .args .row .now)) t)
-            (line-next (start .args .a) (start .args .row .now) (at-loop .loop .i) (c .before .before .loop-test .taken))
+            (line-next _ _ _ (c .before .before .loop-test .taken))
             (at-loop .loop .inv .1)),
         length-append (linesOf (start .args .a) (getD (start .args .row .now) (at-loop .loop .i) 0 ∷ []))
             (linesOf (start .args .a) (drop ((at-loop .loop .i) + 1) (start .args .row .now))),
@@ -58,12 +58,12 @@ loop-again c =
     let at-loop = c .before .before .before .before .before .before in
     let at-write-link = c .before .before in (
       omega arith,
-      left-more (start .args .buffer .now) (start .args .at) (linesOf (start .args .a) (start .args .row .now)) (start .pre .1)
-          (at-loop .loop .buffer) (at-loop .loop .pos) _ _
+      left-more _ _ (linesOf _ _) (start .pre .1)
+          _ _ _ _
           (subst (λ (t : List ℕ). Left (start .args .buffer .now) (at-loop .loop .buffer) (start .args .at) (at-loop .loop .pos)
           (linesOf (start .args .a) (start .args .row .now)) t)
-          (line-next (start .args .a) (start .args .row .now) (at-loop .loop .i)
-          (c .before .before .before .before .before .loop-test .taken)) (at-loop .loop .inv .1)) (at-write-link .write-link .last .1 .1 .0)
+          (line-next _ _ _
+          (c .before .before .before .before .before .loop-test .taken)) (at-loop .loop .inv .1)) _
           _ (at-write-link .write-link .ensures),
     )
 
@@ -71,18 +71,18 @@ same-length : tie.Need-same-length Inv-loop μ-loop
 same-length c =
     let start = c .before .before .before .before in
     let at-loop = c .before in
-    left-length (start .args .buffer .now) (start .args .at) (linesOf (start .args .a) (start .args .row .now)) (start .pre .1)
-    (at-loop .loop .buffer) (at-loop .loop .pos) _ (at-loop .loop .inv .1)
+    left-length _ _ (linesOf _ _) (start .pre .1)
+    _ _ _ (at-loop .loop .inv .1)
 
 returns : tie.Need-returns Inv-loop μ-loop
 returns c =
     let start = c .before .before .before .before in
     let at-loop = c .before in
-    left-none (start .args .buffer .now) (start .args .at) (linesOf (start .args .a) (start .args .row .now)) (start .pre .1)
-    (at-loop .loop .buffer) (at-loop .loop .pos)
+    left-none _ _ (linesOf _ _) (start .pre .1)
+    _ _
     (subst (λ (t : List ℕ). Left (start .args .buffer .now) (at-loop .loop .buffer) (start .args .at) (at-loop .loop .pos)
     (linesOf (start .args .a) (start .args .row .now)) t)
-    (line-end (start .args .a) (start .args .row .now) (at-loop .loop .i) (c .loop-test .left)) (at-loop .loop .inv .1))
+    (line-end _ _ _ (c .loop-test .left)) (at-loop .loop .inv .1))
 
 pub write-row-spec : {M : Type 1} → statement M
 write-row-spec =

@@ -1,5 +1,6 @@
 -- `survey_writing::write_text` meets its contract: the rows written and those left are all.
 -- Assumes nothing.
+use borrow.Author.Needs.{needs}
 use mathlib.Core.Path.{sym, subst}
 use mathlib.Core.List.{List}
 use Prim.Native.Nat.{ℕ, _+_, _-_, _≤_}
@@ -21,20 +22,20 @@ abbrev μ-loop : tie.MeasureT-loop
 μ-loop n starts neighbours buffer₀ pos₀ v₀ buffer pos v = n - v
 
 cast-write-line : tie.Need-cast-write-line Inv-loop μ-loop
-cast-write-line c = omega (arith, (c .before .before .before .before .pre .0 .size))
+cast-write-line c = search needs
 
 mul-write-line : tie.Need-mul-write-line Inv-loop μ-loop
-mul-write-line c = omega (arith, (c .before .before .before .before .pre .0 .size))
+mul-write-line c = search needs
 
 shared-slice-read-write-line : tie.Need-shared-slice-read-write-line Inv-loop μ-loop
-shared-slice-read-write-line c = omega (arith, (c .before .before .before .before .before .pre .0 .room))
+shared-slice-read-write-line c = search needs
 
 write-line-requires : tie.Need-write-line-requires Inv-loop μ-loop
 write-line-requires c κs =
     let start = c .before .before .before .before .before in
     omega (
       arith,
-      all-room (start .args .n) (start .args .starts .now) (start .args .neighbours .now) (start .pre .0)
+      all-room _ _ _ (start .pre .0)
           (start .args .buffer .now) (start .pre .1),
     )
 
@@ -42,9 +43,7 @@ loop-holds : tie.Need-loop-holds Inv-loop μ-loop
 loop-holds c = (omega arith, left-all _ _ _)
 
 own-requires : tie.Need-own-requires Inv-loop μ-loop
-own-requires c κs =
-    let start = c .before .before .before .before .before .before .before .before .before .before in
-    (rows-of (start .pre .0), (c .loop-test .taken))
+own-requires c κs = search needs
 
 write-row-requires : tie.Need-write-row-requires Inv-loop μ-loop
 write-row-requires c κs =
@@ -52,19 +51,17 @@ write-row-requires c κs =
     let at-write-line = c .before .before .before .before .before .before in
     let at-loop = c .before .before .before in
     let at-loop-test = c .before .before in (
-      omega (arith, (start .pre .0 .size), (at-loop-test .loop-test .taken)),
+      omega arith,
       subst
           (λ (l : List ℕ). (at-loop .loop .pos) + length (linesOf (at-loop .loop .v) l) ≤ length (at-loop .loop .buffer))
-          (sym (c .before .own .ensures)) (next-room (start .args .n) (start .args .starts .now) (start .args .neighbours .now)
-          (start .pre .0) (start .args .buffer .now) (start .pre .1) (at-write-line .write-line .last .0) (at-write-line .write-line .result)
-          (at-write-line .write-line .ensures) (at-loop .loop .buffer) (at-loop .loop .pos) (at-loop .loop .v) (at-loop .loop .inv .1)
+          (sym (c .before .own .ensures)) (next-room _ _ _
+          (start .pre .0) _ (start .pre .1) _ _
+          (at-write-line .write-line .ensures) _ _ _ (at-loop .loop .inv .1)
           (at-loop-test .loop-test .taken)),
     )
 
 add-v : tie.Need-add-v Inv-loop μ-loop
-add-v c =
-    let start = c .before .before .before .before .before .before .before .before .before .before .before .before .before .before .before in
-    omega (arith, (start .pre .0 .size))
+add-v c = search needs
 
 loop-less : tie.Need-loop-less Inv-loop μ-loop
 loop-less c = omega arith
@@ -76,11 +73,11 @@ loop-again c =
     let at-loop = c .before .before .before .before .before .before in
     let at-write-row = c .before .before in (
       omega arith,
-      next-written (start .args .n) (start .args .starts .now) (start .args .neighbours .now) (start .pre .0)
-          (start .args .buffer .now) (start .pre .1) (at-write-line .write-line .last .0) (at-write-line .write-line .result)
-          (at-write-line .write-line .ensures) (at-loop .loop .buffer) (at-loop .loop .pos) (at-loop .loop .v) (at-loop .loop .inv .1)
-          (c .before .before .before .before .before .loop-test .taken) (at-write-row .write-row .last .1 .1 .0)
-          (at-write-row .write-row .result) (subst
+      next-written _ _ _ (start .pre .0)
+          _ (start .pre .1) _ _
+          (at-write-line .write-line .ensures) _ _ _ (at-loop .loop .inv .1)
+          (c .before .before .before .before .before .loop-test .taken) _
+          _ (subst
           (λ (l : List ℕ). Wrote (at-loop .loop .buffer) (at-write-row .write-row .last .1 .1 .0) (at-loop .loop .pos)
           (at-write-row .write-row .result) (linesOf (at-loop .loop .v) l)) (c .before .before .before .before .own .ensures)
           (at-write-row .write-row .ensures)),
@@ -91,18 +88,18 @@ same-length c =
     let start = c .before .before .before .before .before .before .before .before .before .before in
     let at-write-line = c .before .before .before .before in
     let at-loop = c .before in
-    rows-length (start .args .n) (start .args .starts .now) (start .args .neighbours .now) (start .pre .0) (start .args .buffer .now)
-    (start .pre .1) (at-write-line .write-line .last .0) (at-write-line .write-line .result) (at-write-line .write-line .ensures)
-    (at-loop .loop .buffer) (at-loop .loop .pos) (at-loop .loop .v) (at-loop .loop .inv .1)
+    rows-length _ _ _ (start .pre .0) _
+    (start .pre .1) _ _ (at-write-line .write-line .ensures)
+    _ _ _ (at-loop .loop .inv .1)
 
 returns : tie.Need-returns Inv-loop μ-loop
 returns c =
     let start = c .before .before .before .before .before .before .before .before .before .before in
     let at-write-line = c .before .before .before .before in
     let at-loop = c .before in
-    text-written (start .args .n) (start .args .starts .now) (start .args .neighbours .now) (start .pre .0) (start .args .buffer .now)
-    (start .pre .1) (at-write-line .write-line .last .0) (at-write-line .write-line .result) (at-write-line .write-line .ensures)
-    (at-loop .loop .buffer) (at-loop .loop .pos) (at-loop .loop .v) (at-loop .loop .inv .1) (c .loop-test .left)
+    text-written _ _ _ (start .pre .0) _
+    (start .pre .1) _ _ (at-write-line .write-line .ensures)
+    _ _ _ (at-loop .loop .inv .1) (c .loop-test .left)
 
 pub write-text-spec : {M : Type 1} → statement M
 write-text-spec =

@@ -1,5 +1,6 @@
 -- `table_building::build` meets its contract: at each `return` the tests that led there say which case holds.
 -- Assumes nothing.
+use native.Mathlib.Omega.{arith}
 use mathlib.Core.Path.{sym, _∙_}
 use borrow.Author.Tests.{not-true, not-false}
 use Rattle.model.proofs.Acceptance.{small-size, large-size}
@@ -10,24 +11,21 @@ use Rattle.table_building.proofs.build.Tie as tie
 
 returns : tie.Need-returns
 returns c =
-    let start = c .before .before .before .before .before .before .before in
-    build-size (start .args .n) (start .args .starts .now) (start .args .neighbours .now) (start .args .full .now) (start .args .low .now)
-    (start .args .report .now) (start .args .hubs .now) (small-size (start .args .n) (c .if1 .taken))
+    build-size _ _ _ _ _
+    _ _ (small-size _ (c .if1 .taken))
 
 returns-2 : tie.Need-returns-2
 returns-2 c =
-    let start = c .before .before .before .before .before .before .before .before in
-    build-size (start .args .n) (start .args .starts .now) (start .args .neighbours .now) (start .args .full .now) (start .args .low .now)
-    (start .args .report .now) (start .args .hubs .now) (large-size (start .args .n) (c .if2 .taken))
+    build-size _ _ _ _ _
+    _ _ (large-size _ (c .if2 .taken))
 
 has-room-requires : tie.Need-has-room-requires
-has-room-requires c κs = (c .if2 .left)
+has-room-requires c κs = search needs
 
 returns-3 : tie.Need-returns-3
 returns-3 c =
-    let start = c .before .before .before .before .before .before .before .before .before .before in
-    build-short (start .args .n) (start .args .starts .now) (start .args .neighbours .now) (start .args .full .now) (start .args .low .now)
-    (start .args .report .now) (start .args .hubs .now) ((c .before .before .before .if1 .left), (c .before .before .if2 .left))
+    build-short _ _ _ _ _
+    _ _ ((c .before .before .before .if1 .left), (c .before .before .if2 .left))
     (sym (c .before .has-room .ensures) ∙ (c .if3 .taken))
 
 is-survey-requires : tie.Need-is-survey-requires
@@ -37,16 +35,15 @@ is-survey-requires c κs =
     let at-if2 = c .before .before in (
       (at-if1 .if1 .left),
       (at-if2 .if2 .left),
-      (build-room (start .args .n) (start .args .starts .now) (start .args .neighbours .now)
+      (build-room _ (start .args .starts .now) (start .args .neighbours .now)
           (start .args .full .now) (start .args .low .now) (start .args .report .now) (start .args .hubs .now)
           ((at-if1 .if1 .left), (at-if2 .if2 .left)) (sym (c .before .has-room .ensures) ∙ (c .if3 .left))) .0,
     )
 
 returns-4 : tie.Need-returns-4
 returns-4 c =
-    let start = c .before .before .before .before .before .before .before .before .before .before .before .before in
-    build-other (start .args .n) (start .args .starts .now) (start .args .neighbours .now) (start .args .full .now) (start .args .low .now)
-    (start .args .report .now) (start .args .hubs .now)
+    build-other _ _ _ _ _
+    _ _
     ((c .before .before .before .before .before .if1 .left), (c .before .before .before .before .if2 .left))
     (sym (c .before .before .before .has-room .ensures) ∙ (c .before .before .if3 .left))
     (sym (c .before .is-survey .ensures) ∙ not-true _ (c .if4 .taken))
@@ -62,21 +59,21 @@ build-tables-requires c κs =
     let at-has-room = c .before .before .before .before .before .before .before .before in
     let at-if3 = c .before .before .before .before .before .before .before in
     let at-is-survey = c .before .before .before .before .before .before in (
-      (build-accepted (start .args .n) (start .args .starts .now) (start .args .neighbours .now) (start .args .full .now)
+      (build-accepted _ _ _ (start .args .full .now)
           (start .args .low .now) (start .args .report .now) (start .args .hubs .now) ((at-if1 .if1 .left), (at-if2 .if2 .left))
           (sym (at-has-room .has-room .ensures) ∙ (at-if3 .if3 .left))
           (sym (at-is-survey .is-survey .ensures) ∙ not-false _ (c .before .before .before .before .before .if4 .left))),
       (
-        (build-room (start .args .n) (start .args .starts .now) (start .args .neighbours .now) (start .args .full .now)
+        (build-room _ (start .args .starts .now) (start .args .neighbours .now) (start .args .full .now)
             (start .args .low .now) (start .args .report .now) (start .args .hubs .now) ((at-if1 .if1 .left), (at-if2 .if2 .left))
             (sym (at-has-room .has-room .ensures) ∙ (at-if3 .if3 .left))) .1,
-        (build-room (start .args .n) (start .args .starts .now) (start .args .neighbours .now) (start .args .full .now)
+        (build-room _ (start .args .starts .now) (start .args .neighbours .now) (start .args .full .now)
             (start .args .low .now) (start .args .report .now) (start .args .hubs .now) ((at-if1 .if1 .left), (at-if2 .if2 .left))
             (sym (at-has-room .has-room .ensures) ∙ (at-if3 .if3 .left))) .2,
-        (build-room (start .args .n) (start .args .starts .now) (start .args .neighbours .now) (start .args .full .now)
+        (build-room _ (start .args .starts .now) (start .args .neighbours .now) (start .args .full .now)
             (start .args .low .now) (start .args .report .now) (start .args .hubs .now) ((at-if1 .if1 .left), (at-if2 .if2 .left))
             (sym (at-has-room .has-room .ensures) ∙ (at-if3 .if3 .left))) .3,
-        (build-room (start .args .n) (start .args .starts .now) (start .args .neighbours .now) (start .args .full .now)
+        (build-room _ (start .args .starts .now) (start .args .neighbours .now) (start .args .full .now)
             (start .args .low .now) (start .args .report .now) (start .args .hubs .now) ((at-if1 .if1 .left), (at-if2 .if2 .left))
             (sym (at-has-room .has-room .ensures) ∙ (at-if3 .if3 .left))) .4,
       ),
@@ -96,7 +93,6 @@ same-length-4 c = search needs
 
 returns-5 : tie.Need-returns-5
 returns-5 c =
-    let start = c .before .before .before .before .before .before .before .before .before .before .before .before .before .before .before .before .before .before .before .before .before .before .before .before .before .before in
     let at-if1 = c .before .before .before .before .before .before .before .before .before .before .before .before .before .before .before .before .before .before .before in
     let at-if2 = c .before .before .before .before .before .before .before .before .before .before .before .before .before .before .before .before .before .before in
     let at-has-room = c .before .before .before .before .before .before .before .before .before .before .before .before .before .before .before .before .before in
@@ -105,12 +101,12 @@ returns-5 c =
     let at-if4 = c .before .before .before .before .before .before .before .before .before .before .before .before .before .before in
     let at-threshold-at = c .before .before .before .before .before .before .before .before .before .before .before .before .before in
     let at-build-tables = c .before .before .before .before .before .before .before .before in
-    build-done (start .args .n) (start .args .starts .now) (start .args .neighbours .now) (start .args .full .now) (start .args .low .now)
-    (start .args .report .now) (start .args .hubs .now) ((at-if1 .if1 .left), (at-if2 .if2 .left))
+    build-done _ _ _ _ _
+    _ _ ((at-if1 .if1 .left), (at-if2 .if2 .left))
     (sym (at-has-room .has-room .ensures) ∙ (at-if3 .if3 .left))
-    (sym (at-is-survey .is-survey .ensures) ∙ not-false _ (at-if4 .if4 .left)) (at-build-tables .build-tables .last .1 .1 .1 .1 .0)
-    (at-build-tables .build-tables .last .1 .1 .1 .1 .1 .0) (at-build-tables .build-tables .last .1 .1 .1 .1 .1 .1 .0)
-    (at-build-tables .build-tables .last .1 .1 .1 .1 .1 .1 .1 .0) _ _ (at-threshold-at .threshold-at .ensures)
+    (sym (at-is-survey .is-survey .ensures) ∙ not-false _ (at-if4 .if4 .left)) _
+    _ _
+    _ _ _ (at-threshold-at .threshold-at .ensures)
     (at-build-tables .build-tables .ensures)
 
 pub build-spec : {M : Type 1} → statement M

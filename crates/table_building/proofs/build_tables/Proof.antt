@@ -16,35 +16,25 @@ use Rattle.table_building.proofs.build_tables.Statement.{statement}
 use Rattle.table_building.proofs.build_tables.Tie as tie
 
 choose-hubs-requires : tie.Need-choose-hubs-requires
-choose-hubs-requires c κs =
-    let start = c .before .before .before .before .before .before .before in
-    ((start .pre .0), (start .pre .1 .3))
+choose-hubs-requires c κs = search needs
 
 slice-reshare-prefix-fill-full : tie.Need-slice-reshare-prefix-fill-full
 slice-reshare-prefix-fill-full c =
     let start = c .before .before .before .before .before .before .before .before .before .before in
-    let at-choose-hubs = c .before .before in
     (omega (
       arith,
-      (at-choose-hubs .choose-hubs .ensures .0),
       hubs-length (start .args .n)
           (neighboursOf (start .args .starts .now) (start .args .neighbours .now)) (start .args .s),
-      (at-choose-hubs .choose-hubs .kept .1 .1 .1 .1 .0),
-      (start .pre .1 .3),
     ))
 
 slice-aggregate-fill-full : tie.Need-slice-aggregate-fill-full
 slice-aggregate-fill-full c =
     let start = c .before .before .before .before .before .before .before .before .before .before .before in
-    let at-choose-hubs = c .before .before .before in
-    sym (length-take-le (at-choose-hubs .choose-hubs .result) (at-choose-hubs .choose-hubs .last .1 .1 .1 .1 .0)
+    sym (length-take-le _ _
     (omega (
       arith,
-      (at-choose-hubs .choose-hubs .ensures .0),
       hubs-length (start .args .n)
           (neighboursOf (start .args .starts .now) (start .args .neighbours .now)) (start .args .s),
-      (at-choose-hubs .choose-hubs .kept .1 .1 .1 .1 .0),
-      (start .pre .1 .3),
     )))
 
 fill-full-requires : tie.Need-fill-full-requires
@@ -53,62 +43,49 @@ fill-full-requires c κs =
     let at-choose-hubs = c .before .before .before .before in (
       ((start .pre .0), (start .pre .1 .0)),
       (subst (λ (l : List ℕ). (h : ℕ) → T (has h l) → h < (start .args .n))
-          (sym (hubs-front (start .args .n) (start .args .s) (neighboursOf (start .args .starts .now) (start .args .neighbours .now))
-          (start .args .hubs .now) (at-choose-hubs .choose-hubs .last .1 .1 .1 .1 .0) (at-choose-hubs .choose-hubs .result)
+          (sym (hubs-front _ _ (neighboursOf _ _)
+          _ _ _
           (at-choose-hubs .choose-hubs .ensures .0) (at-choose-hubs .choose-hubs .ensures .1)))
-          (hubs-below (start .args .n) (neighboursOf (start .args .starts .now) (start .args .neighbours .now)) (start .args .s))),
+          (hubs-below _ (neighboursOf _ _) _)),
     )
 
 fill-low-requires : tie.Need-fill-low-requires
-fill-low-requires c κs =
-    let start = c .before .before .before .before .before .before .before .before .before .before .before .before .before .before .before .before in
-    ((start .pre .0), (start .pre .1 .1))
+fill-low-requires c κs = search needs
 
 slice-reshare-prefix-fill-report : tie.Need-slice-reshare-prefix-fill-report
 slice-reshare-prefix-fill-report c =
     let start = c .before .before .before .before .before .before .before .before .before .before .before .before .before .before .before .before .before .before .before .before .before in
-    let at-choose-hubs = c .before .before .before .before .before .before .before .before .before .before .before .before .before in
     (omega (
       arith,
-      (at-choose-hubs .choose-hubs .ensures .0),
       hubs-length (start .args .n)
           (neighboursOf (start .args .starts .now) (start .args .neighbours .now)) (start .args .s),
-      (at-choose-hubs .choose-hubs .kept .1 .1 .1 .1 .0),
-      (start .pre .1 .3),
     ))
 
 slice-aggregate-fill-report : tie.Need-slice-aggregate-fill-report
 slice-aggregate-fill-report c =
     let start = c .before .before .before .before .before .before .before .before .before .before .before .before .before .before .before .before .before .before .before .before .before .before in
-    let at-choose-hubs = c .before .before .before .before .before .before .before .before .before .before .before .before .before .before in
-    sym (length-take-le (at-choose-hubs .choose-hubs .result) (at-choose-hubs .choose-hubs .last .1 .1 .1 .1 .0)
+    sym (length-take-le _ _
     (omega (
       arith,
-      (at-choose-hubs .choose-hubs .ensures .0),
       hubs-length (start .args .n)
           (neighboursOf (start .args .starts .now) (start .args .neighbours .now)) (start .args .s),
-      (at-choose-hubs .choose-hubs .kept .1 .1 .1 .1 .0),
-      (start .pre .1 .3),
     )))
 
 fill-report-requires : tie.Need-fill-report-requires
 fill-report-requires c κs =
     let start = c .before .before .before .before .before .before .before .before .before .before .before .before .before .before .before .before .before .before .before .before .before .before .before in
-    let at-choose-hubs = c .before .before .before .before .before .before .before .before .before .before .before .before .before .before .before in
-    let at-fill-full = c .before .before .before .before .before .before .before .before .before .before in
-    let at-fill-low = c .before .before .before .before .before .before in (
+    let at-choose-hubs = c .before .before .before .before .before .before .before .before .before .before .before .before .before .before .before in (
       (
         (start .pre .0 .size),
-        omega (arith, (at-fill-full .fill-full .kept .1 .1 .1 .1 .0), (start .pre .1 .0)),
-        omega
-            (arith, (at-fill-low .fill-low .kept .1 .1 .1 .1 .0), (start .pre .1 .1)),
+        omega arith,
+        omega arith,
         (start .pre .1 .2),
       ),
       (subst (λ (l : List ℕ). (h : ℕ) → T (has h l) → h < (start .args .n))
-          (sym (hubs-front (start .args .n) (start .args .s) (neighboursOf (start .args .starts .now) (start .args .neighbours .now))
-          (start .args .hubs .now) (at-choose-hubs .choose-hubs .last .1 .1 .1 .1 .0) (at-choose-hubs .choose-hubs .result)
+          (sym (hubs-front _ _ (neighboursOf _ _)
+          _ _ _
           (at-choose-hubs .choose-hubs .ensures .0) (at-choose-hubs .choose-hubs .ensures .1)))
-          (hubs-below (start .args .n) (neighboursOf (start .args .starts .now) (start .args .neighbours .now)) (start .args .s))),
+          (hubs-below _ (neighboursOf _ _) _)),
     )
 
 same-length : tie.Need-same-length
@@ -125,16 +102,15 @@ same-length-4 c = search needs
 
 returns : tie.Need-returns
 returns c =
-    let start = c .before .before .before .before .before .before .before .before .before .before .before .before .before .before .before .before .before .before .before .before .before .before .before .before .before .before in
     let at-choose-hubs = c .before .before .before .before .before .before .before .before .before .before .before .before .before .before .before .before .before .before in
     let at-fill-full = c .before .before .before .before .before .before .before .before .before .before .before .before .before in
     let at-fill-low = c .before .before .before .before .before .before .before .before .before in
     let at-fill-report = c .before .before in
-    tables-built (start .args .n) (start .args .s) (neighboursOf (start .args .starts .now) (start .args .neighbours .now))
-    (start .args .full .now) (start .args .low .now) (start .args .report .now) (start .args .hubs .now)
-    (at-fill-full .fill-full .last .1 .1 .1 .1 .0) (at-fill-low .fill-low .last .1 .1 .1 .1 .0)
-    (at-fill-report .fill-report .last .1 .1 .1 .1 .0) (at-choose-hubs .choose-hubs .last .1 .1 .1 .1 .0)
-    (at-choose-hubs .choose-hubs .result) (at-choose-hubs .choose-hubs .ensures .0) (at-choose-hubs .choose-hubs .ensures .1)
+    tables-built _ _ (neighboursOf _ _)
+    _ _ _ _
+    _ _
+    _ _
+    _ (at-choose-hubs .choose-hubs .ensures .0) (at-choose-hubs .choose-hubs .ensures .1)
     (at-fill-full .fill-full .ensures) (at-fill-low .fill-low .ensures) (at-fill-report .fill-report .ensures)
 
 pub build-tables-spec : {M : Type 1} → statement M

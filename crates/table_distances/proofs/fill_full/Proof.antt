@@ -30,22 +30,17 @@ slice-aggregate-insert-below : tie.Need-slice-aggregate-insert-below Inv-loop μ
 slice-aggregate-insert-below c = search needs
 
 insert-below-requires : tie.Need-insert-below-requires Inv-loop μ-loop
-insert-below-requires c κs = (refl, (c .before .before .before .before .before .pre .0 .0 .size))
+insert-below-requires c κs = search needs
 
 mul-size : tie.Need-mul-size Inv-loop μ-loop
-mul-size c =
-    let start = c .before .before .before .before .before .before .before in
-    omega (arith, square-small (start .args .n) (start .pre .0 .0 .size))
+mul-size c = search needs
 
 slice-relend-prefix-fill16 : tie.Need-slice-relend-prefix-fill16 Inv-loop μ-loop
-slice-relend-prefix-fill16 c =
-    let start = c .before .before .before .before .before .before .before in
-    omega (arith, (start .pre .0 .1))
+slice-relend-prefix-fill16 c = search needs
 
 slice-aggregate-fill16 : tie.Need-slice-aggregate-fill16 Inv-loop μ-loop
 slice-aggregate-fill16 c =
-    let start = c .before .before .before .before .before .before .before .before in
-    sym (length-take-le _ (start .args .full .now) (omega (arith, (start .pre .0 .1))))
+    sym (length-take-le _ _ (omega arith))
 
 fill16-requires : tie.Need-fill16-requires Inv-loop μ-loop
 fill16-requires c κs = search needs
@@ -55,14 +50,12 @@ loop-holds c =
     let start = c .before .before .before .before .before .before .before .before .before .before .before in
     let at-fill16 = c .before .before in (
       omega arith,
-      full-none (start .args .n) (neighboursOf (start .args .starts .now) (start .args .neighbours .now))
-          (start .args .hubs .now) (start .args .full .now) (at-fill16 .fill16 .last .0) (start .pre .0 .1) (at-fill16 .fill16 .ensures),
+      full-none _ (neighboursOf _ _)
+          _ _ _ (start .pre .0 .1) (at-fill16 .fill16 .ensures),
     )
 
 slice-aggregate-search-row : tie.Need-slice-aggregate-search-row Inv-loop μ-loop
-slice-aggregate-search-row c =
-    let at-insert-below = c .before .before .before .before .before .before .before .before in
-    sym ((at-insert-below .insert-below .kept .0) ∙ length-replicate {A = ℕ} 16 0)
+slice-aggregate-search-row c = search needs
 
 mul-search-row : tie.Need-mul-search-row Inv-loop μ-loop
 mul-search-row c = search needs
@@ -82,27 +75,19 @@ search-row-requires c κs =
     let at-loop-test = c .before .before .before in (
       ((start .pre .0 .0), (at-insert-below .insert-below .kept .0) ∙ length-replicate {A = ℕ} 16 0),
       (
-        ((start .pre .1) (getD (start .args .hubs .now) (at-loop .loop .i) 0)
-            (getD-has (start .args .hubs .now) (at-loop .loop .i) (at-loop-test .loop-test .taken))),
+        ((start .pre .1) (getD (start .args .hubs .now) _ 0)
+            (getD-has (start .args .hubs .now) _ (at-loop-test .loop-test .taken))),
         subst T
             (sym (ap (λ (f : ℕ → Bool). f (getD (start .args .hubs .now) (at-loop .loop .i) 0)) (at-insert-below .insert-below .ensures)))
-            (lt→ltb (getD (start .args .hubs .now) (at-loop .loop .i) 0) (start .args .n)
-            ((start .pre .1) (getD (start .args .hubs .now) (at-loop .loop .i) 0)
-            (getD-has (start .args .hubs .now) (at-loop .loop .i) (at-loop-test .loop-test .taken)))),
+            (lt→ltb (getD (start .args .hubs .now) _ 0) _
+            ((start .pre .1) (getD (start .args .hubs .now) _ 0)
+            (getD-has (start .args .hubs .now) _ (at-loop-test .loop-test .taken)))),
         omega (
           arith,
-          ((ap length (at-loop .loop .inv .1)) ∙ full-length (start .args .n)
-              (neighboursOf (start .args .starts .now) (start .args .neighbours .now)) (start .args .hubs .now) (at-loop .loop .i)
-              ((at-fill16 .fill16 .last .0) ++ drop ((start .args .n) * (start .args .n)) (start .args .full .now))
-              (omega (
-                arith,
-                full-room (start .args .n) (neighboursOf (start .args .starts .now) (start .args .neighbours .now))
-                    (start .args .hubs .now) (start .args .full .now) (at-fill16 .fill16 .last .0) (start .pre .0 .1) (at-fill16 .fill16 .ensures),
-                (start .pre .0 .1),
-              ))),
-          full-room (start .args .n) (neighboursOf (start .args .starts .now) (start .args .neighbours .now))
-              (start .args .hubs .now) (start .args .full .now) (at-fill16 .fill16 .last .0) (start .pre .0 .1) (at-fill16 .fill16 .ensures),
-          (start .pre .0 .1),
+          ((ap length (at-loop .loop .inv .1)) ∙ full-length _
+              (neighboursOf _ _) _ _
+              ((at-fill16 .fill16 .last .0) ++ drop (_ * (start .args .n)) _)
+              (omega arith)),
         ),
       ),
     )
@@ -126,12 +111,12 @@ loop-again c =
           (map (fewest (between (member (at-insert-below .insert-below .last .0))
           (linked (start .args .n) (neighboursOf (start .args .starts .now) (start .args .neighbours .now)))) (start .args .n)
           (getD (start .args .hubs .now) (at-loop .loop .i) 0)) (upTo (start .args .n)))) (at-loop .loop .inv .1) ∙ full-next
-          (start .args .n) (neighboursOf (start .args .starts .now) (start .args .neighbours .now)) (start .args .hubs .now)
-          (at-loop .loop .i) (at-loop-test .loop-test .taken)
-          ((at-fill16 .fill16 .last .0) ++ drop ((start .args .n) * (start .args .n)) (start .args .full .now))
-          ((start .pre .1) (getD (start .args .hubs .now) (at-loop .loop .i) 0)
-          (getD-has (start .args .hubs .now) (at-loop .loop .i) (at-loop-test .loop-test .taken)))
-          (member (at-insert-below .insert-below .last .0)) (at-insert-below .insert-below .ensures),
+          _ (neighboursOf _ _) _
+          _ (at-loop-test .loop-test .taken)
+          ((at-fill16 .fill16 .last .0) ++ drop (_ * (start .args .n)) _)
+          ((start .pre .1) (getD (start .args .hubs .now) _ 0)
+          (getD-has (start .args .hubs .now) _ (at-loop-test .loop-test .taken)))
+          (member _) (at-insert-below .insert-below .ensures),
     )
 
 same-length : tie.Need-same-length Inv-loop μ-loop
@@ -139,27 +124,22 @@ same-length c =
     let start = c .before .before .before .before .before .before .before .before .before .before .before .before .before in
     let at-fill16 = c .before .before .before .before in
     let at-loop = c .before in
-    ((ap length (at-loop .loop .inv .1)) ∙ full-length (start .args .n)
-    (neighboursOf (start .args .starts .now) (start .args .neighbours .now)) (start .args .hubs .now) (at-loop .loop .i)
-    ((at-fill16 .fill16 .last .0) ++ drop ((start .args .n) * (start .args .n)) (start .args .full .now))
-    (omega (
-      arith,
-      full-room (start .args .n) (neighboursOf (start .args .starts .now) (start .args .neighbours .now))
-          (start .args .hubs .now) (start .args .full .now) (at-fill16 .fill16 .last .0) (start .pre .0 .1) (at-fill16 .fill16 .ensures),
-      (start .pre .0 .1),
-    ))) ∙ full-room (start .args .n) (neighboursOf (start .args .starts .now) (start .args .neighbours .now))
-    (start .args .hubs .now) (start .args .full .now) (at-fill16 .fill16 .last .0) (start .pre .0 .1) (at-fill16 .fill16 .ensures)
+    ((ap length (at-loop .loop .inv .1)) ∙ full-length _
+    (neighboursOf _ _) _ _
+    ((at-fill16 .fill16 .last .0) ++ drop (_ * (start .args .n)) _)
+    (omega arith)) ∙ full-room _ (neighboursOf (start .args .starts .now) (start .args .neighbours .now))
+    (start .args .hubs .now) _ _ (start .pre .0 .1) (at-fill16 .fill16 .ensures)
 
 returns : tie.Need-returns Inv-loop μ-loop
 returns c =
     let start = c .before .before .before .before .before .before .before .before .before .before .before .before .before in
     let at-fill16 = c .before .before .before .before in
     let at-loop = c .before in
-    (at-loop .loop .inv .1) ∙ full-done (start .args .n) (neighboursOf (start .args .starts .now) (start .args .neighbours .now))
-    (start .args .hubs .now) (at-loop .loop .i)
-    ((at-fill16 .fill16 .last .0) ++ drop ((start .args .n) * (start .args .n)) (start .args .full .now)) (c .loop-test .left) ∙
-    full-all (start .args .n) (neighboursOf (start .args .starts .now) (start .args .neighbours .now)) (start .args .hubs .now)
-    (start .args .full .now) (at-fill16 .fill16 .last .0) (start .pre .0 .1) (at-fill16 .fill16 .ensures)
+    (at-loop .loop .inv .1) ∙ full-done _ (neighboursOf _ _)
+    _ _
+    ((at-fill16 .fill16 .last .0) ++ drop (_ * (start .args .n)) _) (c .loop-test .left) ∙
+    full-all _ (neighboursOf _ _) _
+    _ _ (start .pre .0 .1) (at-fill16 .fill16 .ensures)
 
 pub fill-full-spec : {M : Type 1} → statement M
 fill-full-spec =

@@ -28,34 +28,30 @@ slice-aggregate-low-nodes : tie.Need-slice-aggregate-low-nodes Inv-loop μ-loop
 slice-aggregate-low-nodes c = search needs
 
 low-nodes-requires : tie.Need-low-nodes-requires Inv-loop μ-loop
-low-nodes-requires c κs = ((c .before .before .before .before .pre .0), refl)
+low-nodes-requires c κs = search needs
 
 slice-aggregate-link-rows : tie.Need-slice-aggregate-link-rows Inv-loop μ-loop
-slice-aggregate-link-rows c = sym ((c .before .before .low-nodes2 .kept .1 .1 .1 .1 .0) ∙ length-replicate {A = ℕ} 16 0)
+slice-aggregate-link-rows c = search needs
 
 slice-aggregate-link-rows-2 : tie.Need-slice-aggregate-link-rows-2 Inv-loop μ-loop
 slice-aggregate-link-rows-2 c = search needs
 
 link-rows-requires : tie.Need-link-rows-requires Inv-loop μ-loop
-link-rows-requires c κs =
-    let start = c .before .before .before .before .before .before .before .before in
-    ((start .pre .0), ((c .before .before .before .low-nodes2 .kept .1 .1 .1 .1 .0) ∙ length-replicate {A = ℕ} 16 0), refl)
+link-rows-requires c κs = search needs
 
 loop-holds : tie.Need-loop-holds Inv-loop μ-loop
 loop-holds c =
     let start = c .before .before .before .before .before .before .before .before .before .before in (
       omega arith,
-      rows-none (start .args .n) (lowEntry (start .args .n) (start .args .s)
-          (neighboursOf (start .args .starts .now) (start .args .neighbours .now))) (start .args .low .now) (start .pre .1),
+      rows-none _ (lowEntry _ _
+          (neighboursOf _ _)) _ (start .pre .1),
     )
 
 slice-aggregate-low-row : tie.Need-slice-aggregate-low-row Inv-loop μ-loop
-slice-aggregate-low-row c = sym ((c .before .before .before .before .link-rows .kept .1 .1 .1 .1 .0) ∙ length-replicate {A = ℕ} 16384 0)
+slice-aggregate-low-row c = search needs
 
 slice-aggregate-low-row-2 : tie.Need-slice-aggregate-low-row-2 Inv-loop μ-loop
-slice-aggregate-low-row-2 c =
-    let at-low-nodes2 = c .before .before .before .before .before .before .before .before .before in
-    sym ((at-low-nodes2 .low-nodes2 .kept .1 .1 .1 .1 .0) ∙ length-replicate {A = ℕ} 16 0)
+slice-aggregate-low-row-2 c = search needs
 
 low-row-requires : tie.Need-low-row-requires Inv-loop μ-loop
 low-row-requires c κs =
@@ -69,23 +65,17 @@ low-row-requires c κs =
       (c .before .before .before .loop-test .taken),
       omega (
         arith,
-        (ap length (at-loop .loop .inv .1) ∙ rows-length (start .args .n)
-            (lowEntry (start .args .n) (start .args .s) (neighboursOf (start .args .starts .now) (start .args .neighbours .now)))
-            (start .args .low .now) (at-loop .loop .a) (start .pre .1)),
-        (start .pre .1),
+        (ap length (at-loop .loop .inv .1) ∙ rows-length _
+            (lowEntry _ _ (neighboursOf _ _))
+            _ _ (start .pre .1)),
       ),
     )
 
 add-a : tie.Need-add-a Inv-loop μ-loop
-add-a c =
-    let start = c .before .before .before .before .before .before .before .before .before .before .before .before .before .before .before .before .before .before in
-    let at-loop-test = c .before .before .before .before .before .before in
-    omega (arith, (at-loop-test .loop-test .taken), (start .pre .0 .size))
+add-a c = search needs
 
 loop-less : tie.Need-loop-less Inv-loop μ-loop
-loop-less c =
-    let at-loop-test = c .before .before .before .before .before .before in
-    omega (arith, (at-loop-test .loop-test .taken))
+loop-less c = search needs
 
 loop-again : tie.Need-loop-again Inv-loop μ-loop
 loop-again c =
@@ -94,36 +84,35 @@ loop-again c =
     let at-link-rows = c .before .before .before .before .before .before .before .before .before in
     let at-loop = c .before .before .before .before .before .before .before in
     let at-loop-test = c .before .before .before .before .before .before in (
-      omega (arith, (at-loop-test .loop-test .taken)),
+      omega arith,
       (c .before .before .low-row .ensures) ∙ ap₂
           (λ (x y : List ℕ). written x ((at-loop .loop .a) * (start .args .n)) y) (at-loop .loop .inv .1)
           (ap (λ (E : Edges). map (λ b. if member (at-low-nodes2 .low-nodes2 .last .1 .1 .1 .1 .0) (at-loop .loop .a) then fewest E
           (start .args .n) (at-loop .loop .a) b else none) (upTo (start .args .n))) (at-link-rows .link-rows .ensures) ∙ low-row-is
-          (start .args .n) (start .args .s) (neighboursOf (start .args .starts .now) (start .args .neighbours .now))
-          (start .pre .0 .lists .graph) (member (at-low-nodes2 .low-nodes2 .last .1 .1 .1 .1 .0))
-          (low-are (start .args .n) (start .args .s) (neighboursOf (start .args .starts .now) (start .args .neighbours .now))
-          (member (at-low-nodes2 .low-nodes2 .last .1 .1 .1 .1 .0)) (at-low-nodes2 .low-nodes2 .ensures)) (at-loop .loop .a)
-          (at-loop-test .loop-test .taken)) ∙ rows-next (start .args .n)
-          (lowEntry (start .args .n) (start .args .s) (neighboursOf (start .args .starts .now) (start .args .neighbours .now)))
-          (start .args .low .now) (at-loop .loop .a) (at-loop-test .loop-test .taken),
+          _ _ (neighboursOf _ _)
+          (start .pre .0 .lists .graph) (member _)
+          (low-are _ _ (neighboursOf _ _)
+          (member _) (at-low-nodes2 .low-nodes2 .ensures)) _
+          (at-loop-test .loop-test .taken)) ∙ rows-next _
+          (lowEntry _ _ (neighboursOf _ _))
+          _ _ (at-loop-test .loop-test .taken),
     )
 
 same-length : tie.Need-same-length Inv-loop μ-loop
 same-length c =
     let start = c .before .before .before .before .before .before .before .before .before .before .before .before in
     let at-loop = c .before in
-    (ap length (at-loop .loop .inv .1) ∙ rows-length (start .args .n)
-    (lowEntry (start .args .n) (start .args .s) (neighboursOf (start .args .starts .now) (start .args .neighbours .now)))
-    (start .args .low .now) (at-loop .loop .a) (start .pre .1))
+    (ap length (at-loop .loop .inv .1) ∙ rows-length _
+    (lowEntry _ _ (neighboursOf _ _))
+    _ _ (start .pre .1))
 
 returns : tie.Need-returns Inv-loop μ-loop
 unfolding lowTable
 returns c =
-    let start = c .before .before .before .before .before .before .before .before .before .before .before .before in
     let at-loop = c .before in
-    (at-loop .loop .inv .1) ∙ rows-done (start .args .n)
-    (lowEntry (start .args .n) (start .args .s) (neighboursOf (start .args .starts .now) (start .args .neighbours .now)))
-    (start .args .low .now) (at-loop .loop .a) (c .loop-test .left)
+    (at-loop .loop .inv .1) ∙ rows-done _
+    (lowEntry _ _ (neighboursOf _ _))
+    _ _ (c .loop-test .left)
 
 pub fill-low-spec : {M : Type 1} → statement M
 fill-low-spec =

@@ -18,12 +18,12 @@ use Rattle.table_distances.proofs.low_row.Tie as tie
 mul-start : tie.Need-mul-start
 mul-start c =
     let start = c .before .before .before in
-    omega (arith, row-ends (start .args .n) (start .args .a) (start .args .low .now) (start .pre .3) (start .pre .4))
+    omega (arith, row-ends _ _ (start .args .low .now) (start .pre .3) (start .pre .4))
 
 add-end : tie.Need-add-end
 add-end c =
     let start = c .before .before .before in
-    omega (arith, row-ends (start .args .n) (start .args .a) (start .args .low .now) (start .pre .3) (start .pre .4))
+    omega (arith, row-ends _ _ (start .args .low .now) (start .pre .3) (start .pre .4))
 
 contains-requires : tie.Need-contains-requires
 contains-requires c κs = search needs
@@ -31,7 +31,7 @@ contains-requires c κs = search needs
 mul-search : tie.Need-mul-search
 mul-search c =
     let start = c .before .before .before .before .before in
-    omega (arith, row-ends (start .args .n) (start .args .a) (start .args .low .now) (start .pre .3) (start .pre .4))
+    omega (arith, row-ends _ _ (start .args .low .now) (start .pre .3) (start .pre .4))
 
 sub-search : tie.Need-sub-search
 sub-search c = search needs
@@ -42,17 +42,10 @@ part-search-start c = search needs
 part-search-end : tie.Need-part-search-end
 part-search-end c =
     let start = c .before .before .before .before .before in
-    row-ends (start .args .n) (start .args .a) (start .args .low .now) (start .pre .3) (start .pre .4)
+    row-ends _ _ (start .args .low .now) (start .pre .3) (start .pre .4)
 
 search-requires : tie.Need-search-requires
-search-requires c κs =
-    let start = c .before .before .before .before .before .before in (
-      (start .pre .0),
-      (start .pre .1),
-      omega (arith, (start .pre .3)),
-      part-length (start .args .n) (start .args .a)
-          (start .args .low .now) (start .pre .3) (start .pre .4),
-    )
+search-requires c κs = search needs
 
 same-length : tie.Need-same-length
 same-length c = search needs
@@ -61,8 +54,8 @@ returns : tie.Need-returns
 returns c =
     let start = c .before .before .before .before .before .before .before .before .before in
     let at-search = c .before .before in
-    row-put ((start .args .a) * (start .args .n)) (start .args .n) (start .args .low .now) _ _
-    ((at-search .search .kept .1 .1 .1 .0) ∙ part-length (start .args .n) (start .args .a) (start .args .low .now) (start .pre .3)
+    row-put (_ * _) _ _ _ _
+    ((at-search .search .kept .1 .1 .1 .0) ∙ part-length _ _ _ (start .pre .3)
     (start .pre .4)) (at-search .search .ensures) ∙ ap
     (λ (x : Bool). written (start .args .low .now) ((start .args .a) * (start .args .n))
     (map (λ b. if x then fewest (edgesIn (start .args .rows .now)) (start .args .n) (start .args .a) b else none)
@@ -72,7 +65,7 @@ returns c =
 mul-fill16 : tie.Need-mul-fill16
 mul-fill16 c =
     let start = c .before .before .before .before .before in
-    omega (arith, row-ends (start .args .n) (start .args .a) (start .args .low .now) (start .pre .3) (start .pre .4))
+    omega (arith, row-ends _ _ (start .args .low .now) (start .pre .3) (start .pre .4))
 
 sub-fill16 : tie.Need-sub-fill16
 sub-fill16 c = search needs
@@ -83,7 +76,7 @@ part-fill16-start c = search needs
 part-fill16-end : tie.Need-part-fill16-end
 part-fill16-end c =
     let start = c .before .before .before .before .before in
-    row-ends (start .args .n) (start .args .a) (start .args .low .now) (start .pre .3) (start .pre .4)
+    row-ends _ _ (start .args .low .now) (start .pre .3) (start .pre .4)
 
 fill16-requires : tie.Need-fill16-requires
 fill16-requires c κs = search needs
@@ -95,10 +88,10 @@ returns-2 : tie.Need-returns-2
 returns-2 c =
     let start = c .before .before .before .before .before .before .before .before .before in
     let at-fill16 = c .before .before in
-    row-put ((start .args .a) * (start .args .n)) (start .args .n) (start .args .low .now) _ _
-    ((at-fill16 .fill16 .kept .0) ∙ part-length (start .args .n) (start .args .a) (start .args .low .now) (start .pre .3)
+    row-put (_ * _) _ _ _ _
+    ((at-fill16 .fill16 .kept .0) ∙ part-length _ _ _ (start .pre .3)
     (start .pre .4)) ((at-fill16 .fill16 .ensures) ∙ ap (λ (k : ℕ). replicate k none)
-    (part-length (start .args .n) (start .args .a) (start .args .low .now) (start .pre .3) (start .pre .4)) ∙ none-row (start .args .n)
+    (part-length _ _ _ (start .pre .3) (start .pre .4)) ∙ none-row _
     none) ∙ ap (λ (x : Bool). written (start .args .low .now) ((start .args .a) * (start .args .n))
     (map (λ b. if x then fewest (edgesIn (start .args .rows .now)) (start .args .n) (start .args .a) b else none)
     (upTo (start .args .n)))) (sym (sym (c .before .before .before .before .before .contains .ensures) ∙

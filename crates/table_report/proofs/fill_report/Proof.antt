@@ -24,24 +24,21 @@ loop-holds : tie.Need-loop-holds Inv-loop μ-loop
 loop-holds c =
     let start = c .before .before .before .before in (
       omega arith,
-      rows-none (start .args .n) (reportEntry (start .args .n) (start .args .full .now) (start .args .low .now)
-          (start .args .hubs .now)) (start .args .report .now) (start .pre .0 .3),
+      rows-none _ (reportEntry _ _ _
+          (start .args .hubs .now)) _ (start .pre .0 .3),
     )
 
 mul-start : tie.Need-mul-start Inv-loop μ-loop
 mul-start c =
-    let start = c .before .before .before .before .before .before in
-    omega (arith, row-within (start .args .n) (c .before .loop .a) (c .loop-test .taken), square-small (start .args .n) (start .pre .0 .0))
+    omega (arith, row-within _ _ (c .loop-test .taken))
 
 add-end : tie.Need-add-end Inv-loop μ-loop
 add-end c =
-    let start = c .before .before .before .before .before .before in
-    omega (arith, row-within (start .args .n) (c .before .loop .a) (c .loop-test .taken), square-small (start .args .n) (start .pre .0 .0))
+    omega (arith, row-within _ _ (c .loop-test .taken))
 
 mul-report-row : tie.Need-mul-report-row Inv-loop μ-loop
 mul-report-row c =
-    let start = c .before .before .before .before .before .before in
-    omega (arith, row-within (start .args .n) (c .before .loop .a) (c .loop-test .taken), square-small (start .args .n) (start .pre .0 .0))
+    omega (arith, row-within _ _ (c .loop-test .taken))
 
 sub-report-row : tie.Need-sub-report-row Inv-loop μ-loop
 sub-report-row c = search needs
@@ -53,42 +50,19 @@ part-report-row-end : tie.Need-part-report-row-end Inv-loop μ-loop
 part-report-row-end c =
     let start = c .before .before .before .before .before .before in
     let at-loop = c .before in
-    row-ends (start .args .n) (at-loop .loop .a) (at-loop .loop .report) (c .loop-test .taken)
+    row-ends _ _ (at-loop .loop .report) (c .loop-test .taken)
     (omega (
       arith,
-      (ap length (at-loop .loop .inv .1) ∙ rows-length (start .args .n)
-          (reportEntry (start .args .n) (start .args .full .now) (start .args .low .now) (start .args .hubs .now)) (start .args .report .now)
-          (at-loop .loop .a) (start .pre .0 .3)),
-      (start .pre .0 .3),
+      (ap length (at-loop .loop .inv .1) ∙ rows-length _
+          (reportEntry _ _ _ (start .args .hubs .now)) _
+          _ (start .pre .0 .3)),
     ))
 
 report-row-requires : tie.Need-report-row-requires Inv-loop μ-loop
-report-row-requires c κs =
-    let start = c .before .before .before .before .before .before .before in
-    let at-loop = c .before .before in
-    let at-loop-test = c .before in (
-      (
-        (start .pre .0 .0),
-        (start .pre .0 .1),
-        (start .pre .0 .2),
-        (at-loop-test .loop-test .taken),
-        part-length (start .args .n)
-            (at-loop .loop .a) (at-loop .loop .report) (at-loop-test .loop-test .taken)
-            (omega (
-              arith,
-              (ap length (at-loop .loop .inv .1) ∙ rows-length (start .args .n)
-                  (reportEntry (start .args .n) (start .args .full .now) (start .args .low .now) (start .args .hubs .now)) (start .args .report .now)
-                  (at-loop .loop .a) (start .pre .0 .3)),
-              (start .pre .0 .3),
-            )),
-      ),
-      (start .pre .1),
-    )
+report-row-requires c κs = search needs
 
 add-a : tie.Need-add-a Inv-loop μ-loop
-add-a c =
-    let start = c .before .before .before .before .before .before .before .before .before .before in
-    omega (arith, (start .pre .0 .0))
+add-a c = search needs
 
 loop-less : tie.Need-loop-less Inv-loop μ-loop
 loop-less c = search needs
@@ -100,37 +74,36 @@ loop-again c =
     let at-loop-test = c .before .before .before .before in
     let at-report-row = c .before .before in (
       omega arith,
-      row-put ((at-loop .loop .a) * (start .args .n)) (start .args .n) (at-loop .loop .report) _ _
-          ((at-report-row .report-row .kept .1 .1 .1 .1 .1 .0) ∙ part-length (start .args .n) (at-loop .loop .a) (at-loop .loop .report)
+      row-put (_ * _) _ _ _ _
+          ((at-report-row .report-row .kept .1 .1 .1 .1 .1 .0) ∙ part-length _ _ _
           (at-loop-test .loop-test .taken) (omega (
             arith,
-            (ap length (at-loop .loop .inv .1) ∙ rows-length (start .args .n)
-                (reportEntry (start .args .n) (start .args .full .now) (start .args .low .now) (start .args .hubs .now)) (start .args .report .now)
-                (at-loop .loop .a) (start .pre .0 .3)),
-            (start .pre .0 .3),
+            (ap length (at-loop .loop .inv .1) ∙ rows-length _
+                (reportEntry _ _ _ (start .args .hubs .now)) _
+                _ (start .pre .0 .3)),
           ))) (at-report-row .report-row .ensures) ∙ ap
           (λ (t : List ℕ). written t ((at-loop .loop .a) * (start .args .n))
           (map ((reportEntry (start .args .n) (start .args .full .now) (start .args .low .now) (start .args .hubs .now)) (at-loop .loop .a))
-          (upTo (start .args .n)))) (at-loop .loop .inv .1) ∙ rows-next (start .args .n)
-          (reportEntry (start .args .n) (start .args .full .now) (start .args .low .now) (start .args .hubs .now)) (start .args .report .now)
-          (at-loop .loop .a) (at-loop-test .loop-test .taken),
+          (upTo (start .args .n)))) (at-loop .loop .inv .1) ∙ rows-next _
+          (reportEntry _ _ _ (start .args .hubs .now)) _
+          _ (at-loop-test .loop-test .taken),
     )
 
 same-length : tie.Need-same-length Inv-loop μ-loop
 same-length c =
     let start = c .before .before .before .before .before .before in
     let at-loop = c .before in
-    (ap length (at-loop .loop .inv .1) ∙ rows-length (start .args .n)
-    (reportEntry (start .args .n) (start .args .full .now) (start .args .low .now) (start .args .hubs .now)) (start .args .report .now)
-    (at-loop .loop .a) (start .pre .0 .3))
+    (ap length (at-loop .loop .inv .1) ∙ rows-length _
+    (reportEntry _ _ _ (start .args .hubs .now)) _
+    _ (start .pre .0 .3))
 
 returns : tie.Need-returns Inv-loop μ-loop
 returns c =
     let start = c .before .before .before .before .before .before in
     let at-loop = c .before in
-    (at-loop .loop .inv .1) ∙ rows-done (start .args .n)
-    (reportEntry (start .args .n) (start .args .full .now) (start .args .low .now) (start .args .hubs .now)) (start .args .report .now)
-    (at-loop .loop .a) (c .loop-test .left)
+    (at-loop .loop .inv .1) ∙ rows-done _
+    (reportEntry _ _ _ (start .args .hubs .now)) _
+    _ (c .loop-test .left)
 
 pub fill-report-spec : {M : Type 1} → statement M
 fill-report-spec =

@@ -16,20 +16,13 @@ abbrev μ-loop : tie.MeasureT-loop
 μ-loop row₀ x other b₀ row b = length row - b
 
 loop-holds : tie.Need-loop-holds Inv-loop μ-loop
-loop-holds c =
-    let start = c .before .before in
-    relaxing-none (start .args .x) (start .args .other .now) (start .args .row .now) (start .pre)
+loop-holds c = search needs
 
 mul-sum-or-none : tie.Need-mul-sum-or-none Inv-loop μ-loop
-mul-sum-or-none c = omega (arith, (c .before .loop .inv .same), (c .before .before .before .before .pre), (c .loop-test .taken))
+mul-sum-or-none c = search needs
 
 shared-slice-read-sum-or-none : tie.Need-shared-slice-read-sum-or-none Inv-loop μ-loop
-shared-slice-read-sum-or-none c = omega (
-  arith,
-  (c .before .before .loop .inv .same),
-  (c .before .before .before .before .before .pre),
-  (c .before .loop-test .taken),
-)
+shared-slice-read-sum-or-none c = search needs
 
 sum-or-none-requires : tie.Need-sum-or-none-requires Inv-loop μ-loop
 sum-or-none-requires c κs = search needs
@@ -57,7 +50,6 @@ loop-less c =
     let at-loop = c .before .before .before .before .before in
     omega (
       arith,
-      (c .before .before .before .before .loop-test .taken),
       length-set (at-loop .loop .row) (at-loop .loop .b)
           (c .lesser .result),
     )
@@ -69,23 +61,21 @@ loop-again c =
     let e : min ((start .args .x) + getD (start .args .other .now) (at-loop .loop .b) 0) (getD (at-loop .loop .row) (at-loop .loop .b) 0) ≡
     (c .lesser .result) = omega (
       arith,
-      (c .before .before .sum-or-none .ensures),
-      (c .lesser .ensures),
       (c .before .slice-known2 .given) (at-loop .loop .b),
     ) in
     subst (λ (k : ℕ). Relaxing (start .args .x) (start .args .other .now) (start .args .row .now)
     (set (at-loop .loop .row) (at-loop .loop .b) k) ((at-loop .loop .b) + 1)) e
-    (relaxing-next (start .args .x) (start .args .other .now) (start .args .row .now) (start .pre) (at-loop .loop .row)
-    (at-loop .loop .b) (at-loop .loop .inv) (c .before .before .before .before .loop-test .taken))
+    (relaxing-next _ _ _ (start .pre) _
+    _ (at-loop .loop .inv) (c .before .before .before .before .loop-test .taken))
 
 same-length : tie.Need-same-length Inv-loop μ-loop
-same-length c = (c .before .loop .inv .same)
+same-length c = search needs
 
 returns : tie.Need-returns Inv-loop μ-loop
 returns c =
     let start = c .before .before .before .before in
     let at-loop = c .before in
-    relaxing-done (start .args .x) (start .args .other .now) (start .args .row .now) (start .pre) (at-loop .loop .row) (at-loop .loop .b)
+    relaxing-done _ _ _ (start .pre) _ _
     (at-loop .loop .inv) (c .loop-test .left)
 
 pub relax-spec : {M : Type 1} → statement M

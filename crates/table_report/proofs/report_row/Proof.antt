@@ -25,17 +25,17 @@ abbrev μ-loop : tie.MeasureT-loop
 mul-start : tie.Need-mul-start Inv-loop μ-loop
 mul-start c =
     let start = c .before .before .before .before in
-    omega (arith, row-ends (start .args .n) (start .args .a) (start .args .low .now) (start .pre .0 .3) (start .pre .0 .2))
+    omega (arith, row-ends _ _ (start .args .low .now) (start .pre .0 .3) (start .pre .0 .2))
 
 add-end : tie.Need-add-end Inv-loop μ-loop
 add-end c =
     let start = c .before .before .before .before in
-    omega (arith, row-ends (start .args .n) (start .args .a) (start .args .low .now) (start .pre .0 .3) (start .pre .0 .2))
+    omega (arith, row-ends _ _ (start .args .low .now) (start .pre .0 .3) (start .pre .0 .2))
 
 mul-copy16 : tie.Need-mul-copy16 Inv-loop μ-loop
 mul-copy16 c =
     let start = c .before .before .before .before in
-    omega (arith, row-ends (start .args .n) (start .args .a) (start .args .low .now) (start .pre .0 .3) (start .pre .0 .2))
+    omega (arith, row-ends _ _ (start .args .low .now) (start .pre .0 .3) (start .pre .0 .2))
 
 sub-copy16 : tie.Need-sub-copy16 Inv-loop μ-loop
 sub-copy16 c = search needs
@@ -48,30 +48,20 @@ part-copy16-end c =
     let start = c .before .before .before .before in
     omega (
       arith,
-      row-ends (start .args .n) (start .args .a) (start .args .low .now) (start .pre .0 .3) (start .pre .0 .2),
-      row-ends
-          (start .args .n) (start .args .a) (start .args .full .now) (start .pre .0 .3) (start .pre .0 .1),
+      row-ends _ _ (start .args .low .now) (start .pre .0 .3) (start .pre .0 .2),
     )
 
 copy16-requires : tie.Need-copy16-requires Inv-loop μ-loop
-copy16-requires c κs =
-    let start = c .before .before .before .before .before .before in
-    omega (
-      arith,
-      part-length (start .args .n) (start .args .a) (start .args .low .now) (start .pre .0 .3) (start .pre .0 .2),
-      part-length
-          (start .args .n) (start .args .a) (start .args .full .now) (start .pre .0 .3) (start .pre .0 .1),
-      (start .pre .0 .4),
-    )
+copy16-requires c κs = search needs
 
 loop-holds : tie.Need-loop-holds Inv-loop μ-loop
 loop-holds c =
     let start = c .before .before .before .before .before .before .before .before .before in (
       omega arith,
       copied _ _ _ _ (c .before .before .copy16 .ensures)
-          ((start .pre .0 .4) ∙ sym (part-length (start .args .n) (start .args .a) (start .args .low .now) (start .pre .0 .3)
-          (start .pre .0 .2))) ∙ own-row (start .args .n) (start .args .a) (start .args .low .now) (start .pre .0 .3) (start .pre .0 .2) ∙
-          least-none (start .args .n) (start .args .full .now) (start .args .low .now) (start .args .hubs .now) (start .args .a),
+          ((start .pre .0 .4) ∙ sym (part-length _ _ _ (start .pre .0 .3)
+          (start .pre .0 .2))) ∙ own-row _ _ _ (start .pre .0 .3) (start .pre .0 .2) ∙
+          least-none _ _ _ _ _,
     )
 
 mul-first : tie.Need-mul-first Inv-loop μ-loop
@@ -83,81 +73,70 @@ shared-slice-read-first c = search needs
 cast-first : tie.Need-cast-first Inv-loop μ-loop
 cast-first c =
     let start = c .before .before .before .before .before .before .before .before .before .before .before .before in
-    let at-loop = c .before .before in
     omega (
       arith,
-      ((start .pre .1) (getD (start .args .hubs .now) (at-loop .loop .k) 0)
-          (getD-has (start .args .hubs .now) (at-loop .loop .k) (c .before .loop-test .taken))),
-      (start .pre .0 .0),
+      ((start .pre .1) (getD (start .args .hubs .now) _ 0)
+          (getD-has (start .args .hubs .now) _ (c .before .loop-test .taken))),
     )
 
 mul-first-2 : tie.Need-mul-first-2 Inv-loop μ-loop
 mul-first-2 c =
     let start = c .before .before .before .before .before .before .before .before .before .before .before .before in
-    let at-loop = c .before .before in
     omega (
       arith,
-      row-ends (start .args .n) (getD (start .args .hubs .now) (at-loop .loop .k) 0) (start .args .full .now)
-          ((start .pre .1) (getD (start .args .hubs .now) (at-loop .loop .k) 0)
-          (getD-has (start .args .hubs .now) (at-loop .loop .k) (c .before .loop-test .taken))) (start .pre .0 .1),
+      row-ends _ (getD (start .args .hubs .now) _ 0) (start .args .full .now)
+          ((start .pre .1) (getD (start .args .hubs .now) _ 0)
+          (getD-has (start .args .hubs .now) _ (c .before .loop-test .taken))) (start .pre .0 .1),
     )
 
 add-last : tie.Need-add-last Inv-loop μ-loop
 add-last c =
     let start = c .before .before .before .before .before .before .before .before .before .before .before .before in
-    let at-loop = c .before .before in
     omega (
       arith,
-      row-ends (start .args .n) (getD (start .args .hubs .now) (at-loop .loop .k) 0) (start .args .full .now)
-          ((start .pre .1) (getD (start .args .hubs .now) (at-loop .loop .k) 0)
-          (getD-has (start .args .hubs .now) (at-loop .loop .k) (c .before .loop-test .taken))) (start .pre .0 .1),
+      row-ends _ (getD (start .args .hubs .now) _ 0) (start .args .full .now)
+          ((start .pre .1) (getD (start .args .hubs .now) _ 0)
+          (getD-has (start .args .hubs .now) _ (c .before .loop-test .taken))) (start .pre .0 .1),
     )
 
 add-relax : tie.Need-add-relax Inv-loop μ-loop
 add-relax c =
     let start = c .before .before .before .before .before .before .before .before .before .before .before .before .before in
-    let at-loop = c .before .before .before in
     omega (
       arith,
-      place-inside (start .args .n) (getD (start .args .hubs .now) (at-loop .loop .k) 0) (start .args .a)
-          ((start .pre .1) (getD (start .args .hubs .now) (at-loop .loop .k) 0)
-          (getD-has (start .args .hubs .now) (at-loop .loop .k) (c .before .before .loop-test .taken))) (start .pre .0 .3),
-      (start .pre .0 .1),
+      place-inside _ (getD (start .args .hubs .now) _ 0) _
+          ((start .pre .1) (getD (start .args .hubs .now) _ 0)
+          (getD-has (start .args .hubs .now) _ (c .before .before .loop-test .taken))) (start .pre .0 .3),
     )
 
 mul-relax : tie.Need-mul-relax Inv-loop μ-loop
 mul-relax c =
     let start = c .before .before .before .before .before .before .before .before .before .before .before .before .before in
-    let at-loop = c .before .before .before in
     omega (
       arith,
-      place-inside (start .args .n) (getD (start .args .hubs .now) (at-loop .loop .k) 0) (start .args .a)
-          ((start .pre .1) (getD (start .args .hubs .now) (at-loop .loop .k) 0)
-          (getD-has (start .args .hubs .now) (at-loop .loop .k) (c .before .before .loop-test .taken))) (start .pre .0 .3),
-      (start .pre .0 .1),
+      place-inside _ (getD (start .args .hubs .now) _ 0) _
+          ((start .pre .1) (getD (start .args .hubs .now) _ 0)
+          (getD-has (start .args .hubs .now) _ (c .before .before .loop-test .taken))) (start .pre .0 .3),
     )
 
 shared-slice-read-relax : tie.Need-shared-slice-read-relax Inv-loop μ-loop
 shared-slice-read-relax c =
     let start = c .before .before .before .before .before .before .before .before .before .before .before .before .before .before in
-    let at-loop = c .before .before .before .before in
     omega (
       arith,
-      place-inside (start .args .n) (getD (start .args .hubs .now) (at-loop .loop .k) 0) (start .args .a)
-          ((start .pre .1) (getD (start .args .hubs .now) (at-loop .loop .k) 0)
-          (getD-has (start .args .hubs .now) (at-loop .loop .k) (c .before .before .before .loop-test .taken))) (start .pre .0 .3),
-      (start .pre .0 .1),
+      place-inside _ (getD (start .args .hubs .now) _ 0) _
+          ((start .pre .1) (getD (start .args .hubs .now) _ 0)
+          (getD-has (start .args .hubs .now) _ (c .before .before .before .loop-test .taken))) (start .pre .0 .3),
     )
 
 mul-relax-2 : tie.Need-mul-relax-2 Inv-loop μ-loop
 mul-relax-2 c =
     let start = c .before .before .before .before .before .before .before .before .before .before .before .before .before .before in
-    let at-loop = c .before .before .before .before in
     omega (
       arith,
-      row-ends (start .args .n) (getD (start .args .hubs .now) (at-loop .loop .k) 0) (start .args .full .now)
-          ((start .pre .1) (getD (start .args .hubs .now) (at-loop .loop .k) 0)
-          (getD-has (start .args .hubs .now) (at-loop .loop .k) (c .before .before .before .loop-test .taken))) (start .pre .0 .1),
+      row-ends _ (getD (start .args .hubs .now) _ 0) (start .args .full .now)
+          ((start .pre .1) (getD (start .args .hubs .now) _ 0)
+          (getD-has (start .args .hubs .now) _ (c .before .before .before .loop-test .taken))) (start .pre .0 .1),
     )
 
 sub-relax : tie.Need-sub-relax Inv-loop μ-loop
@@ -169,21 +148,20 @@ part-relax-start c = search needs
 part-relax-end : tie.Need-part-relax-end Inv-loop μ-loop
 part-relax-end c =
     let start = c .before .before .before .before .before .before .before .before .before .before .before .before .before .before in
-    let at-loop = c .before .before .before .before in
-    row-ends (start .args .n) (getD (start .args .hubs .now) (at-loop .loop .k) 0) (start .args .full .now)
-    ((start .pre .1) (getD (start .args .hubs .now) (at-loop .loop .k) 0)
-    (getD-has (start .args .hubs .now) (at-loop .loop .k) (c .before .before .before .loop-test .taken))) (start .pre .0 .1)
+    row-ends _ (getD (start .args .hubs .now) _ 0) (start .args .full .now)
+    ((start .pre .1) (getD (start .args .hubs .now) _ 0)
+    (getD-has (start .args .hubs .now) _ (c .before .before .before .loop-test .taken))) (start .pre .0 .1)
 
 relax-requires : tie.Need-relax-requires Inv-loop μ-loop
 relax-requires c κs =
     let start = c .before .before .before .before .before .before .before .before .before .before .before .before .before .before .before in
     let at-loop = c .before .before .before .before .before in
     (ap length (at-loop .loop .inv .1) ∙ length-row
-    (leastTo (start .args .n) (start .args .full .now) (start .args .low .now) (start .args .hubs .now) (start .args .a)
-    (at-loop .loop .k)) (start .args .n)) ∙ sym
-    (part-length (start .args .n) (getD (start .args .hubs .now) (at-loop .loop .k) 0) (start .args .full .now)
-    ((start .pre .1) (getD (start .args .hubs .now) (at-loop .loop .k) 0)
-    (getD-has (start .args .hubs .now) (at-loop .loop .k) (c .before .before .before .before .loop-test .taken))) (start .pre .0 .1))
+    (leastTo _ _ _ _ _
+    _) _) ∙ sym
+    (part-length _ (getD (start .args .hubs .now) _ 0) _
+    ((start .pre .1) (getD (start .args .hubs .now) _ 0)
+    (getD-has (start .args .hubs .now) _ (c .before .before .before .before .loop-test .taken))) (start .pre .0 .1))
 
 add-k : tie.Need-add-k Inv-loop μ-loop
 add-k c = omega arith
@@ -201,40 +179,29 @@ loop-again c =
       omega arith,
       (c .before .before .relax .ensures) ∙ ap₂
           (relaxed (getD (start .args .full .now)
-          ((getD (start .args .hubs .now) (at-loop .loop .k) 0) * (start .args .n) + (start .args .a)) 0))
-          (own-row (start .args .n) (getD (start .args .hubs .now) (at-loop .loop .k) 0) (start .args .full .now)
-          ((start .pre .1) (getD (start .args .hubs .now) (at-loop .loop .k) 0)
-          (getD-has (start .args .hubs .now) (at-loop .loop .k) (at-loop-test .loop-test .taken))) (start .pre .0 .1))
-          (at-loop .loop .inv .1) ∙ least-next (start .args .n) (start .args .full .now) (start .args .low .now) (start .args .hubs .now)
-          (start .args .a) (λ b k. omega (
+          ((getD (start .args .hubs .now) _ 0) * _ + _) 0))
+          (own-row _ (getD (start .args .hubs .now) _ 0) _
+          ((start .pre .1) (getD (start .args .hubs .now) _ 0)
+          (getD-has (start .args .hubs .now) _ (at-loop-test .loop-test .taken))) (start .pre .0 .1))
+          (at-loop .loop .inv .1) ∙ least-next _ _ _ _
+          _ (λ b k. omega (
             arith,
             (at-shared-slice-known2 .shared-slice-known2 .given)
                 ((start .args .a) * (start .args .n) + b),
-          )) (at-loop .loop .k) (at-loop-test .loop-test .taken),
+          )) _ (at-loop-test .loop-test .taken),
     )
 
 mul-row : tie.Need-mul-row Inv-loop μ-loop
-mul-row c =
-    let start = c .before .before .before .before .before .before .before .before .before .before .before in
-    let at-loop = c .before in
-    omega (
-      arith,
-      (ap length (at-loop .loop .inv .1) ∙ length-row
-          (leastTo (start .args .n) (start .args .full .now) (start .args .low .now) (start .args .hubs .now) (start .args .a)
-          (at-loop .loop .k)) (start .args .n)),
-      (start .pre .0 .3),
-    )
+mul-row c = search needs
 
 slice-write-row : tie.Need-slice-write-row Inv-loop μ-loop
 slice-write-row c =
-    let start = c .before .before .before .before .before .before .before .before .before .before .before in
     let at-loop = c .before in
     omega (
       arith,
       (ap length (at-loop .loop .inv .1) ∙ length-row
-          (leastTo (start .args .n) (start .args .full .now) (start .args .low .now) (start .args .hubs .now) (start .args .a)
-          (at-loop .loop .k)) (start .args .n)),
-      (start .pre .0 .3),
+          (leastTo _ _ _ _ _
+          _) _),
     )
 
 same-length : tie.Need-same-length Inv-loop μ-loop
@@ -242,15 +209,15 @@ same-length c =
     let start = c .before .before .before .before .before .before .before .before .before .before .before in
     let at-loop = c .before in
     length-set (at-loop .loop .row) _ _ ∙ (ap length (at-loop .loop .inv .1) ∙ length-row
-    (leastTo (start .args .n) (start .args .full .now) (start .args .low .now) (start .args .hubs .now) (start .args .a)
-    (at-loop .loop .k)) (start .args .n)) ∙ sym (start .pre .0 .4)
+    (leastTo _ _ _ _ _
+    _) _) ∙ sym (start .pre .0 .4)
 
 returns : tie.Need-returns Inv-loop μ-loop
 returns c =
     let start = c .before .before .before .before .before .before .before .before .before .before .before in
     let at-loop = c .before in
-    ap (λ (r : List ℕ). set r (start .args .a) 0) (at-loop .loop .inv .1) ∙ least-done (start .args .n) (start .args .full .now)
-    (start .args .low .now) (start .args .hubs .now) (start .args .a) (at-loop .loop .k) (c .loop-test .left) (start .pre .0 .3)
+    ap (λ (r : List ℕ). set r (start .args .a) 0) (at-loop .loop .inv .1) ∙ least-done _ _
+    _ _ _ _ (c .loop-test .left) (start .pre .0 .3)
 
 pub report-row-spec : {M : Type 1} → statement M
 report-row-spec =
