@@ -1,5 +1,6 @@
 -- `listing_lines::write_answer` meets its contract: the answer's line, or none where the tables attain no route.
 -- Assumes nothing.
+use native.Mathlib.Omega.{arith}
 use mathlib.Core.Path.{sym, ap, _∙_, subst}
 use Prim.Native.Nat.{_+_, _≤_}
 use lib.ListN.{length}
@@ -41,7 +42,7 @@ returns c =
     subst (λ (o : Outcome Answer). Wrote (start .args .buffer .now) (start .args .buffer .now) (start .args .at) (start .args .at)
     (pairLine ((start .args .a), (start .args .b)) o))
     (sym (ap pairAnswer (c .enum-told .given .1)) ∙ (c .before .before .pair-answer .ensures))
-    (wrote-none (start .args .buffer .now) (start .args .at))
+    (wrote-none _ _)
 
 same-length : tie.Need-same-length
 same-length c = search needs

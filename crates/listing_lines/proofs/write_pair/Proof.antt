@@ -1,5 +1,6 @@
 -- `listing_lines::write_pair` meets its contract: the letter, four fields and the line feed, one behind the other.
 -- Assumes nothing.
+use native.Mathlib.Omega.{arith}
 use mathlib.Core.List.{[], _∷_, _++_}
 use Rattle.model.specs.Numbers.{digits}
 use Rattle.model.specs.Listing.{reportText, routeText, pairLine}
@@ -10,23 +11,18 @@ use Rattle.listing_lines.proofs.write_pair.Tie as tie
 
 write-byte-requires : tie.Need-write-byte-requires
 unfolding pairLine
-write-byte-requires c κs =
-    let start = c .before .before in
-    left-fits (start .args .buffer .now) (start .args .at) _ (start .pre) _ _ (80 ∷ [])
-    ((44 ∷ digits (start .args .a)) ++ ((44 ∷ digits (start .args .b)) ++
-    ((44 ∷ reportText (start .args .answer .report)) ++ ((44 ∷ routeText (start .args .answer .route)) ++ ((10 ∷ []) ++ [])))))
-    (left-all _ _ _)
+write-byte-requires c κs = search needs
 
 write-field-requires : tie.Need-write-field-requires
 unfolding pairLine
 write-field-requires c κs =
     let start = c .before .before .before .before .before .before in
-    left-fits _ _ _ (start .pre) _ _ (44 ∷ digits (start .args .a))
-    ((44 ∷ digits (start .args .b)) ++ ((44 ∷ reportText (start .args .answer .report)) ++
-    ((44 ∷ routeText (start .args .answer .route)) ++ ((10 ∷ []) ++ []))))
+    left-fits _ _ _ (start .pre) _ _ (44 ∷ digits _)
+    ((44 ∷ digits _) ++ ((44 ∷ reportText _) ++
+    ((44 ∷ routeText _) ++ ((10 ∷ []) ++ []))))
     (left-more _ _ _ (start .pre) _ _ (80 ∷ [])
-    ((44 ∷ digits (start .args .a)) ++ ((44 ∷ digits (start .args .b)) ++
-    ((44 ∷ reportText (start .args .answer .report)) ++ ((44 ∷ routeText (start .args .answer .route)) ++ ((10 ∷ []) ++ [])))))
+    ((44 ∷ digits _) ++ ((44 ∷ digits _) ++
+    ((44 ∷ reportText _) ++ ((44 ∷ routeText _) ++ ((10 ∷ []) ++ [])))))
     (left-all _ _ _) _ _ (c .before .before .before .write-byte .ensures))
 
 write-field-requires-2 : tie.Need-write-field-requires-2
@@ -34,14 +30,14 @@ unfolding pairLine
 write-field-requires-2 c κs =
     let start = c .before .before .before .before .before .before .before .before .before .before in
     let at-write-byte = c .before .before .before .before .before .before .before in
-    left-fits _ _ _ (start .pre) _ _ (44 ∷ digits (start .args .b))
-    ((44 ∷ reportText (start .args .answer .report)) ++ ((44 ∷ routeText (start .args .answer .route)) ++ ((10 ∷ []) ++ [])))
-    (left-more _ _ _ (start .pre) _ _ (44 ∷ digits (start .args .a))
-    ((44 ∷ digits (start .args .b)) ++ ((44 ∷ reportText (start .args .answer .report)) ++
-    ((44 ∷ routeText (start .args .answer .route)) ++ ((10 ∷ []) ++ []))))
+    left-fits _ _ _ (start .pre) _ _ (44 ∷ digits _)
+    ((44 ∷ reportText _) ++ ((44 ∷ routeText _) ++ ((10 ∷ []) ++ [])))
+    (left-more _ _ _ (start .pre) _ _ (44 ∷ digits _)
+    ((44 ∷ digits _) ++ ((44 ∷ reportText _) ++
+    ((44 ∷ routeText _) ++ ((10 ∷ []) ++ []))))
     (left-more _ _ _ (start .pre) _ _ (80 ∷ [])
-    ((44 ∷ digits (start .args .a)) ++ ((44 ∷ digits (start .args .b)) ++
-    ((44 ∷ reportText (start .args .answer .report)) ++ ((44 ∷ routeText (start .args .answer .route)) ++ ((10 ∷ []) ++ [])))))
+    ((44 ∷ digits _) ++ ((44 ∷ digits _) ++
+    ((44 ∷ reportText _) ++ ((44 ∷ routeText _) ++ ((10 ∷ []) ++ [])))))
     (left-all _ _ _) _ _ (at-write-byte .write-byte .ensures)) _ _ (c .before .before .before .write-field .ensures))
 
 write-report-requires : tie.Need-write-report-requires
@@ -50,16 +46,16 @@ write-report-requires c κs =
     let start = c .before .before .before .before .before .before .before .before .before .before .before .before .before .before in
     let at-write-byte = c .before .before .before .before .before .before .before .before .before .before .before in
     let at-write-field = c .before .before .before .before .before .before .before in
-    left-fits _ _ _ (start .pre) _ _ (44 ∷ reportText (start .args .answer .report))
-    ((44 ∷ routeText (start .args .answer .route)) ++ ((10 ∷ []) ++ []))
-    (left-more _ _ _ (start .pre) _ _ (44 ∷ digits (start .args .b))
-    ((44 ∷ reportText (start .args .answer .report)) ++ ((44 ∷ routeText (start .args .answer .route)) ++ ((10 ∷ []) ++ [])))
-    (left-more _ _ _ (start .pre) _ _ (44 ∷ digits (start .args .a))
-    ((44 ∷ digits (start .args .b)) ++ ((44 ∷ reportText (start .args .answer .report)) ++
-    ((44 ∷ routeText (start .args .answer .route)) ++ ((10 ∷ []) ++ []))))
+    left-fits _ _ _ (start .pre) _ _ (44 ∷ reportText _)
+    ((44 ∷ routeText _) ++ ((10 ∷ []) ++ []))
+    (left-more _ _ _ (start .pre) _ _ (44 ∷ digits _)
+    ((44 ∷ reportText _) ++ ((44 ∷ routeText _) ++ ((10 ∷ []) ++ [])))
+    (left-more _ _ _ (start .pre) _ _ (44 ∷ digits _)
+    ((44 ∷ digits _) ++ ((44 ∷ reportText _) ++
+    ((44 ∷ routeText _) ++ ((10 ∷ []) ++ []))))
     (left-more _ _ _ (start .pre) _ _ (80 ∷ [])
-    ((44 ∷ digits (start .args .a)) ++ ((44 ∷ digits (start .args .b)) ++
-    ((44 ∷ reportText (start .args .answer .report)) ++ ((44 ∷ routeText (start .args .answer .route)) ++ ((10 ∷ []) ++ [])))))
+    ((44 ∷ digits _) ++ ((44 ∷ digits _) ++
+    ((44 ∷ reportText _) ++ ((44 ∷ routeText _) ++ ((10 ∷ []) ++ [])))))
     (left-all _ _ _) _ _ (at-write-byte .write-byte .ensures)) _ _ (at-write-field .write-field .ensures)) _ _
     (c .before .before .before .write-field2 .ensures))
 
@@ -70,17 +66,17 @@ write-route-requires c κs =
     let at-write-byte = c .before .before .before .before .before .before .before .before .before .before .before .before .before .before .before in
     let at-write-field = c .before .before .before .before .before .before .before .before .before .before .before in
     let at-write-field2 = c .before .before .before .before .before .before .before in
-    left-fits _ _ _ (start .pre) _ _ (44 ∷ routeText (start .args .answer .route)) ((10 ∷ []) ++ [])
-    (left-more _ _ _ (start .pre) _ _ (44 ∷ reportText (start .args .answer .report))
-    ((44 ∷ routeText (start .args .answer .route)) ++ ((10 ∷ []) ++ []))
-    (left-more _ _ _ (start .pre) _ _ (44 ∷ digits (start .args .b))
-    ((44 ∷ reportText (start .args .answer .report)) ++ ((44 ∷ routeText (start .args .answer .route)) ++ ((10 ∷ []) ++ [])))
-    (left-more _ _ _ (start .pre) _ _ (44 ∷ digits (start .args .a))
-    ((44 ∷ digits (start .args .b)) ++ ((44 ∷ reportText (start .args .answer .report)) ++
-    ((44 ∷ routeText (start .args .answer .route)) ++ ((10 ∷ []) ++ []))))
+    left-fits _ _ _ (start .pre) _ _ (44 ∷ routeText _) ((10 ∷ []) ++ [])
+    (left-more _ _ _ (start .pre) _ _ (44 ∷ reportText _)
+    ((44 ∷ routeText _) ++ ((10 ∷ []) ++ []))
+    (left-more _ _ _ (start .pre) _ _ (44 ∷ digits _)
+    ((44 ∷ reportText _) ++ ((44 ∷ routeText _) ++ ((10 ∷ []) ++ [])))
+    (left-more _ _ _ (start .pre) _ _ (44 ∷ digits _)
+    ((44 ∷ digits _) ++ ((44 ∷ reportText _) ++
+    ((44 ∷ routeText _) ++ ((10 ∷ []) ++ []))))
     (left-more _ _ _ (start .pre) _ _ (80 ∷ [])
-    ((44 ∷ digits (start .args .a)) ++ ((44 ∷ digits (start .args .b)) ++
-    ((44 ∷ reportText (start .args .answer .report)) ++ ((44 ∷ routeText (start .args .answer .route)) ++ ((10 ∷ []) ++ [])))))
+    ((44 ∷ digits _) ++ ((44 ∷ digits _) ++
+    ((44 ∷ reportText _) ++ ((44 ∷ routeText _) ++ ((10 ∷ []) ++ [])))))
     (left-all _ _ _) _ _ (at-write-byte .write-byte .ensures)) _ _ (at-write-field .write-field .ensures)) _ _
     (at-write-field2 .write-field2 .ensures)) _ _ (c .before .before .before .write-report .ensures))
 
@@ -93,17 +89,17 @@ write-byte-requires-2 c κs =
     let at-write-field2 = c .before .before .before .before .before .before .before .before .before .before .before in
     let at-write-report = c .before .before .before .before .before .before .before in
     left-fits _ _ _ (start .pre) _ _ (10 ∷ []) []
-    (left-more _ _ _ (start .pre) _ _ (44 ∷ routeText (start .args .answer .route)) ((10 ∷ []) ++ [])
-    (left-more _ _ _ (start .pre) _ _ (44 ∷ reportText (start .args .answer .report))
-    ((44 ∷ routeText (start .args .answer .route)) ++ ((10 ∷ []) ++ []))
-    (left-more _ _ _ (start .pre) _ _ (44 ∷ digits (start .args .b))
-    ((44 ∷ reportText (start .args .answer .report)) ++ ((44 ∷ routeText (start .args .answer .route)) ++ ((10 ∷ []) ++ [])))
-    (left-more _ _ _ (start .pre) _ _ (44 ∷ digits (start .args .a))
-    ((44 ∷ digits (start .args .b)) ++ ((44 ∷ reportText (start .args .answer .report)) ++
-    ((44 ∷ routeText (start .args .answer .route)) ++ ((10 ∷ []) ++ []))))
+    (left-more _ _ _ (start .pre) _ _ (44 ∷ routeText _) ((10 ∷ []) ++ [])
+    (left-more _ _ _ (start .pre) _ _ (44 ∷ reportText _)
+    ((44 ∷ routeText _) ++ ((10 ∷ []) ++ []))
+    (left-more _ _ _ (start .pre) _ _ (44 ∷ digits _)
+    ((44 ∷ reportText _) ++ ((44 ∷ routeText _) ++ ((10 ∷ []) ++ [])))
+    (left-more _ _ _ (start .pre) _ _ (44 ∷ digits _)
+    ((44 ∷ digits _) ++ ((44 ∷ reportText _) ++
+    ((44 ∷ routeText _) ++ ((10 ∷ []) ++ []))))
     (left-more _ _ _ (start .pre) _ _ (80 ∷ [])
-    ((44 ∷ digits (start .args .a)) ++ ((44 ∷ digits (start .args .b)) ++
-    ((44 ∷ reportText (start .args .answer .report)) ++ ((44 ∷ routeText (start .args .answer .route)) ++ ((10 ∷ []) ++ [])))))
+    ((44 ∷ digits _) ++ ((44 ∷ digits _) ++
+    ((44 ∷ reportText _) ++ ((44 ∷ routeText _) ++ ((10 ∷ []) ++ [])))))
     (left-all _ _ _) _ _ (at-write-byte .write-byte .ensures)) _ _ (at-write-field .write-field .ensures)) _ _
     (at-write-field2 .write-field2 .ensures)) _ _ (at-write-report .write-report .ensures)) _ _
     (c .before .before .before .write-route .ensures))
@@ -121,17 +117,17 @@ returns c =
     let at-write-report = c .before .before .before .before .before .before .before .before .before .before in
     let at-write-route = c .before .before .before .before .before .before in
     left-none _ _ _ (start .pre) _ _ (left-more _ _ _ (start .pre) _ _ (10 ∷ []) []
-    (left-more _ _ _ (start .pre) _ _ (44 ∷ routeText (start .args .answer .route)) ((10 ∷ []) ++ [])
-    (left-more _ _ _ (start .pre) _ _ (44 ∷ reportText (start .args .answer .report))
-    ((44 ∷ routeText (start .args .answer .route)) ++ ((10 ∷ []) ++ []))
-    (left-more _ _ _ (start .pre) _ _ (44 ∷ digits (start .args .b))
-    ((44 ∷ reportText (start .args .answer .report)) ++ ((44 ∷ routeText (start .args .answer .route)) ++ ((10 ∷ []) ++ [])))
-    (left-more _ _ _ (start .pre) _ _ (44 ∷ digits (start .args .a))
-    ((44 ∷ digits (start .args .b)) ++ ((44 ∷ reportText (start .args .answer .report)) ++
-    ((44 ∷ routeText (start .args .answer .route)) ++ ((10 ∷ []) ++ []))))
+    (left-more _ _ _ (start .pre) _ _ (44 ∷ routeText _) ((10 ∷ []) ++ [])
+    (left-more _ _ _ (start .pre) _ _ (44 ∷ reportText _)
+    ((44 ∷ routeText _) ++ ((10 ∷ []) ++ []))
+    (left-more _ _ _ (start .pre) _ _ (44 ∷ digits _)
+    ((44 ∷ reportText _) ++ ((44 ∷ routeText _) ++ ((10 ∷ []) ++ [])))
+    (left-more _ _ _ (start .pre) _ _ (44 ∷ digits _)
+    ((44 ∷ digits _) ++ ((44 ∷ reportText _) ++
+    ((44 ∷ routeText _) ++ ((10 ∷ []) ++ []))))
     (left-more _ _ _ (start .pre) _ _ (80 ∷ [])
-    ((44 ∷ digits (start .args .a)) ++ ((44 ∷ digits (start .args .b)) ++
-    ((44 ∷ reportText (start .args .answer .report)) ++ ((44 ∷ routeText (start .args .answer .route)) ++ ((10 ∷ []) ++ [])))))
+    ((44 ∷ digits _) ++ ((44 ∷ digits _) ++
+    ((44 ∷ reportText _) ++ ((44 ∷ routeText _) ++ ((10 ∷ []) ++ [])))))
     (left-all _ _ _) _ _ (at-write-byte .write-byte .ensures)) _ _ (at-write-field .write-field .ensures)) _ _
     (at-write-field2 .write-field2 .ensures)) _ _ (at-write-report .write-report .ensures)) _ _ (at-write-route .write-route .ensures))
     _ _ (c .before .before .write-byte2 .ensures))

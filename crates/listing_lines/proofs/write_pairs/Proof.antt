@@ -1,5 +1,6 @@
 -- `listing_lines::write_pairs` meets its contract: what is written, and the rows that are left, are the lines of all pairs.
 -- Assumes nothing.
+use borrow.Author.Needs.{needs}
 use mathlib.Core.Path.{sym, subst}
 use mathlib.Core.List.{List}
 use Prim.Native.Nat.{ℕ, _+_, _-_, _≤_}
@@ -29,37 +30,35 @@ write-row-requires c κs =
       ((start .pre .0 .0), (start .pre .0 .1), (start .pre .0 .2), (start .pre .0 .3), (at-loop-test .loop-test .taken)),
       left-fits _ _ _
           (subst (λ (t : List ℕ). (start .args .at) + length t ≤ length (start .args .buffer .now))
-          (pairs-rows (start .args .n) (start .args .full .now) (start .args .low .now) (start .args .report .now)) (start .pre .1)) _ _
-          (rowText (start .args .n) (start .args .full .now) (start .args .low .now) (start .args .report .now) (at-loop .loop .a)
-          ((at-loop .loop .a) + 1)) (rowsFrom (start .args .n) (start .args .full .now) (start .args .low .now) (start .args .report .now)
-          ((at-loop .loop .a) + 1)) (subst (λ (t : List ℕ). Left (start .args .buffer .now) (at-loop .loop .buffer) (start .args .at)
+          (pairs-rows _ _ _ _) (start .pre .1)) _ _
+          (rowText _ _ _ _ _
+          (_ + 1)) (rowsFrom _ _ _ _
+          (_ + 1)) (subst (λ (t : List ℕ). Left (start .args .buffer .now) (at-loop .loop .buffer) (start .args .at)
           (at-loop .loop .i) (rowsFrom (start .args .n) (start .args .full .now) (start .args .low .now) (start .args .report .now) 0) t)
-          (rows-next (start .args .n) (start .args .full .now) (start .args .low .now) (start .args .report .now) (at-loop .loop .a)
+          (rows-next _ _ _ _ _
           (at-loop-test .loop-test .taken)) (at-loop .loop .inv .1)),
     )
 
 add-a : tie.Need-add-a Inv-loop μ-loop
-add-a c =
-    let start = c .before .before .before .before .before .before .before .before .before .before in
-    omega (arith, (start .pre .0), (c .before .before .before .before .loop-test .taken))
+add-a c = search needs
 
 loop-less : tie.Need-loop-less Inv-loop μ-loop
-loop-less c = omega (arith, (c .before .before .before .before .loop-test .taken))
+loop-less c = search needs
 
 loop-again : tie.Need-loop-again Inv-loop μ-loop
 loop-again c =
     let start = c .before .before .before .before .before .before .before .before .before .before in
     let at-loop = c .before .before .before .before .before in
     let at-loop-test = c .before .before .before .before in (
-      omega (arith, (at-loop-test .loop-test .taken)),
+      omega arith,
       left-more _ _ _
           (subst (λ (t : List ℕ). (start .args .at) + length t ≤ length (start .args .buffer .now))
-          (pairs-rows (start .args .n) (start .args .full .now) (start .args .low .now) (start .args .report .now)) (start .pre .1)) _ _
-          (rowText (start .args .n) (start .args .full .now) (start .args .low .now) (start .args .report .now) (at-loop .loop .a)
-          ((at-loop .loop .a) + 1)) (rowsFrom (start .args .n) (start .args .full .now) (start .args .low .now) (start .args .report .now)
-          ((at-loop .loop .a) + 1)) (subst (λ (t : List ℕ). Left (start .args .buffer .now) (at-loop .loop .buffer) (start .args .at)
+          (pairs-rows _ _ _ _) (start .pre .1)) _ _
+          (rowText _ _ _ _ _
+          (_ + 1)) (rowsFrom _ _ _ _
+          (_ + 1)) (subst (λ (t : List ℕ). Left (start .args .buffer .now) (at-loop .loop .buffer) (start .args .at)
           (at-loop .loop .i) (rowsFrom (start .args .n) (start .args .full .now) (start .args .low .now) (start .args .report .now) 0) t)
-          (rows-next (start .args .n) (start .args .full .now) (start .args .low .now) (start .args .report .now) (at-loop .loop .a)
+          (rows-next _ _ _ _ _
           (at-loop-test .loop-test .taken)) (at-loop .loop .inv .1)) _ _ (c .before .before .write-row .ensures),
     )
 
@@ -67,7 +66,7 @@ same-length : tie.Need-same-length Inv-loop μ-loop
 same-length c =
     let start = c .before .before .before .before .before .before in
     left-length _ _ _ (subst (λ (t : List ℕ). (start .args .at) + length t ≤ length (start .args .buffer .now))
-    (pairs-rows (start .args .n) (start .args .full .now) (start .args .low .now) (start .args .report .now)) (start .pre .1)) _ _ _
+    (pairs-rows _ _ _ _) (start .pre .1)) _ _ _
     (c .before .loop .inv .1)
 
 returns : tie.Need-returns Inv-loop μ-loop
@@ -75,12 +74,12 @@ returns c =
     let start = c .before .before .before .before .before .before in
     let at-loop = c .before in
     subst (λ (t : List ℕ). Wrote (start .args .buffer .now) (at-loop .loop .buffer) (start .args .at) (at-loop .loop .i) t)
-    (sym (pairs-rows (start .args .n) (start .args .full .now) (start .args .low .now) (start .args .report .now)))
+    (sym (pairs-rows _ _ _ _))
     (left-none _ _ _ (subst (λ (t : List ℕ). (start .args .at) + length t ≤ length (start .args .buffer .now))
-    (pairs-rows (start .args .n) (start .args .full .now) (start .args .low .now) (start .args .report .now)) (start .pre .1)) _ _
+    (pairs-rows _ _ _ _) (start .pre .1)) _ _
     (subst (λ (t : List ℕ). Left (start .args .buffer .now) (at-loop .loop .buffer) (start .args .at) (at-loop .loop .i)
     (rowsFrom (start .args .n) (start .args .full .now) (start .args .low .now) (start .args .report .now) 0) t)
-    (rows-end (start .args .n) (start .args .full .now) (start .args .low .now) (start .args .report .now) (at-loop .loop .a)
+    (rows-end _ _ _ _ _
     (c .loop-test .left)) (at-loop .loop .inv .1)))
 
 pub write-pairs-spec : {M : Type 1} → statement M

@@ -1,5 +1,6 @@
 -- `listing_lines::write_report` meets its contract: a comma and a dash, or a field.
 -- Assumes nothing.
+use native.Mathlib.Omega.{arith}
 use mathlib.Core.Path.{sym, subst}
 use mathlib.Core.List.{List, _∷_}
 use Prim.Native.Nat.{ℕ, _+_, _≤_}
@@ -14,7 +15,7 @@ write-two-requires : tie.Need-write-two-requires
 write-two-requires c κs =
     let start = c .before .before .before in
     subst (λ (t : List ℕ). (start .args .at) + length (44 ∷ t) ≤ length (start .args .buffer .now))
-    (report-none (start .args .report) (c .before .if1 .taken)) (start .pre)
+    (report-none _ (c .before .if1 .taken)) (start .pre)
 
 same-length : tie.Need-same-length
 same-length c = search needs
@@ -25,13 +26,13 @@ returns c =
     let at-write-two = c .before .before in
     subst (λ (t : List ℕ). Wrote (start .args .buffer .now) (at-write-two .write-two .last .0) (start .args .at)
     (at-write-two .write-two .result) (44 ∷ t))
-    (sym (report-none (start .args .report) (c .before .before .before .before .if1 .taken))) (at-write-two .write-two .ensures)
+    (sym (report-none _ (c .before .before .before .before .if1 .taken))) (at-write-two .write-two .ensures)
 
 write-field-requires : tie.Need-write-field-requires
 write-field-requires c κs =
     let start = c .before .before .before in
     subst (λ (t : List ℕ). (start .args .at) + length (44 ∷ t) ≤ length (start .args .buffer .now))
-    (report-some (start .args .report) (c .before .if1 .left)) (start .pre)
+    (report-some _ (c .before .if1 .left)) (start .pre)
 
 same-length-2 : tie.Need-same-length-2
 same-length-2 c = search needs
@@ -42,7 +43,7 @@ returns-2 c =
     let at-write-field = c .before .before in
     subst (λ (t : List ℕ). Wrote (start .args .buffer .now) (at-write-field .write-field .last .0) (start .args .at)
     (at-write-field .write-field .result) (44 ∷ t))
-    (sym (report-some (start .args .report) (c .before .before .before .before .if1 .left))) (at-write-field .write-field .ensures)
+    (sym (report-some _ (c .before .before .before .before .if1 .left))) (at-write-field .write-field .ensures)
 
 pub write-report-spec : {M : Type 1} → statement M
 write-report-spec =

@@ -1,5 +1,6 @@
 -- `listing_lines::write_row` meets its contract: what is written, and the pairs that are left, are the row.
 -- Assumes nothing.
+use borrow.Author.Needs.{needs}
 use mathlib.Core.Path.{subst}
 use mathlib.Core.List.{List}
 use Prim.Native.Nat.{ℕ, _+_, _-_, _≤_}
@@ -17,10 +18,10 @@ abbrev μ-loop : tie.MeasureT-loop
 μ-loop n full low report a buffer₀ at i₀ b₀ buffer i b = n - b
 
 add-b : tie.Need-add-b Inv-loop μ-loop
-add-b c = omega (arith, (c .before .before .before .before .pre .0))
+add-b c = search needs
 
 loop-holds : tie.Need-loop-holds Inv-loop μ-loop
-loop-holds c = (omega (arith, (c .before .before .before .before .pre .0)), left-all _ _ _)
+loop-holds c = (omega arith, left-all _ _ _)
 
 write-answer-requires : tie.Need-write-answer-requires Inv-loop μ-loop
 write-answer-requires c κs =
@@ -36,37 +37,35 @@ write-answer-requires c κs =
         (at-loop-test .loop-test .taken),
       ),
       left-fits _ _ _ (start .pre .1) _ _
-          (answerText (start .args .n) (start .args .full .now) (start .args .low .now) (start .args .report .now) (start .args .a)
-          (at-loop .loop .b)) (rowText (start .args .n) (start .args .full .now) (start .args .low .now) (start .args .report .now)
-          (start .args .a) ((at-loop .loop .b) + 1))
+          (answerText _ _ _ _ _
+          _) (rowText _ _ _ _
+          _ (_ + 1))
           (subst (λ (t : List ℕ). Left (start .args .buffer .now) (at-loop .loop .buffer) (start .args .at) (at-loop .loop .i)
           (rowText (start .args .n) (start .args .full .now) (start .args .low .now) (start .args .report .now) (start .args .a)
-          ((start .args .a) + 1)) t) (row-next (start .args .n) (start .args .full .now) (start .args .low .now) (start .args .report .now)
-          (start .args .a) (at-loop .loop .b) (at-loop-test .loop-test .taken)) (at-loop .loop .inv .1)),
+          ((start .args .a) + 1)) t) (row-next _ _ _ _
+          _ _ (at-loop-test .loop-test .taken)) (at-loop .loop .inv .1)),
     )
 
 add-b-2 : tie.Need-add-b-2 Inv-loop μ-loop
-add-b-2 c =
-    let start = c .before .before .before .before .before .before .before .before .before .before in
-    omega (arith, (start .pre .0), (c .before .before .before .before .loop-test .taken))
+add-b-2 c = search needs
 
 loop-less : tie.Need-loop-less Inv-loop μ-loop
-loop-less c = omega (arith, (c .before .before .before .before .loop-test .taken))
+loop-less c = search needs
 
 loop-again : tie.Need-loop-again Inv-loop μ-loop
 loop-again c =
     let start = c .before .before .before .before .before .before .before .before .before .before in
     let at-loop = c .before .before .before .before .before in
     let at-loop-test = c .before .before .before .before in (
-      omega (arith, (at-loop-test .loop-test .taken)),
+      omega arith,
       left-more _ _ _ (start .pre .1) _ _
-          (answerText (start .args .n) (start .args .full .now) (start .args .low .now) (start .args .report .now) (start .args .a)
-          (at-loop .loop .b)) (rowText (start .args .n) (start .args .full .now) (start .args .low .now) (start .args .report .now)
-          (start .args .a) ((at-loop .loop .b) + 1))
+          (answerText _ _ _ _ _
+          _) (rowText _ _ _ _
+          _ (_ + 1))
           (subst (λ (t : List ℕ). Left (start .args .buffer .now) (at-loop .loop .buffer) (start .args .at) (at-loop .loop .i)
           (rowText (start .args .n) (start .args .full .now) (start .args .low .now) (start .args .report .now) (start .args .a)
-          ((start .args .a) + 1)) t) (row-next (start .args .n) (start .args .full .now) (start .args .low .now) (start .args .report .now)
-          (start .args .a) (at-loop .loop .b) (at-loop-test .loop-test .taken)) (at-loop .loop .inv .1)) _ _
+          ((start .args .a) + 1)) t) (row-next _ _ _ _
+          _ _ (at-loop-test .loop-test .taken)) (at-loop .loop .inv .1)) _ _
           (c .before .before .write-answer .ensures),
     )
 
@@ -82,8 +81,8 @@ returns c =
     left-none _ _ _ (start .pre .1) _ _ (subst (λ (t : List ℕ). Left (start .args .buffer .now) (at-loop .loop .buffer) (start .args .at)
     (at-loop .loop .i) (rowText (start .args .n) (start .args .full .now) (start .args .low .now) (start .args .report .now)
     (start .args .a) ((start .args .a) + 1)) t)
-    (row-end (start .args .n) (start .args .full .now) (start .args .low .now) (start .args .report .now) (start .args .a)
-    (at-loop .loop .b) (c .loop-test .left)) (at-loop .loop .inv .1))
+    (row-end _ _ _ _ _
+    _ (c .loop-test .left)) (at-loop .loop .inv .1))
 
 pub write-row-spec : {M : Type 1} → statement M
 write-row-spec =

@@ -17,9 +17,8 @@ same-length c = search needs
 
 returns : tie.Need-returns
 returns c =
-    let start = c .before .before .before .before .before .before .before .before .before in
     let at-write-byte = c .before .before .before .before .before .before in
-    wrote-then (omega (arith, (start .pre))) (at-write-byte .write-byte .ensures) (c .before .before .write-byte2 .ensures)
+    wrote-then (omega arith) (at-write-byte .write-byte .ensures) (c .before .before .write-byte2 .ensures)
 
 pub write-two-spec : {M : Type 1} → statement M
 write-two-spec = tie.close (tie.spec write-byte-requires write-byte-requires-2 same-length returns)

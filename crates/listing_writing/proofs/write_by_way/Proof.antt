@@ -19,37 +19,33 @@ returns : tie.Need-returns
 returns c =
     let start = c .before .before .before .before .before .before .before .before in
     let wrote = c .before .before .before .write-text in (
-      listing-short (listing (start .args .text .now)) _ (wrote .last .1 .0) (wrote .result) (wrote .ensures) (start .args .buffer .now)
+      listing-short (listing _) _ _ _ (wrote .ensures) _
           (c .if1 .taken),
-      listing-fits (listing (start .args .text .now)) _ (wrote .last .1 .0) (wrote .result) (wrote .ensures)
+      listing-fits (listing _) _ _ _ (wrote .ensures)
           (wrote .kept .1 .0 ∙ start .pre),
     )
 
 slice-reshare-prefix-copy8 : tie.Need-slice-reshare-prefix-copy8
 slice-reshare-prefix-copy8 c =
-    let start = c .before .before .before .before .before .before .before .before in
     let at-write-text = c .before .before .before in
-    front-fits (listing (start .args .text .now)) _ (at-write-text .write-text .last .1 .0) (at-write-text .write-text .result)
+    front-fits (listing _) _ _ _
     (at-write-text .write-text .ensures)
 
 slice-aggregate-copy8 : tie.Need-slice-aggregate-copy8
 slice-aggregate-copy8 c =
-    let start = c .before .before .before .before .before .before .before .before .before in
     let at-write-text = c .before .before .before .before in
-    sym (length-take-le (at-write-text .write-text .result) (at-write-text .write-text .last .1 .0)
-    (front-fits (listing (start .args .text .now)) _ (at-write-text .write-text .last .1 .0) (at-write-text .write-text .result)
+    sym (length-take-le _ _
+    (front-fits (listing _) _ _ _
     (at-write-text .write-text .ensures)))
 
 copy8-requires : tie.Need-copy8-requires
 copy8-requires c κs =
-    let start = c .before .before .before .before .before .before .before .before .before .before in
     let at-write-text = c .before .before .before .before .before in
     omega (
       arith,
-      length-take-le (at-write-text .write-text .result) (at-write-text .write-text .last .1 .0)
-          (front-fits (listing (start .args .text .now)) _ (at-write-text .write-text .last .1 .0) (at-write-text .write-text .result)
+      length-take-le _ (at-write-text .write-text .last .1 .0)
+          (front-fits (listing _) _ _ _
           (at-write-text .write-text .ensures)),
-      c .before .before .if1 .left,
     )
 
 same-length-2 : tie.Need-same-length-2
@@ -63,9 +59,9 @@ returns-2 c =
     let at-write-text = c .before .before .before .before .before .before .before .before in
     let start = c .before .before .before .before .before .before .before .before .before .before .before .before .before in
     let wrote = at-write-text .write-text in (
-      listing-whole (listing (start .args .text .now)) _ (wrote .last .1 .0) (wrote .result) (wrote .ensures) (start .args .buffer .now)
+      listing-whole (listing _) _ _ _ (wrote .ensures) _
           (c .before .before .before .before .before .if1 .left) _ _ (c .before .before .copy8 .ensures),
-      listing-fits (listing (start .args .text .now)) _ (wrote .last .1 .0) (wrote .result) (wrote .ensures)
+      listing-fits (listing _) _ _ _ (wrote .ensures)
           (wrote .kept .1 .0 ∙ start .pre),
     )
 

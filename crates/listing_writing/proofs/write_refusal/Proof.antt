@@ -1,5 +1,6 @@
 -- `listing_writing::write_refusal` meets its contract: the letter, the number and the line feed, one behind the other.
 -- Assumes nothing.
+use native.Mathlib.Omega.{arith}
 use mathlib.Core.Path.{subst}
 use mathlib.Core.List.{[], _∷_, _++_}
 use Prim.Native.Nat.{ℕ}
@@ -23,11 +24,11 @@ write-field-requires : tie.Need-write-field-requires
 unfolding listingText
 write-field-requires c κs =
     let start = c .before .before .before .before .before .before .before in
-    left-fits _ _ _ (refusal-room (start .args .refusal) (c .refusal-number .result) (c .refusal-number .ensures)
-    (start .args .buffer .now) (start .pre)) _ _ (44 ∷ digits (c .refusal-number .result)) ((10 ∷ []) ++ [])
-    (left-more (start .args .buffer .now) 0 (listingText (refused (c .refusal-number .result)))
-    (refusal-room (start .args .refusal) (c .refusal-number .result) (c .refusal-number .ensures) (start .args .buffer .now)
-    (start .pre)) _ _ (88 ∷ []) ((44 ∷ digits (c .refusal-number .result)) ++ ((10 ∷ []) ++ [])) (left-all _ _ _) _ _
+    left-fits _ _ _ (refusal-room (start .args .refusal) _ (c .refusal-number .ensures)
+    (start .args .buffer .now) (start .pre)) _ _ (44 ∷ digits _) ((10 ∷ []) ++ [])
+    (left-more _ 0 (listingText (refused _))
+    (refusal-room (start .args .refusal) _ (c .refusal-number .ensures) (start .args .buffer .now)
+    (start .pre)) _ _ (88 ∷ []) ((44 ∷ digits _) ++ ((10 ∷ []) ++ [])) (left-all _ _ _) _ _
     (c .before .before .before .before .write-byte .ensures))
 
 write-byte-requires-2 : tie.Need-write-byte-requires-2
@@ -36,15 +37,15 @@ write-byte-requires-2 c κs =
     let start = c .before .before .before .before .before .before .before .before .before .before .before in
     let at-write-byte = c .before .before .before .before .before .before .before .before in
     let at-refusal-number = c .before .before .before .before in
-    left-fits _ _ _ (refusal-room (start .args .refusal) (at-refusal-number .refusal-number .result)
+    left-fits _ _ _ (refusal-room (start .args .refusal) _
     (at-refusal-number .refusal-number .ensures) (start .args .buffer .now) (start .pre)) _ _ (10 ∷ []) []
-    (left-more _ _ _ (refusal-room (start .args .refusal) (at-refusal-number .refusal-number .result)
+    (left-more _ _ _ (refusal-room (start .args .refusal) _
     (at-refusal-number .refusal-number .ensures) (start .args .buffer .now) (start .pre)) _ _
-    (44 ∷ digits (at-refusal-number .refusal-number .result)) ((10 ∷ []) ++ [])
-    (left-more (start .args .buffer .now) 0 (listingText (refused (at-refusal-number .refusal-number .result)))
-    (refusal-room (start .args .refusal) (at-refusal-number .refusal-number .result) (at-refusal-number .refusal-number .ensures)
+    (44 ∷ digits _) ((10 ∷ []) ++ [])
+    (left-more _ 0 (listingText (refused _))
+    (refusal-room (start .args .refusal) _ (at-refusal-number .refusal-number .ensures)
     (start .args .buffer .now) (start .pre)) _ _ (88 ∷ [])
-    ((44 ∷ digits (at-refusal-number .refusal-number .result)) ++ ((10 ∷ []) ++ [])) (left-all _ _ _) _ _
+    ((44 ∷ digits _) ++ ((10 ∷ []) ++ [])) (left-all _ _ _) _ _
     (at-write-byte .write-byte .ensures)) _ _ (c .before .before .before .write-field .ensures))
 
 same-length : tie.Need-same-length
@@ -60,17 +61,17 @@ returns c =
     let at-write-byte2 = c .before .before in
     subst (λ (k : ℕ). Wrote (start .args .buffer .now) (at-write-byte2 .write-byte2 .last .0) 0 (at-write-byte2 .write-byte2 .result)
     (listingText (refused k))) (at-refusal-number .refusal-number .ensures)
-    (left-none _ _ _ (refusal-room (start .args .refusal) (at-refusal-number .refusal-number .result)
+    (left-none _ _ _ (refusal-room (start .args .refusal) _
     (at-refusal-number .refusal-number .ensures) (start .args .buffer .now) (start .pre)) _ _
-    (left-more _ _ _ (refusal-room (start .args .refusal) (at-refusal-number .refusal-number .result)
+    (left-more _ _ _ (refusal-room (start .args .refusal) _
     (at-refusal-number .refusal-number .ensures) (start .args .buffer .now) (start .pre)) _ _ (10 ∷ []) []
-    (left-more _ _ _ (refusal-room (start .args .refusal) (at-refusal-number .refusal-number .result)
+    (left-more _ _ _ (refusal-room (start .args .refusal) _
     (at-refusal-number .refusal-number .ensures) (start .args .buffer .now) (start .pre)) _ _
-    (44 ∷ digits (at-refusal-number .refusal-number .result)) ((10 ∷ []) ++ [])
-    (left-more (start .args .buffer .now) 0 (listingText (refused (at-refusal-number .refusal-number .result)))
-    (refusal-room (start .args .refusal) (at-refusal-number .refusal-number .result) (at-refusal-number .refusal-number .ensures)
+    (44 ∷ digits _) ((10 ∷ []) ++ [])
+    (left-more _ 0 (listingText (refused _))
+    (refusal-room (start .args .refusal) _ (at-refusal-number .refusal-number .ensures)
     (start .args .buffer .now) (start .pre)) _ _ (88 ∷ [])
-    ((44 ∷ digits (at-refusal-number .refusal-number .result)) ++ ((10 ∷ []) ++ [])) (left-all _ _ _) _ _
+    ((44 ∷ digits _) ++ ((10 ∷ []) ++ [])) (left-all _ _ _) _ _
     (at-write-byte .write-byte .ensures)) _ _ (at-write-field .write-field .ensures)) _ _ (at-write-byte2 .write-byte2 .ensures)))
 
 pub write-refusal-spec : {M : Type 1} → statement M

@@ -15,40 +15,40 @@ use Rattle.listing_writing.proofs.write_survey.Tie as tie
 mul-size : tie.Need-mul-size
 mul-size c =
     let start = c .before .before .before in
-    omega (arith, (square-most (start .args .n) (start .pre .1)))
+    omega (arith, (square-most _ (start .pre .1)))
 
 array-borrow-prefix-full : tie.Need-array-borrow-prefix-full
 array-borrow-prefix-full c =
     let start = c .before .before .before in
-    (square-most (start .args .n) (start .pre .1))
+    (square-most _ (start .pre .1))
 
 slice-aggregate-write-tables : tie.Need-slice-aggregate-write-tables
 slice-aggregate-write-tables c =
     let start = c .before .before .before .before in
-    sym (length-take-le ((start .args .n) * (start .args .n)) (replicate {A = ℕ} 16384 0)
-    (omega (arith, length-replicate {A = ℕ} 16384 0, (square-most (start .args .n) (start .pre .1)))))
+    sym (length-take-le (_ * _) (replicate {A = ℕ} 16384 0)
+    (omega (arith, (square-most _ (start .pre .1)))))
 
 array-borrow-prefix-low : tie.Need-array-borrow-prefix-low
 array-borrow-prefix-low c =
     let start = c .before .before .before .before in
-    (square-most (start .args .n) (start .pre .1))
+    (square-most _ (start .pre .1))
 
 slice-aggregate-write-tables-2 : tie.Need-slice-aggregate-write-tables-2
 slice-aggregate-write-tables-2 c =
     let start = c .before .before .before .before .before in
-    sym (length-take-le ((start .args .n) * (start .args .n)) (replicate {A = ℕ} 16384 0)
-    (omega (arith, length-replicate {A = ℕ} 16384 0, (square-most (start .args .n) (start .pre .1)))))
+    sym (length-take-le (_ * _) (replicate {A = ℕ} 16384 0)
+    (omega (arith, (square-most _ (start .pre .1)))))
 
 array-borrow-prefix-report : tie.Need-array-borrow-prefix-report
 array-borrow-prefix-report c =
     let start = c .before .before .before .before .before in
-    (square-most (start .args .n) (start .pre .1))
+    (square-most _ (start .pre .1))
 
 slice-aggregate-write-tables-3 : tie.Need-slice-aggregate-write-tables-3
 slice-aggregate-write-tables-3 c =
     let start = c .before .before .before .before .before .before in
-    sym (length-take-le ((start .args .n) * (start .args .n)) (replicate {A = ℕ} 16384 0)
-    (omega (arith, length-replicate {A = ℕ} 16384 0, (square-most (start .args .n) (start .pre .1)))))
+    sym (length-take-le (_ * _) (replicate {A = ℕ} 16384 0)
+    (omega (arith, (square-most _ (start .pre .1)))))
 
 write-tables-requires : tie.Need-write-tables-requires
 write-tables-requires c κs =
@@ -56,18 +56,17 @@ write-tables-requires c κs =
       (
         (start .pre .0),
         (start .pre .1),
-        (length-take-le ((start .args .n) * (start .args .n)) (replicate {A = ℕ} 16384 0)
-            (omega (arith, length-replicate {A = ℕ} 16384 0, (square-most (start .args .n) (start .pre .1))))),
-        (length-take-le ((start .args .n) * (start .args .n)) (replicate {A = ℕ} 16384 0)
-            (omega (arith, length-replicate {A = ℕ} 16384 0, (square-most (start .args .n) (start .pre .1))))),
-        (length-take-le ((start .args .n) * (start .args .n)) (replicate {A = ℕ} 16384 0)
-            (omega (arith, length-replicate {A = ℕ} 16384 0, (square-most (start .args .n) (start .pre .1))))),
+        (length-take-le (_ * _) (replicate {A = ℕ} 16384 0)
+            (omega (arith, (square-most _ (start .pre .1))))),
+        (length-take-le (_ * _) (replicate {A = ℕ} 16384 0)
+            (omega (arith, (square-most _ (start .pre .1))))),
+        (length-take-le (_ * _) (replicate {A = ℕ} 16384 0)
+            (omega (arith, (square-most _ (start .pre .1))))),
       ),
       omega (
         arith,
-        listing-few (start .args .n) (neighboursOf (start .args .starts .now) (start .args .neighbours .now))
+        listing-few _ (neighboursOf _ _)
             (start .pre .0 .lists .graph) (start .pre .1),
-        (start .pre .2),
       ),
     )
 

@@ -29,17 +29,14 @@ cast-write-line c = search needs
 
 cast-write-line-2 : tie.Need-cast-write-line-2
 cast-write-line-2 c =
-    let start = c .before .before .before .before .before .before .before .before .before .before .before .before .before .before .before .before .before .before .before .before in
-    let at-threshold-at = c .before .before .before .before .before .before .before .before .before .before .before .before .before in
     let at-build-tables = c .before .before .before .before .before .before .before .before in
     omega (
       arith,
-      (count-few (start .args .n) (at-threshold-at .threshold-at .result)
-          (neighboursOf (start .args .starts .now) (start .args .neighbours .now)) (start .args .full .now) (start .args .low .now)
-          (start .args .report .now) _ (at-build-tables .build-tables .last .1 .1 .1 .1 .0)
-          (at-build-tables .build-tables .last .1 .1 .1 .1 .1 .0) (at-build-tables .build-tables .last .1 .1 .1 .1 .1 .1 .0) _
-          (at-build-tables .build-tables .result) (at-build-tables .build-tables .ensures)),
-      (start .pre .0 .1),
+      (count-few _ _
+          (neighboursOf _ _) _ _
+          _ _ _
+          _ _ _
+          _ (at-build-tables .build-tables .ensures)),
     )
 
 write-line-requires : tie.Need-write-line-requires
@@ -49,17 +46,16 @@ write-line-requires c κs =
     let at-build-tables = c .before .before .before .before .before .before .before .before in
     (omega (
       arith,
-      ap length (listing-by-tables (start .args .n) (at-threshold-at .threshold-at .result)
-          (neighboursOf (start .args .starts .now) (start .args .neighbours .now)) (start .args .full .now) (start .args .low .now)
-          (start .args .report .now) _ (at-build-tables .build-tables .last .1 .1 .1 .1 .0)
-          (at-build-tables .build-tables .last .1 .1 .1 .1 .1 .0) (at-build-tables .build-tables .last .1 .1 .1 .1 .1 .1 .0) _
-          (at-build-tables .build-tables .result) (at-build-tables .build-tables .ensures) (at-threshold-at .threshold-at .ensures)
+      ap length (listing-by-tables _ _
+          (neighboursOf _ _) _ _
+          _ _ _
+          _ _ _
+          _ (at-build-tables .build-tables .ensures) (at-threshold-at .threshold-at .ensures)
           (start .pre .0 .2) (start .pre .0 .3) (start .pre .0 .4)),
       length-append
           (lineOf 82 (start .args .n) (at-build-tables .build-tables .result))
           (pairLines (start .args .n) (at-build-tables .build-tables .last .1 .1 .1 .1 .0)
           (at-build-tables .build-tables .last .1 .1 .1 .1 .1 .0) (at-build-tables .build-tables .last .1 .1 .1 .1 .1 .1 .0)),
-      (start .pre .1),
     ))
 
 write-pairs-requires : tie.Need-write-pairs-requires
@@ -69,29 +65,26 @@ write-pairs-requires c κs =
     let at-build-tables = c .before .before .before .before .before .before .before .before .before .before .before .before .before .before .before in
     let at-write-line = c .before .before .before .before .before .before in (
       (
-        omega (arith, (start .pre .0 .1)),
-        omega (arith, (at-build-tables .build-tables .kept .1 .1 .1 .1 .0), (start .pre .0 .2)),
-        omega
-            (arith, (at-build-tables .build-tables .kept .1 .1 .1 .1 .1 .0), (start .pre .0 .3)),
-        omega
-            (arith, (at-build-tables .build-tables .kept .1 .1 .1 .1 .1 .1 .0), (start .pre .0 .4)),
+        omega arith,
+        omega arith,
+        omega arith,
+        omega arith,
       ),
       wrote-room
-          (pairLines (start .args .n) (at-build-tables .build-tables .last .1 .1 .1 .1 .0)
-          (at-build-tables .build-tables .last .1 .1 .1 .1 .1 .0) (at-build-tables .build-tables .last .1 .1 .1 .1 .1 .1 .0))
+          (pairLines _ _
+          _ _)
           (omega (
             arith,
-            ap length (listing-by-tables (start .args .n) (at-threshold-at .threshold-at .result)
-                (neighboursOf (start .args .starts .now) (start .args .neighbours .now)) (start .args .full .now) (start .args .low .now)
-                (start .args .report .now) _ (at-build-tables .build-tables .last .1 .1 .1 .1 .0)
-                (at-build-tables .build-tables .last .1 .1 .1 .1 .1 .0) (at-build-tables .build-tables .last .1 .1 .1 .1 .1 .1 .0) _
-                (at-build-tables .build-tables .result) (at-build-tables .build-tables .ensures) (at-threshold-at .threshold-at .ensures)
+            ap length (listing-by-tables _ _
+                (neighboursOf _ _) _ _
+                _ _ _
+                _ _ _
+                _ (at-build-tables .build-tables .ensures) (at-threshold-at .threshold-at .ensures)
                 (start .pre .0 .2) (start .pre .0 .3) (start .pre .0 .4)),
             length-append
                 (lineOf 82 (start .args .n) (at-build-tables .build-tables .result))
                 (pairLines (start .args .n) (at-build-tables .build-tables .last .1 .1 .1 .1 .0)
                 (at-build-tables .build-tables .last .1 .1 .1 .1 .1 .0) (at-build-tables .build-tables .last .1 .1 .1 .1 .1 .1 .0)),
-            (start .pre .1),
           )) (at-write-line .write-line .ensures),
     )
 
@@ -116,25 +109,24 @@ returns c =
     let at-write-pairs = c .before .before in
     subst (λ (t : List ℕ). Wrote (start .args .buffer .now) (at-write-pairs .write-pairs .last .1 .1 .1 .1 .0) 0
     (at-write-pairs .write-pairs .result) t)
-    (listing-by-tables (start .args .n) (at-threshold-at .threshold-at .result)
-    (neighboursOf (start .args .starts .now) (start .args .neighbours .now)) (start .args .full .now) (start .args .low .now)
-    (start .args .report .now) _ (at-build-tables .build-tables .last .1 .1 .1 .1 .0)
-    (at-build-tables .build-tables .last .1 .1 .1 .1 .1 .0) (at-build-tables .build-tables .last .1 .1 .1 .1 .1 .1 .0) _
-    (at-build-tables .build-tables .result) (at-build-tables .build-tables .ensures) (at-threshold-at .threshold-at .ensures)
+    (listing-by-tables _ _
+    (neighboursOf _ _) _ _
+    _ _ _
+    _ _ _
+    _ (at-build-tables .build-tables .ensures) (at-threshold-at .threshold-at .ensures)
     (start .pre .0 .2) (start .pre .0 .3) (start .pre .0 .4))
     (wrote-then (omega (
       arith,
-      ap length (listing-by-tables (start .args .n) (at-threshold-at .threshold-at .result)
-          (neighboursOf (start .args .starts .now) (start .args .neighbours .now)) (start .args .full .now) (start .args .low .now)
-          (start .args .report .now) _ (at-build-tables .build-tables .last .1 .1 .1 .1 .0)
-          (at-build-tables .build-tables .last .1 .1 .1 .1 .1 .0) (at-build-tables .build-tables .last .1 .1 .1 .1 .1 .1 .0) _
-          (at-build-tables .build-tables .result) (at-build-tables .build-tables .ensures) (at-threshold-at .threshold-at .ensures)
+      ap length (listing-by-tables _ _
+          (neighboursOf _ _) _ _
+          _ _ _
+          _ _ _
+          _ (at-build-tables .build-tables .ensures) (at-threshold-at .threshold-at .ensures)
           (start .pre .0 .2) (start .pre .0 .3) (start .pre .0 .4)),
       length-append
           (lineOf 82 (start .args .n) (at-build-tables .build-tables .result))
           (pairLines (start .args .n) (at-build-tables .build-tables .last .1 .1 .1 .1 .0)
           (at-build-tables .build-tables .last .1 .1 .1 .1 .1 .0) (at-build-tables .build-tables .last .1 .1 .1 .1 .1 .1 .0)),
-      (start .pre .1),
     )) (at-write-line .write-line .ensures) (at-write-pairs .write-pairs .ensures))
 
 pub write-tables-spec : {M : Type 1} → statement M

@@ -1,5 +1,6 @@
 -- `listing_writing::write_text` meets its contract: what reading says is listed.
 -- Assumes nothing.
+use native.Mathlib.Omega.{arith}
 use mathlib.Core.Path.{sym, ap, _∙_, subst}
 use mathlib.Core.List.{List}
 use Prim.Native.Nat.{ℕ}
@@ -41,12 +42,12 @@ write-survey-requires c κs =
     let start = c .before .before .before .before .before .before .before .before .before .before .before .before .before in
     let at-read-within = c .before .before .before .before .before .before .before .before in
     let at-size = c .before .before .before .before in (
-      (listing-read (start .args .text .now) _ _ (length-replicate {A = ℕ} 129 0) (length-replicate {A = ℕ} 4096 0)
-          (at-read-within .read-within .last .1 .1 .1 .0) (at-read-within .read-within .last .1 .1 .1 .1 .0) (at-size .size .given .0 .0)
+      (listing-read _ _ _ (length-replicate {A = ℕ} 129 0) (length-replicate {A = ℕ} 4096 0)
+          _ _ _
           (sym (ap (λ (z : Reading). readReturned z (at-read-within .read-within .last .1 .1 .1 .0)
           (at-read-within .read-within .last .1 .1 .1 .1 .0)) (at-size .size .given .1)) ∙ (at-read-within .read-within .ensures))) .survey,
-      (listing-read (start .args .text .now) _ _ (length-replicate {A = ℕ} 129 0) (length-replicate {A = ℕ} 4096 0)
-          (at-read-within .read-within .last .1 .1 .1 .0) (at-read-within .read-within .last .1 .1 .1 .1 .0) (at-size .size .given .0 .0)
+      (listing-read _ _ _ (length-replicate {A = ℕ} 129 0) (length-replicate {A = ℕ} 4096 0)
+          _ _ _
           (sym (ap (λ (z : Reading). readReturned z (at-read-within .read-within .last .1 .1 .1 .0)
           (at-read-within .read-within .last .1 .1 .1 .1 .0)) (at-size .size .given .1)) ∙ (at-read-within .read-within .ensures))) .few,
       (start .pre),
@@ -63,8 +64,8 @@ returns c =
     let at-write-refusal = c .before .before in
     subst (λ (t : List ℕ). Wrote (start .args .buffer .now) (at-write-refusal .write-refusal .last .1 .0) 0
     (at-write-refusal .write-refusal .result) t)
-    (listing-refused (start .args .text .now) _ _ (length-replicate {A = ℕ} 129 0) (length-replicate {A = ℕ} 4096 0)
-    (at-read-within .read-within .last .1 .1 .1 .0) (at-read-within .read-within .last .1 .1 .1 .1 .0) (at-r .r .given .0 .0)
+    (listing-refused _ _ _ (length-replicate {A = ℕ} 129 0) (length-replicate {A = ℕ} 4096 0)
+    _ _ (at-r .r .given .0 .0)
     (sym (ap (λ (z : Reading). readReturned z (at-read-within .read-within .last .1 .1 .1 .0)
     (at-read-within .read-within .last .1 .1 .1 .1 .0)) (at-r .r .given .1)) ∙ (at-read-within .read-within .ensures)))
     (at-write-refusal .write-refusal .ensures)
@@ -80,8 +81,8 @@ returns-2 c =
     let at-write-survey = c .before .before in
     subst (λ (t : List ℕ). Wrote (start .args .buffer .now) (at-write-survey .write-survey .last .1 .1 .1 .0) 0
     (at-write-survey .write-survey .result) t)
-    ((listing-read (start .args .text .now) _ _ (length-replicate {A = ℕ} 129 0) (length-replicate {A = ℕ} 4096 0)
-    (at-read-within .read-within .last .1 .1 .1 .0) (at-read-within .read-within .last .1 .1 .1 .1 .0) (at-size .size .given .0 .0)
+    ((listing-read _ _ _ (length-replicate {A = ℕ} 129 0) (length-replicate {A = ℕ} 4096 0)
+    _ _ _
     (sym (ap (λ (z : Reading). readReturned z (at-read-within .read-within .last .1 .1 .1 .0)
     (at-read-within .read-within .last .1 .1 .1 .1 .0)) (at-size .size .given .1)) ∙ (at-read-within .read-within .ensures))) .lines)
     (at-write-survey .write-survey .ensures)

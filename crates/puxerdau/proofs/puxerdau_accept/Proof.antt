@@ -1,5 +1,6 @@
 -- `puxerdau::puxerdau_accept` meets its contract: the outcome, in code.
 -- Assumes nothing.
+use native.Mathlib.Omega.{arith}
 use mathlib.Core.Path.{subst}
 use Rattle.model.specs.Answers.{Outcome}
 use Rattle.base_answer_codes.specs.Code.{noField, noValue, IsCode}

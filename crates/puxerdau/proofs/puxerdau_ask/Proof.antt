@@ -1,5 +1,6 @@
 -- `puxerdau::puxerdau_ask` meets its contract: the outcome, in code, and what asking promises of it.
 -- Assumes nothing.
+use native.Mathlib.Omega.{arith}
 use mathlib.Core.Path.{sym, subst}
 use Rattle.model.specs.declared.Answer.{Answer}
 use Rattle.model.specs.Answers.{Outcome}

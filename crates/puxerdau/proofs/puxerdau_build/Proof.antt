@@ -17,12 +17,11 @@ build-requires c κs = search needs
 counting-code-requires : tie.Need-counting-code-requires
 counting-code-requires c κs =
     let at-build = c .before .before .before .before .before .before .before .before in
-    let start = c .before .before .before .before .before .before .before .before .before .before .before .before .before .before .before .before .before .before .before in
     let call = at-build .build in
     λ k e. omega (
       arith,
-      hubs-fit (start .args .n) (start .args .starts .now) (start .args .neighbours .now) (start .args .full .now) (start .args .low .now)
-          (start .args .report .now) (start .args .hubs .now) k (sym (ap (λ (x : AfterBuilding). x .answer) (call .ensures .0)) ∙ e),
+      hubs-fit _ _ _ _ _
+          _ _ k (sym (ap (λ (x : AfterBuilding). x .answer) (call .ensures .0)) ∙ e),
     )
 
 same-length : tie.Need-same-length

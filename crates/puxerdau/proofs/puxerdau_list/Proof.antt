@@ -19,13 +19,11 @@ write-listing-requires c κs = search needs
 
 counting-code-requires : tie.Need-counting-code-requires
 counting-code-requires c κs =
-    let start = c .before .before .before .before .before .before in
     let call = c .before .before .write-listing in
     λ k e. omega (
       arith,
-      listing-fits (start .args .text .now) (start .args .buffer .now) k
+      listing-fits _ _ k
           (sym (ap (λ (x : AfterWriting). x .answer) (call .ensures .0)) ∙ e),
-      call .ensures .1,
     )
 
 same-length : tie.Need-same-length

@@ -20,9 +20,9 @@ reading-code-requires c κs =
     let start = c .before .before .before .before .before .before .before .before .before .before in
     let call = c .before .before .before .before .read-survey in
     λ s e.
-    let f = read-fits (start .args .text .now) (length (start .args .starts .now)) (length (start .args .neighbours .now)) s
+    let f = read-fits _ (length (start .args .starts .now)) (length (start .args .neighbours .now)) s
     (sym (ap (λ (x : AfterReading). x .answer) (call .ensures .0)) ∙ e) in
-    (omega (arith, f .0), omega (arith, f .1))
+    (omega arith, omega arith)
 
 same-length : tie.Need-same-length
 same-length c = search needs

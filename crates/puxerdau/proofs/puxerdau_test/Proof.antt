@@ -15,8 +15,8 @@ test-requires : tie.Need-test-requires
 test-requires c κs = search needs
 
 testing-code-requires : tie.Need-testing-code-requires
-testing-code-requires c κs = let start = c .before .before .before in λ t e. omega
-    (arith, searches-fit (start .args .n) (start .args .starts .now) (start .args .neighbours .now) t (sym (c .test .ensures .0) ∙ e))
+testing-code-requires c κs = λ t e. omega
+    (arith, searches-fit _ _ _ t (sym (c .test .ensures .0) ∙ e))
 
 returns : tie.Need-returns
 returns c =

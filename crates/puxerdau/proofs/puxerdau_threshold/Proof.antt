@@ -14,7 +14,7 @@ threshold-of-requires : tie.Need-threshold-of-requires
 threshold-of-requires c κs = search needs
 
 counting-code-requires : tie.Need-counting-code-requires
-counting-code-requires c κs = λ k e. omega (arith, threshold-fits (c .before .args .n) k (sym (c .threshold-of .ensures) ∙ e))
+counting-code-requires c κs = λ k e. omega (arith, threshold-fits _ k (sym (c .threshold-of .ensures) ∙ e))
 
 returns : tie.Need-returns
 returns c = subst (λ (o : Outcome ℕ). IsCode countField countIn o (c .counting-code .result)) (c .before .threshold-of .ensures)

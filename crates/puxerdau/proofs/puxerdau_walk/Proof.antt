@@ -1,5 +1,6 @@
 -- `puxerdau::puxerdau_walk` meets its contract: the outcome, in code, and what writing a walk promises of it.
 -- Assumes nothing.
+use native.Mathlib.Omega.{arith}
 use mathlib.Core.Path.{refl}
 use lib.ListN.{length}
 use Rattle.model.specs.Survey.{neighboursOf}

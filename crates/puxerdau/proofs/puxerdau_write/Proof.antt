@@ -16,11 +16,10 @@ write-survey-requires c κs = search needs
 
 counting-code-requires : tie.Need-counting-code-requires
 counting-code-requires c κs =
-    let start = c .before .before .before .before .before .before .before in
     let call = c .before .before .write-survey in
     λ k e. omega (
       arith,
-      text-fits (start .args .n) (start .args .starts .now) (start .args .neighbours .now) (start .args .buffer .now) k
+      text-fits _ _ _ _ k
           (sym (ap (λ (x : AfterWriting). x .answer) (call .ensures .0)) ∙ e),
     )
 

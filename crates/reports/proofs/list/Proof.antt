@@ -1,5 +1,6 @@
 -- `reports::list` is safe: the length that listing answers is within its buffer.
 -- Assumes nothing.
+use native.Mathlib.Omega.{arith}
 use mathlib.Core.Path.{sym, ap, _∙_}
 use lib.Seq.{length-take-le}
 use Rattle.model.specs.declared.Counting.{Counting}
@@ -32,7 +33,7 @@ slice-reshare-prefix-write-all : tie.Need-slice-reshare-prefix-write-all
 slice-reshare-prefix-write-all c =
     let at-write-listing = c .before .before .before .before .before in
     let at-k = c .before in
-    write-fits (listing _) _ (at-k .k .given .0 .0) (at-write-listing .write-listing .last .1 .0)
+    write-fits (listing _) _ _ _
     (sym (ap (λ (z : Counting). writeReturned z (at-write-listing .write-listing .last .1 .0)) (at-k .k .given .1)) ∙
     (at-write-listing .write-listing .ensures .0))
 
@@ -40,8 +41,8 @@ slice-aggregate-write-all : tie.Need-slice-aggregate-write-all
 slice-aggregate-write-all c =
     let at-write-listing = c .before .before .before .before .before .before in
     let at-k = c .before .before in
-    sym (length-take-le (at-k .k .given .0 .0) (at-write-listing .write-listing .last .1 .0)
-    (write-fits (listing _) _ (at-k .k .given .0 .0) (at-write-listing .write-listing .last .1 .0)
+    sym (length-take-le _ _
+    (write-fits (listing _) _ _ _
     (sym (ap (λ (z : Counting). writeReturned z (at-write-listing .write-listing .last .1 .0)) (at-k .k .given .1)) ∙
     (at-write-listing .write-listing .ensures .0))))
 

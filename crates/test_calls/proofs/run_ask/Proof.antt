@@ -30,21 +30,15 @@ element-copy-out-ask c = search needs
 
 slice-aggregate-ask : tie.Need-slice-aggregate-ask
 slice-aggregate-ask c =
-    let start = c .before .before .before .before .before .before .before .before .before .before .before in
-    let at-at-most = c .before .before .before .before .before .before in
-    sym (length-take-le (at-at-most .at-most .result) (start .args .full .now) (omega (arith, at-at-most .at-most .ensures)))
+    sym (length-take-le _ _ (omega arith))
 
 slice-aggregate-ask-2 : tie.Need-slice-aggregate-ask-2
 slice-aggregate-ask-2 c =
-    let start = c .before .before .before .before .before .before .before .before .before .before .before .before in
-    let at-at-most2 = c .before .before .before .before .before in
-    sym (length-take-le (at-at-most2 .at-most2 .result) (start .args .low .now) (omega (arith, at-at-most2 .at-most2 .ensures)))
+    sym (length-take-le _ _ (omega arith))
 
 slice-aggregate-ask-3 : tie.Need-slice-aggregate-ask-3
 slice-aggregate-ask-3 c =
-    let start = c .before .before .before .before .before .before .before .before .before .before .before .before .before in
-    let at-at-most3 = c .before .before .before .before in
-    sym (length-take-le (at-at-most3 .at-most3 .result) (start .args .report .now) (omega (arith, at-at-most3 .at-most3 .ensures)))
+    sym (length-take-le _ _ (omega arith))
 
 ask-requires : tie.Need-ask-requires
 ask-requires c κs = search needs

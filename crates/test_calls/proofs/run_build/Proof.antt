@@ -48,51 +48,39 @@ element-copy-out-build c = search needs
 
 slice-aggregate-build : tie.Need-slice-aggregate-build
 slice-aggregate-build c =
-    let start = c .before .before .before .before .before .before .before .before .before .before .before .before .before .before .before .before .before .before .before .before in
-    let at-at-most = c .before .before .before .before .before .before .before .before .before .before .before .before in
-    sym (length-take-le (at-at-most .at-most .result) (start .args .starts .now) (omega (arith, at-at-most .at-most .ensures)))
+    sym (length-take-le _ _ (omega arith))
 
 slice-aggregate-build-2 : tie.Need-slice-aggregate-build-2
 slice-aggregate-build-2 c =
-    let start = c .before .before .before .before .before .before .before .before .before .before .before .before .before .before .before .before .before .before .before .before .before in
-    let at-at-most2 = c .before .before .before .before .before .before .before .before .before .before .before in
-    sym (length-take-le (at-at-most2 .at-most2 .result) (start .args .neighbours .now) (omega (arith, at-at-most2 .at-most2 .ensures)))
+    sym (length-take-le _ _ (omega arith))
 
 slice-relend-prefix-build : tie.Need-slice-relend-prefix-build
 slice-relend-prefix-build c = search needs
 
 slice-aggregate-build-3 : tie.Need-slice-aggregate-build-3
 slice-aggregate-build-3 c =
-    let start = c .before .before .before .before .before .before .before .before .before .before .before .before .before .before .before .before .before .before .before .before .before .before in
-    let at-at-most3 = c .before .before .before .before .before .before .before .before .before .before in
-    sym (length-take-le (at-at-most3 .at-most3 .result) (start .args .full .now) (omega (arith, at-at-most3 .at-most3 .ensures)))
+    sym (length-take-le _ _ (omega arith))
 
 slice-relend-prefix-build-2 : tie.Need-slice-relend-prefix-build-2
 slice-relend-prefix-build-2 c = search needs
 
 slice-aggregate-build-4 : tie.Need-slice-aggregate-build-4
 slice-aggregate-build-4 c =
-    let start = c .before .before .before .before .before .before .before .before .before .before .before .before .before .before .before .before .before .before .before .before .before .before .before in
-    let at-at-most4 = c .before .before .before .before .before .before .before .before .before in
-    sym (length-take-le (at-at-most4 .at-most4 .result) (start .args .low .now) (omega (arith, at-at-most4 .at-most4 .ensures)))
+    sym (length-take-le _ _ (omega arith))
 
 slice-relend-prefix-build-3 : tie.Need-slice-relend-prefix-build-3
 slice-relend-prefix-build-3 c = search needs
 
 slice-aggregate-build-5 : tie.Need-slice-aggregate-build-5
 slice-aggregate-build-5 c =
-    let start = c .before .before .before .before .before .before .before .before .before .before .before .before .before .before .before .before .before .before .before .before .before .before .before .before in
-    let at-at-most5 = c .before .before .before .before .before .before .before .before in
-    sym (length-take-le (at-at-most5 .at-most5 .result) (start .args .report .now) (omega (arith, at-at-most5 .at-most5 .ensures)))
+    sym (length-take-le _ _ (omega arith))
 
 slice-relend-prefix-build-4 : tie.Need-slice-relend-prefix-build-4
 slice-relend-prefix-build-4 c = search needs
 
 slice-aggregate-build-6 : tie.Need-slice-aggregate-build-6
 slice-aggregate-build-6 c =
-    let start = c .before .before .before .before .before .before .before .before .before .before .before .before .before .before .before .before .before .before .before .before .before .before .before .before .before in
-    let at-at-most6 = c .before .before .before .before .before .before .before in
-    sym (length-take-le (at-at-most6 .at-most6 .result) (start .args .hubs .now) (omega (arith, at-at-most6 .at-most6 .ensures)))
+    sym (length-take-le _ _ (omega arith))
 
 build-requires : tie.Need-build-requires
 build-requires c κs = search needs

@@ -24,15 +24,11 @@ element-copy-out-test c = search needs
 
 slice-aggregate-test : tie.Need-slice-aggregate-test
 slice-aggregate-test c =
-    let start = c .before .before .before .before .before .before .before .before in
-    let at-at-most = c .before .before .before .before in
-    sym (length-take-le (at-at-most .at-most .result) (start .args .starts .now) (omega (arith, at-at-most .at-most .ensures)))
+    sym (length-take-le _ _ (omega arith))
 
 slice-aggregate-test-2 : tie.Need-slice-aggregate-test-2
 slice-aggregate-test-2 c =
-    let start = c .before .before .before .before .before .before .before .before .before in
-    let at-at-most2 = c .before .before .before in
-    sym (length-take-le (at-at-most2 .at-most2 .result) (start .args .neighbours .now) (omega (arith, at-at-most2 .at-most2 .ensures)))
+    sym (length-take-le _ _ (omega arith))
 
 test-requires : tie.Need-test-requires
 test-requires c κs = search needs

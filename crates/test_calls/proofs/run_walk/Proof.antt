@@ -48,42 +48,30 @@ element-copy-out-write-walk c = search needs
 
 slice-aggregate-write-walk : tie.Need-slice-aggregate-write-walk
 slice-aggregate-write-walk c =
-    let start = c .before .before .before .before .before .before .before .before .before .before .before .before .before .before .before .before .before .before .before .before in
-    let at-at-most = c .before .before .before .before .before .before .before .before .before .before .before .before in
-    sym (length-take-le (at-at-most .at-most .result) (start .args .starts .now) (omega (arith, at-at-most .at-most .ensures)))
+    sym (length-take-le _ _ (omega arith))
 
 slice-aggregate-write-walk-2 : tie.Need-slice-aggregate-write-walk-2
 slice-aggregate-write-walk-2 c =
-    let start = c .before .before .before .before .before .before .before .before .before .before .before .before .before .before .before .before .before .before .before .before .before in
-    let at-at-most2 = c .before .before .before .before .before .before .before .before .before .before .before in
-    sym (length-take-le (at-at-most2 .at-most2 .result) (start .args .neighbours .now) (omega (arith, at-at-most2 .at-most2 .ensures)))
+    sym (length-take-le _ _ (omega arith))
 
 slice-aggregate-write-walk-3 : tie.Need-slice-aggregate-write-walk-3
 slice-aggregate-write-walk-3 c =
-    let start = c .before .before .before .before .before .before .before .before .before .before .before .before .before .before .before .before .before .before .before .before .before .before in
-    let at-at-most3 = c .before .before .before .before .before .before .before .before .before .before in
-    sym (length-take-le (at-at-most3 .at-most3 .result) (start .args .full .now) (omega (arith, at-at-most3 .at-most3 .ensures)))
+    sym (length-take-le _ _ (omega arith))
 
 slice-aggregate-write-walk-4 : tie.Need-slice-aggregate-write-walk-4
 slice-aggregate-write-walk-4 c =
-    let start = c .before .before .before .before .before .before .before .before .before .before .before .before .before .before .before .before .before .before .before .before .before .before .before in
-    let at-at-most4 = c .before .before .before .before .before .before .before .before .before in
-    sym (length-take-le (at-at-most4 .at-most4 .result) (start .args .low .now) (omega (arith, at-at-most4 .at-most4 .ensures)))
+    sym (length-take-le _ _ (omega arith))
 
 slice-aggregate-write-walk-5 : tie.Need-slice-aggregate-write-walk-5
 slice-aggregate-write-walk-5 c =
-    let start = c .before .before .before .before .before .before .before .before .before .before .before .before .before .before .before .before .before .before .before .before .before .before .before .before in
-    let at-at-most5 = c .before .before .before .before .before .before .before .before in
-    sym (length-take-le (at-at-most5 .at-most5 .result) (start .args .report .now) (omega (arith, at-at-most5 .at-most5 .ensures)))
+    sym (length-take-le _ _ (omega arith))
 
 slice-relend-prefix-write-walk : tie.Need-slice-relend-prefix-write-walk
 slice-relend-prefix-write-walk c = search needs
 
 slice-aggregate-write-walk-6 : tie.Need-slice-aggregate-write-walk-6
 slice-aggregate-write-walk-6 c =
-    let start = c .before .before .before .before .before .before .before .before .before .before .before .before .before .before .before .before .before .before .before .before .before .before .before .before .before in
-    let at-at-most6 = c .before .before .before .before .before .before .before in
-    sym (length-take-le (at-at-most6 .at-most6 .result) (start .args .walk .now) (omega (arith, at-at-most6 .at-most6 .ensures)))
+    sym (length-take-le _ _ (omega arith))
 
 write-walk-requires : tie.Need-write-walk-requires
 write-walk-requires c κs = search needs

@@ -52,7 +52,7 @@ write-all-requires-3 : tie.Need-write-all-requires-3 Inv-loop μ-loop
 write-all-requires-3 c κs = search needs
 
 returns : tie.Need-returns Inv-loop μ-loop
-returns c = tt
+returns c = search needs
 
 pub print-line-spec : {M : Type 1} → statement M
 print-line-spec =

@@ -1,5 +1,6 @@
 -- `test_commands::read_command` meets its contract: by whether a line was found.
 -- Assumes nothing.
+use native.Mathlib.Omega.{arith}
 use mathlib.Core.Path.{sym, ap, _∙_}
 use Rattle.text_reading.specs.Scan.{found}
 use Rattle.test_commands.proofs.CommandLaws.{line-found, line-missing, line-past}
@@ -18,23 +19,20 @@ enum-known-x c = search needs
 
 returns : tie.Need-returns
 returns c =
-    let start = c .before .before .before .before .before .before .before in
-    line-found (start .args .script .now) (start .args .at) _ _ _
-    (sym (c .before .before .before .line-at .ensures) ∙ ap (found (start .args .script .now)) (c .before .x .given .1))
+    line-found _ _ _ _ _
+    (sym (c .before .before .before .line-at .ensures) ∙ ap (found _) (c .before .x .given .1))
 
 enum-told : tie.Need-enum-told
 enum-told c = search needs
 
 returns-2 : tie.Need-returns-2
 returns-2 c =
-    let start = c .before .before .before .before .before .before in
-    line-missing (start .args .script .now) (start .args .at) _
-    (sym (c .before .before .line-at .ensures) ∙ ap (found (start .args .script .now)) (c .enum-told .given .1))
+    line-missing _ _ _
+    (sym (c .before .before .line-at .ensures) ∙ ap (found _) (c .enum-told .given .1))
 
 returns-3 : tie.Need-returns-3
 returns-3 c =
-    let start = c .before .before in
-    line-past (start .args .script .now) (start .args .at) _ (c .if1 .left)
+    line-past _ _ _ (c .if1 .left)
 
 pub read-command-spec : {M : Type 1} → statement M
 read-command-spec =

@@ -42,18 +42,14 @@ slice-relend-prefix-read-survey c = search needs
 
 slice-aggregate-read-survey : tie.Need-slice-aggregate-read-survey
 slice-aggregate-read-survey c =
-    let start = c .before .before .before .before .before .before .before .before .before .before in
-    let at-at-most = c .before .before .before .before .before .before in
-    sym (length-take-le (at-at-most .at-most .result) (start .args .starts .now) (omega (arith, (at-at-most .at-most .ensures))))
+    sym (length-take-le _ _ (omega arith))
 
 slice-relend-prefix-read-survey-2 : tie.Need-slice-relend-prefix-read-survey-2
 slice-relend-prefix-read-survey-2 c = search needs
 
 slice-aggregate-read-survey-2 : tie.Need-slice-aggregate-read-survey-2
 slice-aggregate-read-survey-2 c =
-    let start = c .before .before .before .before .before .before .before .before .before .before .before in
-    let at-at-most2 = c .before .before .before .before .before .before in
-    sym (length-take-le (at-at-most2 .at-most2 .result) (start .args .neighbours .now) (omega (arith, (at-at-most2 .at-most2 .ensures))))
+    sym (length-take-le _ _ (omega arith))
 
 read-survey-requires : tie.Need-read-survey-requires
 read-survey-requires c κs = search needs

@@ -1,5 +1,6 @@
 -- `test_commands::set16` meets its contract: by whether there is such an entry.
 -- Assumes nothing.
+use native.Mathlib.Omega.{arith}
 use mathlib.Core.Path.{refl}
 use Rattle.test_commands.proofs.Summing.{replaced-there, replaced-past}
 use borrow.Author.Needs.{needs}

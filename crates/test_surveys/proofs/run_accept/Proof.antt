@@ -18,15 +18,11 @@ at-most-requires-2 c κs = search needs
 
 slice-aggregate-accept : tie.Need-slice-aggregate-accept
 slice-aggregate-accept c =
-    let start = c .before .before .before .before .before .before .before in
-    let at-at-most = c .before .before in
-    sym (length-take-le (at-at-most .at-most .result) (start .args .starts .now) (omega (arith, at-at-most .at-most .ensures)))
+    sym (length-take-le _ _ (omega arith))
 
 slice-aggregate-accept-2 : tie.Need-slice-aggregate-accept-2
 slice-aggregate-accept-2 c =
-    let start = c .before .before .before .before .before .before .before .before in
-    let at-at-most2 = c .before .before in
-    sym (length-take-le (at-at-most2 .at-most2 .result) (start .args .neighbours .now) (omega (arith, at-at-most2 .at-most2 .ensures)))
+    sym (length-take-le _ _ (omega arith))
 
 accept-requires : tie.Need-accept-requires
 accept-requires c κs = search needs

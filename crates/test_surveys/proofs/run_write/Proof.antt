@@ -21,24 +21,18 @@ at-most-requires-3 c κs = search needs
 
 slice-aggregate-write-survey : tie.Need-slice-aggregate-write-survey
 slice-aggregate-write-survey c =
-    let start = c .before .before .before .before .before .before .before .before .before in
-    let at-at-most = c .before .before .before in
-    sym (length-take-le (at-at-most .at-most .result) (start .args .starts .now) (omega (arith, at-at-most .at-most .ensures)))
+    sym (length-take-le _ _ (omega arith))
 
 slice-aggregate-write-survey-2 : tie.Need-slice-aggregate-write-survey-2
 slice-aggregate-write-survey-2 c =
-    let start = c .before .before .before .before .before .before .before .before .before .before in
-    let at-at-most2 = c .before .before .before in
-    sym (length-take-le (at-at-most2 .at-most2 .result) (start .args .neighbours .now) (omega (arith, at-at-most2 .at-most2 .ensures)))
+    sym (length-take-le _ _ (omega arith))
 
 slice-relend-prefix-write-survey : tie.Need-slice-relend-prefix-write-survey
 slice-relend-prefix-write-survey c = search needs
 
 slice-aggregate-write-survey-3 : tie.Need-slice-aggregate-write-survey-3
 slice-aggregate-write-survey-3 c =
-    let start = c .before .before .before .before .before .before .before .before .before .before .before in
-    let at-at-most3 = c .before .before .before in
-    sym (length-take-le (at-at-most3 .at-most3 .result) (start .args .buffer .now) (omega (arith, at-at-most3 .at-most3 .ensures)))
+    sym (length-take-le _ _ (omega arith))
 
 write-survey-requires : tie.Need-write-survey-requires
 write-survey-requires c κs = search needs
