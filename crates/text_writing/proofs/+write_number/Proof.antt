@@ -1,158 +1,96 @@
--- `text_writing::write_number` meets its contract: the digits of x / 10 are written by the call of itself, and the last digit behind them. The measure is x.
+-- `text_writing::write_number` meets its contract: its call of itself writes the digits of x / 10, and the last digit goes behind them.
+-- The calls of itself end, since x / 10 is less than x.
 -- Assumes nothing.
-use borrow.Author.Needs.{needs}
-use mathlib.Core.Path.{_∙_}
+use mathlib.Core.Path.{_≡_}
+use Prim.Native.Nat.{ℕ, _+_, _/_, _<_}
 use native.Mathlib.Omega.{arith}
-use Rattle.model.proofs.Numbers.{length-small, length-more}
-use Rattle.text_writing.proofs.Digits.{wrote-small, wrote-more}
-use Prim.Native.Nat.{_<_, ℕ}
+use borrow.Author.Needs.{needs}
 use borrow.Fn.Kinds.{In}
 use borrow.Fn.PlainCycle.{Measures, is, falls, and}
-use Rattle.text_writing.proofs.write_number.Reads as write-number
-use Rattle.text_writing.proofs.write_number.Kinds as write-number-kinds
-use Rattle.text_writing.proofs.+write_number.Lts-write_number as write-number-lts
+use lib.ListN.{length}
+use Rattle.model.specs.Numbers.{digits}
+use Rattle.model.proofs.Numbers.{length-small, length-more}
+use Rattle.text_writing.proofs.Digits.{wrote-small, wrote-more}
 use Rattle.text_writing.proofs.write_byte.Reads as write-byte-reads
+use Rattle.text_writing.proofs.write_number.Reads as reads
+use Rattle.text_writing.proofs.write_number.Kinds as kinds
+use Rattle.text_writing.proofs.+write_number.Lts-write_number as lts
 use Rattle.text_writing.proofs.+write_number.{statement}
 use Rattle.text_writing.proofs.+write_number.Tie.{close}
 
-abbrev μ-write-number : Measures 1 write-number-kinds.ps ℕ
-μ-write-number κs a = a .1 .1 .0
+-- the measure is x
+abbrev μ : Measures 1 kinds.ps ℕ
+μ κs a = a .1 .1 .0
 
-abbrev write-number-at : ℕ → In 1 write-number-kinds.ps
-write-number-at t =
-    and 1 write-number-kinds.ps (is 1 write-number-kinds.ps μ-write-number t) write-number.Pre
+-- x is t at entry, and less at the call of itself
+abbrev At : ℕ → In 1 kinds.ps
+At t = and 1 kinds.ps (is 1 kinds.ps μ t) reads.Pre
 
-abbrev write-number-below : ℕ → In 1 write-number-kinds.ps
-write-number-below t =
-    and
-    1
-    write-number-kinds.ps
-    (falls 1 write-number-kinds.ps _<_ μ-write-number t)
-    write-number.Pre
+abbrev Below : ℕ → In 1 kinds.ps
+Below t = and 1 kinds.ps (falls 1 kinds.ps _<_ μ t) reads.Pre
 
-write-number-cast-write-byte : (t : ℕ) → write-number-lts.Need-cast-write-byte (
-  write-byte-reads.Asked,
-  write-byte-reads.Learnt,
-  write-number-below t,
-  write-number.Post,
-) (write-number-at t) write-number.Post
-write-number-cast-write-byte t c =
-    omega arith
+module _ (t : ℕ) where
+  -- what is asked and learnt at each call
+  abbrev calls : lts.Claims
+  calls = (write-byte-reads.Asked, write-byte-reads.Learnt, Below t, reads.Post)
 
-write-number-add-write-byte : (t : ℕ) → write-number-lts.Need-add-write-byte (
-  write-byte-reads.Asked,
-  write-byte-reads.Learnt,
-  write-number-below t,
-  write-number.Post,
-) (write-number-at t) write-number.Post
-write-number-add-write-byte t c =
-    omega arith
+  cast-write-byte : lts.Need-cast-write-byte calls (At t) reads.Post
+  cast-write-byte c = omega arith
 
-write-number-write-byte-requires : (t : ℕ) → write-number-lts.Need-write-byte-requires (
-  write-byte-reads.Asked,
-  write-byte-reads.Learnt,
-  write-number-below t,
-  write-number.Post,
-) (write-number-at t) write-number.Post
-write-number-write-byte-requires t c κs =
-    omega (arith, length-small _ (c .before .if1 .taken))
+  add-write-byte : lts.Need-add-write-byte calls (At t) reads.Post
+  add-write-byte c = omega arith
 
-write-number-same-length : (t : ℕ) → write-number-lts.Need-same-length (
-  write-byte-reads.Asked,
-  write-byte-reads.Learnt,
-  write-number-below t,
-  write-number.Post,
-) (write-number-at t) write-number.Post
-write-number-same-length t c = search needs
+  write-byte-requires : lts.Need-write-byte-requires calls (At t) reads.Post
+  write-byte-requires c κs = omega (arith, length-small _ (c .before .if1 .taken))
 
-write-number-returns : (t : ℕ) → write-number-lts.Need-returns (
-  write-byte-reads.Asked,
-  write-byte-reads.Learnt,
-  write-number-below t,
-  write-number.Post,
-) (write-number-at t) write-number.Post
-write-number-returns t c =
-    wrote-small _ (c .before .before .before .before .if1 .taken) (c .before .before .write-byte .ensures)
+  same-length : lts.Need-same-length calls (At t) reads.Post
+  same-length c = search needs
 
-write-number-write-number-requires : (t : ℕ) → write-number-lts.Need-write-number-requires (
-  write-byte-reads.Asked,
-  write-byte-reads.Learnt,
-  write-number-below t,
-  write-number.Post,
-) (write-number-at t) write-number.Post
-write-number-write-number-requires t c κs =
-    let at-if1 = c .before in (
-      omega arith,
-      omega (arith, length-more _ (at-if1 .if1 .left)),
-    )
+  returns : lts.Need-returns calls (At t) reads.Post
+  returns c =
+      let written = c .before .before in
+      wrote-small _ (written .before .before .if1 .taken) (written .write-byte .ensures)
 
-write-number-cast-write-byte-2 : (t : ℕ) → write-number-lts.Need-cast-write-byte-2 (
-  write-byte-reads.Asked,
-  write-byte-reads.Learnt,
-  write-number-below t,
-  write-number.Post,
-) (write-number-at t) write-number.Post
-write-number-cast-write-byte-2 t c =
-    omega arith
+  -- from ten on, x has one digit more than x / 10
+  one-more : (c : lts.Else1 calls (At t) reads.Post)
+      → (let x = c .before .before .args .x in length (digits x) ≡ length (digits (x / 10)) + 1)
+  one-more c = length-more _ (c .if1 .left)
 
-write-number-add-write-byte-2 : (t : ℕ) → write-number-lts.Need-add-write-byte-2 (
-  write-byte-reads.Asked,
-  write-byte-reads.Learnt,
-  write-number-below t,
-  write-number.Post,
-) (write-number-at t) write-number.Post
-write-number-add-write-byte-2 t c =
-    omega arith
+  write-number-requires : lts.Need-write-number-requires calls (At t) reads.Post
+  write-number-requires c κs = (omega arith, omega (arith, one-more (c .before)))
 
-write-number-write-byte-requires-2 : (t : ℕ) → write-number-lts.Need-write-byte-requires-2 (
-  write-byte-reads.Asked,
-  write-byte-reads.Learnt,
-  write-number-below t,
-  write-number.Post,
-) (write-number-at t) write-number.Post
-write-number-write-byte-requires-2 t c κs =
-    let w = c .before .before .before in
-    omega (
-      arith,
-      length-more _ (w .before .before .if1 .left),
-    )
+  cast-write-byte-2 : lts.Need-cast-write-byte-2 calls (At t) reads.Post
+  cast-write-byte-2 c = omega arith
 
-write-number-same-length-2 : (t : ℕ) → write-number-lts.Need-same-length-2 (
-  write-byte-reads.Asked,
-  write-byte-reads.Learnt,
-  write-number-below t,
-  write-number.Post,
-) (write-number-at t) write-number.Post
-write-number-same-length-2 t c = search needs
+  add-write-byte-2 : lts.Need-add-write-byte-2 calls (At t) reads.Post
+  add-write-byte-2 c = omega arith
 
-write-number-returns-2 : (t : ℕ) → write-number-lts.Need-returns-2 (
-  write-byte-reads.Asked,
-  write-byte-reads.Learnt,
-  write-number-below t,
-  write-number.Post,
-) (write-number-at t) write-number.Post
-write-number-returns-2 t c =
-    let w = c .before .before .before .before .before .before in
-    wrote-more _ (w .before .before .if1 .left) (w .before .before .before .before .pre .1) (w .write-number .ensures)
-    (c .before .before .write-byte2 .ensures)
+  write-byte-requires-2 : lts.Need-write-byte-requires-2 calls (At t) reads.Post
+  write-byte-requires-2 c κs = omega (arith, one-more (c .before .before .before .before .before))
+
+  same-length-2 : lts.Need-same-length-2 calls (At t) reads.Post
+  same-length-2 c = search needs
+
+  returns-2 : lts.Need-returns-2 calls (At t) reads.Post
+  returns-2 c =
+      let last = c .before .before in
+      let front = last .before .before .before .before in
+      let more = front .before .before in
+      let start = more .before .before in
+      wrote-more _ (more .if1 .left) (start .pre .1) (front .write-number .ensures) (last .write-byte2 .ensures)
 
 pub +write-number-spec : {M : Type 1} → statement M
-+write-number-spec = close μ-write-number λ t. write-number-lts.spec (
-  write-byte-reads.Asked,
-  write-byte-reads.Learnt,
-  write-number-below t,
-  write-number.Post,
-)
-    (write-number-at t)
-    write-number.Post
-    (write-number-cast-write-byte t)
-    (write-number-add-write-byte t)
-    (write-number-write-byte-requires t)
-    (write-number-same-length t)
-    (write-number-returns t)
-    (write-number-write-number-requires t)
-    (write-number-cast-write-byte-2 t)
-    (write-number-add-write-byte-2 t)
-    (write-number-write-byte-requires-2 t)
-    (write-number-same-length-2 t)
-    (write-number-returns-2 t)
++write-number-spec = close μ λ t. lts.spec (calls t)
+    (At t)
+    reads.Post
+    (cast-write-byte t)
+    (add-write-byte t)
+    (write-byte-requires t)
+    (same-length t)
+    (returns t)
+    (write-number-requires t)
+    (cast-write-byte-2 t)
+    (add-write-byte-2 t)
+    (write-byte-requires-2 t)
+    (same-length-2 t)
+    (returns-2 t)

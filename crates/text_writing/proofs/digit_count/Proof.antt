@@ -1,11 +1,13 @@
--- `text_writing::digit_count` meets its contract: the digits counted and those of what is left are one more than those of x. Assumes nothing.
-use borrow.Author.Needs.{needs}
-use mathlib.Core.Path.{_≡_, refl}
-use Prim.Native.Nat.{_+_, _/_}
+-- `text_writing::digit_count` meets its contract: the digits counted and those of what is left are one more than those of x.
+-- Assumes nothing.
+use mathlib.Core.Path.{_≡_}
+use Prim.Native.Nat.{_+_}
 use native.Mathlib.Omega.{arith}
+use borrow.Author.Needs.{needs}
 use lib.ListN.{length}
 use Rattle.model.specs.Numbers.{digits}
-use Rattle.model.proofs.Numbers.{length-small, length-more, length-le, digits-pos}
+use Rattle.model.proofs.Numbers.{length-small, length-more}
+use Rattle.text_writing.proofs.Digits.{digits-few}
 use Rattle.text_writing.proofs.digit_count.Statement.{statement}
 use Rattle.text_writing.proofs.digit_count.Tie as tie
 
@@ -19,12 +21,7 @@ loop-holds : tie.Need-loop-holds Inv-loop μ-loop
 loop-holds c = search needs
 
 add-n : tie.Need-add-n Inv-loop μ-loop
-add-n c =
-    let x = c .before .before .args .x in
-    omega (
-      arith,
-      length-le 9 x (omega arith),
-    )
+add-n c = omega (arith, digits-few _ (c .before .before .fits .x .fits))
 
 loop-less : tie.Need-loop-less Inv-loop μ-loop
 loop-less c = omega arith

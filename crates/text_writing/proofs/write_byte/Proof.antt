@@ -1,7 +1,7 @@
--- `text_writing::write_byte` meets its contract. Assumes nothing.
-use native.Mathlib.Omega.{arith}
-use Rattle.base_lists.proofs.Written.{wrote-one}
+-- `text_writing::write_byte` meets its contract.
+-- Assumes nothing.
 use borrow.Author.Needs.{needs}
+use Rattle.base_lists.proofs.Written.{wrote-one}
 use Rattle.text_writing.proofs.write_byte.Statement.{statement}
 use Rattle.text_writing.proofs.write_byte.Tie as tie
 

@@ -1,8 +1,8 @@
 -- `text_writing::write_field` meets its contract: a comma, and the number behind it.
 -- Assumes nothing.
 use native.Mathlib.Omega.{arith}
-use Rattle.base_lists.proofs.Written.{wrote-then}
 use borrow.Author.Needs.{needs}
+use Rattle.base_lists.proofs.Written.{wrote-then}
 use Rattle.text_writing.proofs.write_field.Statement.{statement}
 use Rattle.text_writing.proofs.write_field.Tie as tie
 
@@ -17,8 +17,9 @@ same-length c = search needs
 
 returns : tie.Need-returns
 returns c =
-    let at-write-byte = c .before .before .before .before .before .before in
-    wrote-then (omega arith) (at-write-byte .write-byte .ensures) (c .before .before .write-number .ensures)
+    let number = c .before .before in
+    let comma = number .before .before .before .before in
+    wrote-then (omega arith) (comma .write-byte .ensures) (number .write-number .ensures)
 
 pub write-field-spec : {M : Type 1} → statement M
 write-field-spec =
