@@ -1,9 +1,9 @@
 -- The first line's tests.
 -- Assumes nothing.
-use mathlib.Core.Path.{_≡_, refl, ap, _∙_}
+use mathlib.Core.Path.{_≡_, sym}
 use mathlib.Core.Bool.{false, or-true}
 use mathlib.Core.List.{List}
-use mathlib.Core.Option.{none as missing, some}
+use mathlib.Core.Option.{Option, none as missing, some}
 use Prim.Native.Nat.{ℕ, _+_, _*_, _≤_, _<_}
 use borrow.Author.Tests.{lt-ltb, le-ltb}
 use lib.Dec.{ltb}
@@ -14,38 +14,44 @@ use Rattle.model.specs.Reading.{countsOf}
 use Rattle.model.proofs.Links.{first-taken}
 use Rattle.model.proofs.Acceptance.{in-range}
 
-module _ (N M p q : ℕ) (s : List ℕ) where
-  pub counts-malformed : line 83 s ≡ missing → countsOf N M p q (line 83 s) ≡ refused 1
+-- the counts are within the limits
+pub record InLimits (N M n m : ℕ) : Type 0 where
+  pub some-node : 1 ≤ n
+  pub size : n ≤ N
+  pub few : m ≤ M
+
+-- what the first line says, by the tests that it passes
+module _ (N M p q : ℕ) {o : Option (ℕ × ℕ × List ℕ)} where
+  pub counts-malformed : o ≡ missing → refused 1 ≡ countsOf N M p q o
   unfolding countsOf
-  counts-malformed l = ap (countsOf N M p q) l
+  counts-malformed l = rw l
 
-  module _ (n m : ℕ) (rest : List ℕ) (l : line 83 s ≡ some (n, m, rest)) where
-    pub no-node : n < 1 → countsOf N M p q (line 83 s) ≡ refused 2
+  module _ {n m : ℕ} {rest : List ℕ} (l : o ≡ some (n, m, rest)) where
+    pub no-node : n < 1 → refused 2 ≡ countsOf N M p q o
     unfolding countsOf
-    no-node k = ap (countsOf N M p q) l ∙ rw (lt-ltb n 1 k) refl
+    no-node k = rw (l, lt-ltb n 1 k)
 
-    pub many-nodes : N < n → countsOf N M p q (line 83 s) ≡ refused 2
+    pub many-nodes : N < n → refused 2 ≡ countsOf N M p q o
     unfolding countsOf
-    many-nodes k = ap (countsOf N M p q) l ∙ rw (lt-ltb N n k, or-true (ltb n 1)) refl
+    many-nodes k = rw (l, lt-ltb N n k, or-true (ltb n 1))
 
-    module _ (h : 1 ≤ n) (k : n ≤ N) where
+    pub many-links : 1 ≤ n → n ≤ N → M < m → refused 3 ≡ countsOf N M p q o
+    unfolding countsOf
+    many-links h k j = rw (l, in-range N n h k, lt-ltb M m j)
+
+    module _ (w : InLimits N M n m) where
       sized : outside N n ≡ false
-      sized = in-range N n h k
+      sized = in-range N n (w .some-node) (w .size)
 
-      pub many-links : M < m → countsOf N M p q (line 83 s) ≡ refused 3
+      pub short-starts : p < n + 1 → refused 8 ≡ countsOf N M p q o
       unfolding countsOf
-      many-links j = ap (countsOf N M p q) l ∙ rw (sized, lt-ltb M m j) refl
+      short-starts j = rw (l, sized, le-ltb M m (w .few), lt-ltb p (n + 1) j)
 
-      module _ (i : m ≤ M) where
-        pub short-starts : p < n + 1 → countsOf N M p q (line 83 s) ≡ refused 8
-        unfolding countsOf
-        short-starts j = ap (countsOf N M p q) l ∙ rw (sized, le-ltb M m i, lt-ltb p (n + 1) j) refl
+      pub short-neighbours : q < 2 * m → refused 8 ≡ countsOf N M p q o
+      unfolding countsOf
+      short-neighbours j = rw (l, sized, le-ltb M m (w .few), lt-ltb q (2 * m) j, or-true (ltb p (n + 1)))
 
-        pub short-neighbours : q < 2 * m → countsOf N M p q (line 83 s) ≡ refused 8
-        unfolding countsOf
-        short-neighbours j = ap (countsOf N M p q) l ∙ rw (sized, le-ltb M m i, lt-ltb q (2 * m) j, or-true (ltb p (n + 1))) refl
-
-        pub counted : n + 1 ≤ p → 2 * m ≤ q → countsOf N M p q (line 83 s) ≡ answered (n, m, rest)
-        counted r j =
-            ap (countsOf N M p q) l
-            ∙ first-taken N M p q (n, m, rest) (record { some-node = h; size = k; few = i; room = r; list-room = j })
+      pub counted : n + 1 ≤ p → 2 * m ≤ q → answered (n, m, rest) ≡ countsOf N M p q o
+      counted r j =
+          rw l (sym (first-taken N M p q (n, m, rest)
+          (record { some-node = w .some-node; size = w .size; few = w .few; room = r; list-room = j })))

@@ -1,19 +1,52 @@
 -- `survey_lines::link_at` meets its contract: at each `return` the tests that led there say which case holds.
 -- Assumes nothing.
-use mathlib.Core.Path.{sym, ap, _∙_}
+use mathlib.Core.Path.{_≡_, sym, ap, _∙_}
+use mathlib.Core.List.{List}
+use mathlib.Core.Option.{some}
+use Prim.Native.Nat.{ℕ, _<_}
 use native.Mathlib.Omega.{arith}
+use borrow.Author.Needs.{needs}
 use borrow.Author.Tests.{not-true, not-false}
+use lib.ListN.{length, drop}
+use Rattle.model.specs.SurveyText.{line}
 use Rattle.text_reading.specs.Scan.{found}
 use Rattle.base_nodeset.specs.Matrix.{edgesIn}
 use Rattle.base_nodeset.proofs.Matrix.{edge-bit}
 use Rattle.survey_lines.proofs.LinkLaws.{both-below, link-end, link-malformed, link-far, link-loop, link-again, link-new}
-use borrow.Author.Needs.{needs}
 use Rattle.survey_lines.proofs.link_at.Statement.{statement}
 use Rattle.survey_lines.proofs.link_at.Tie as tie
 
+-- the line has the right form: its two numbers, and the place after it
+module _ (c : tie.After-a) where
+  abbrev start : tie.Start
+  start = c .before .before .before .before .before .before
+
+  abbrev text : List ℕ
+  text = start .args .text .now
+
+  abbrev a : ℕ
+  a = c .a .given .0 .0
+
+  abbrev b : ℕ
+  b = c .a .given .0 .1 .0
+
+  begun : start .args .at < length text
+  begun = c .before .before .before .if1 .left
+
+  read : line 76 (drop (start .args .at) text) ≡ some (a, b, drop (c .a .given .0 .1 .1 .0) text)
+  read = sym (c .before .before .line-at .ensures) ∙ ap (found _) (c .a .given .1)
+
+-- once both numbers are tested
+below : (c : tie.Else2) → (let said = c .before .before in (a said < start said .args .n) × (b said < start said .args .n))
+below c = both-below _ _ _ (not-false _ (c .if2 .left))
+
+-- the matrix tells whether the link was given before
+given : (c : tie.After-contains) → (let said = c .before .before .before .before in
+    edgesIn (start said .args .bits .now) (a said) (b said) ≡ c .contains .result)
+given c = edge-bit _ _ _ (omega (arith, below (c .before .before))) ∙ sym (c .contains .ensures)
+
 returns : tie.Need-returns
-returns c =
-    sym (link-end _ _ _ (edgesIn _) (c .if1 .taken))
+returns c = link-end _ _ _ _ (c .if1 .taken)
 
 line-at-requires : tie.Need-line-at-requires
 line-at-requires c κs = search needs
@@ -26,82 +59,39 @@ enum-told c = search needs
 
 returns-2 : tie.Need-returns-2
 returns-2 c =
-    sym (link-malformed _ _ _ (edgesIn _)
-    (c .before .before .before .if1 .left) (sym (c .before .before .line-at .ensures) ∙ ap (found _)
-    (c .enum-told .given .1)))
+    let line = c .before .before in
+    link-malformed _ _ _ _ (line .before .if1 .left) (sym (line .line-at .ensures) ∙ ap (found _) (c .enum-told .given .1))
 
 returns-3 : tie.Need-returns-3
 returns-3 c =
-    let at-a = c .before .before in
-    sym (link-far _ _ _ (edgesIn _)
-    (c .before .before .before .before .before .if1 .left) _ _ _
-    (sym (c .before .before .before .before .line-at .ensures) ∙ ap (found _) (at-a .a .given .1))
-    (not-true _ (c .if2 .taken)))
+    let said = c .before .before in
+    link-far _ _ _ _ (begun said) (read said) (not-true _ (c .if2 .taken))
 
 returns-4 : tie.Need-returns-4
 returns-4 c =
-    let at-if1 = c .before .before .before .before .before .before in
-    let at-a = c .before .before .before in
-    sym (link-loop _ _ _ (edgesIn _) (at-if1 .if1 .left)
-    _ _ _
-    (sym (c .before .before .before .before .before .line-at .ensures) ∙ ap (found _) (at-a .a .given .1))
-    (not-false _ (c .before .if2 .left)) (c .if3 .taken))
+    let said = c .before .before .before in
+    link-loop _ _ _ _ (begun said) (read said) (below (c .before)) (c .if3 .taken)
 
 mul-contains : tie.Need-mul-contains
-mul-contains c =
-    let start = c .before .before .before .before .before .before .before .before .before in
-    omega (
-      arith,
-      both-below _ _ (start .args .n) (not-false _ (c .before .if2 .left)),
-    )
+mul-contains c = omega (arith, below (c .before))
 
 add-contains : tie.Need-add-contains
-add-contains c =
-    let start = c .before .before .before .before .before .before .before .before .before in
-    omega (
-      arith,
-      both-below _ _ (start .args .n) (not-false _ (c .before .if2 .left)),
-    )
+add-contains c = omega (arith, below (c .before))
 
 contains-requires : tie.Need-contains-requires
-contains-requires c κs =
-    let start = c .before .before .before .before .before .before .before .before .before in
-    omega (
-      arith,
-      both-below _ _ (start .args .n) (not-false _ (c .before .if2 .left)),
-    )
+contains-requires c κs = omega (arith, below (c .before))
 
 returns-5 : tie.Need-returns-5
 returns-5 c =
-    let start = c .before .before .before .before .before .before .before .before .before .before .before in
-    let at-if1 = c .before .before .before .before .before .before .before .before in
-    let at-line-at = c .before .before .before .before .before .before .before in
-    let at-a = c .before .before .before .before .before in
-    let at-if2 = c .before .before .before in
-    sym (link-again _ _ _ (edgesIn _) (at-if1 .if1 .left)
-    _ _ _
-    (sym (at-line-at .line-at .ensures) ∙ ap (found _) (at-a .a .given .1)) (not-false _ (at-if2 .if2 .left))
-    (c .before .before .if3 .left) (edge-bit _ _ _
-    (omega (
-      arith,
-      both-below _ _ (start .args .n) (not-false _ (at-if2 .if2 .left)),
-    )) ∙ sym (c .before .contains .ensures) ∙ (c .if4 .taken)))
+    let different = c .before .before in
+    let said = different .before .before .before in
+    link-again _ _ _ _ (begun said) (read said) (below (different .before)) (different .if3 .left) (given (c .before) ∙ c .if4 .taken)
 
 returns-6 : tie.Need-returns-6
 returns-6 c =
-    let start = c .before .before .before .before .before .before .before .before .before .before .before in
-    let at-if1 = c .before .before .before .before .before .before .before .before in
-    let at-line-at = c .before .before .before .before .before .before .before in
-    let at-a = c .before .before .before .before .before in
-    let at-if2 = c .before .before .before in
-    sym (link-new _ _ _ (edgesIn _) (at-if1 .if1 .left)
-    _ _ _
-    (sym (at-line-at .line-at .ensures) ∙ ap (found _) (at-a .a .given .1)) (not-false _ (at-if2 .if2 .left))
-    (c .before .before .if3 .left) (edge-bit _ _ _
-    (omega (
-      arith,
-      both-below _ _ (start .args .n) (not-false _ (at-if2 .if2 .left)),
-    )) ∙ sym (c .before .contains .ensures) ∙ (c .if4 .left)))
+    let different = c .before .before in
+    let said = different .before .before .before in
+    link-new _ _ _ _ (begun said) (read said) (below (different .before)) (different .if3 .left) (given (c .before) ∙ c .if4 .left)
 
 pub link-at-spec : {M : Type 1} → statement M
 link-at-spec =
