@@ -1,19 +1,19 @@
 -- The digits that a text begins with.
 -- Assumes nothing.
-use mathlib.Core.Path.{_≡_, refl, sym, ap, _∙_, subst}
+use mathlib.Core.Path.{_≡_, refl, ap, _∙_}
 use mathlib.Core.Logic.{_⊎_, inl, inr, ⊎-elim}
 use mathlib.Core.Bool.{not, and-false}
 use mathlib.Core.List.{List, [], _∷_, _++_}
-use Prim.Native.Nat.{ℕ, suc, _+_, _-_, _*_, _^_, _≤_, _<_}
+use Prim.Native.Nat.{ℕ, _+_, _-_, _*_, _^_, _≤_, _<_}
 use native.Mathlib.Nat.{pow-suc, pow-le-pow-right, zero-lt-suc, lt-of-lt-of-le}
 use native.Mathlib.Numerals.{add-one}
 use native.Mathlib.Omega.{arith}
 use borrow.Author.Tests.{lt-leb}
 use lib.Dec.{T, leb, not-T}
 use lib.ListN.{length, getD, drop, drop-of-length-le}
-use lib.Seq.{drop-cons}
 use Rattle.model.specs.Basics.{all}
 use Rattle.model.specs.Numbers.{isDigit, valueFrom}
+use Rattle.model.proofs.Loops.{drop-next}
 use Rattle.model.proofs.Tests.{and-l, and-r, and-i, passes, T-true, T-false}
 use Rattle.model.proofs.Numbers.{digit-bounds, bounds-digit}
 use Rattle.text_reading.specs.Scan.{run}
@@ -39,8 +39,13 @@ unfolding run
 run-nil = refl
 
 -- by whether the first byte is a digit
-run-cases : (P : List ℕ → Type 0) (b : ℕ) (t : List ℕ) → (T (isDigit b) → P (b ∷ run t)) → (T (not (isDigit b)) → P []) → P (run (b ∷ t))
-run-cases P b t f g = ⊎-elim (λ d. subst P (sym (run-digit b t d)) (f d)) (λ no. let d = not-T (isDigit b) no in subst P (sym (run-stop b t d)) (g d)) (passes (isDigit b))
+run-cases : (P : List ℕ → Type 0) (b : ℕ) (t : List ℕ)
+    → (T (isDigit b) → P (b ∷ run t)) → (T (not (isDigit b)) → P []) → P (run (b ∷ t))
+run-cases P b t f g =
+    ⊎-elim
+    (λ d. rw (run-digit b t d) (f d))
+    (λ no. let d = not-T (isDigit b) no in rw (run-stop b t d) (g d))
+    (passes (isDigit b))
 
 pub run-all : (t : List ℕ) → Digits (run t)
 unfolding all
@@ -51,7 +56,9 @@ pub run-append : (p q : List ℕ) → Digits p → NoDigit q → run (p ++ q) �
 unfolding all
 run-append [] [] a n = run-nil
 run-append [] (b ∷ q) a n = run-stop b q n
-run-append (b ∷ p) q a n = run-digit b (p ++ q) (and-l (isDigit b) (all isDigit p) a) ∙ ap (λ (x : List ℕ). b ∷ x) (run-append p q (and-r (isDigit b) (all isDigit p) a) n)
+run-append (b ∷ p) q a n =
+    run-digit b (p ++ q) (and-l (isDigit b) (all isDigit p) a)
+    ∙ ap (λ (x : List ℕ). b ∷ x) (run-append p q (and-r (isDigit b) (all isDigit p) a) n)
 
 pub run-split : (t : List ℕ) → t ≡ run t ++ drop (length (run t)) t
 run-split [] = rw run-nil
@@ -70,23 +77,6 @@ unfolding isDigit
 not-digit b (inl h) = rw (lt-leb 48 b h) tt
 not-digit b (inr h) = rw (lt-leb b 57 h, and-false (leb 48 b)) tt
 
-pub run-at-digit : (t : List ℕ) (i : ℕ) → i < length t → 48 ≤ getD t i 0 → getD t i 0 ≤ 57 → i + length (run (drop i t)) ≡ i + 1 + length (run (drop (i + 1) t))
-run-at-digit t i h a b =
-    let e : length (run (drop i t)) ≡ suc (length (run (drop (suc i) t))) =
-    ap (λ (x : List ℕ). length (run x)) (drop-cons t i 0 h) ∙ ap length (run-digit (getD t i 0) (drop (suc i) t) (bounds-digit (getD t i 0) a b)) in
-    rw (add-one i) (omega arith)
-
-pub run-at-stop : (t : List ℕ) (i : ℕ) → i < length t → (getD t i 0 < 48) ⊎ (57 < getD t i 0) → i ≡ i + length (run (drop i t))
-run-at-stop t i h s =
-    let e : length (run (drop i t)) ≡ 0 =
-    ap (λ (x : List ℕ). length (run x)) (drop-cons t i 0 h) ∙ ap length (run-stop (getD t i 0) (drop (suc i) t) (not-digit (getD t i 0) s)) in
-    omega arith
-
-pub run-at-end : (t : List ℕ) (i : ℕ) → length t ≤ i → i ≡ i + length (run (drop i t))
-run-at-end t i h =
-    let e : length (run (drop i t)) ≡ 0 = ap (λ (x : List ℕ). length (run x)) (drop-of-length-le t h) ∙ ap length run-nil in
-    omega arith
-
 -- a turn of the loop that reads digits: the next byte is a digit, the rest are, and the value goes on
 pub record Turn (t : List ℕ) (i v : ℕ) : Type 0 where
   pub low : 48 ≤ getD t i 0
@@ -94,13 +84,35 @@ pub record Turn (t : List ℕ) (i v : ℕ) : Type 0 where
   pub rest : Digits (drop (i + 1) t)
   pub goes-on : valueFrom (v * 10 + (getD t i 0 - 48)) (drop (i + 1) t) ≡ valueFrom v (drop i t)
 
-pub turn : (t : List ℕ) (i v : ℕ) → i < length t → Digits (drop i t) → Turn t i v
-unfolding all valueFrom
-turn t i v h a =
-    let e : drop i t ≡ getD t i 0 ∷ drop (i + 1) t = rw (add-one) (drop-cons t i 0 h) in
-    let every : Digits (getD t i 0 ∷ drop (i + 1) t) = rw e at a in
-    let d = digit-bounds (getD t i 0) (and-l (isDigit (getD t i 0)) (all isDigit (drop (i + 1) t)) every) in
-    record { low = d .0; high = d .1; rest = and-r (isDigit (getD t i 0)) (all isDigit (drop (i + 1) t)) every; goes-on = sym (ap (valueFrom v) e) }
+module _ (t : List ℕ) (i : ℕ) (h : i < length t) where
+  -- the byte at place i, and what comes after it
+  abbrev b : ℕ
+  b = getD t i 0
+
+  abbrev rest : List ℕ
+  rest = drop (i + 1) t
+
+  pub run-at-digit : 48 ≤ b → b ≤ 57 → i + 1 + length (run rest) ≡ i + length (run (drop i t))
+  run-at-digit l g =
+      rw (drop-next t i h, run-digit b rest (bounds-digit b l g)) (omega arith)
+
+  pub run-at-stop : (b < 48) ⊎ (57 < b) → i ≡ i + length (run (drop i t))
+  run-at-stop s = rw (drop-next t i h, run-stop b rest (not-digit b s)) (omega arith)
+
+  pub turn : (v : ℕ) → Digits (drop i t) → Turn t i v
+  unfolding all valueFrom
+  turn v a =
+      let every : Digits (b ∷ rest) = rw (drop-next t i h) at a in
+      let d = digit-bounds b (and-l (isDigit b) (all isDigit rest) every) in
+      record {
+        low = d .0;
+        high = d .1;
+        rest = and-r (isDigit b) (all isDigit rest) every;
+        goes-on = rw (drop-next t i h);
+      }
+
+pub run-at-end : (t : List ℕ) (i : ℕ) → length t ≤ i → i ≡ i + length (run (drop i t))
+run-at-end t i h = rw (drop-of-length-le t h, run-nil) (omega arith)
 
 pub pow-turn : (v i d : ℕ) → v < 10 ^ i → d ≤ 9 → v * 10 + d < 10 ^ (i + 1)
 pow-turn v i d h k = rw (add-one, pow-suc) (omega arith)

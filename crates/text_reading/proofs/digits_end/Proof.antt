@@ -1,10 +1,11 @@
--- `text_reading::digits_end` meets its contract. The invariant: the place and the digits from it on end where those from `at` on end. Assumes nothing.
-use mathlib.Core.Path.{_≡_, refl, _∙_, sym}
+-- `text_reading::digits_end` meets its contract: the digits from the place on end where those from `at` on end.
+-- Assumes nothing.
+use mathlib.Core.Path.{_≡_, _∙_}
 use mathlib.Core.Logic.{inl, inr}
 use Prim.Native.Nat.{_+_, _-_}
 use native.Mathlib.Omega.{arith}
+use borrow.Author.Needs.{needs}
 use lib.ListN.{length, drop}
-use denote.Ref.{now}
 use Rattle.text_reading.specs.Scan.{run}
 use Rattle.text_reading.proofs.Runs.{run-at-digit, run-at-stop, run-at-end}
 use Rattle.text_reading.proofs.digits_end.Statement.{statement}
@@ -17,21 +18,20 @@ abbrev μ-loop : tie.MeasureT-loop
 μ-loop text at i₀ i = length text - i
 
 loop-holds : tie.Need-loop-holds Inv-loop μ-loop
-loop-holds c = refl
+loop-holds c = search needs
 
 shared-slice-read-b : tie.Need-shared-slice-read-b Inv-loop μ-loop
 shared-slice-read-b c = omega arith
 
 returns : tie.Need-returns Inv-loop μ-loop
 returns c =
-    run-at-stop (now (c .before .before .before .before .args .text)) _ (c .before .before .loop-test .taken) (inl (c .if1 .taken))
-    ∙ c .before .before .before .loop .inv
+    let turn = c .before .before in
+    run-at-stop _ _ (turn .loop-test .taken) (inl (c .if1 .taken)) ∙ turn .before .loop .inv
 
 returns-2 : tie.Need-returns-2 Inv-loop μ-loop
 returns-2 c =
-    run-at-stop (now (c .before .before .before .before .before .args .text)) _ (c .before .before .before .loop-test .taken)
-    (inr (c .if2 .taken))
-    ∙ c .before .before .before .before .loop .inv
+    let turn = c .before .before .before in
+    run-at-stop _ _ (turn .loop-test .taken) (inr (c .if2 .taken)) ∙ turn .before .loop .inv
 
 add-i : tie.Need-add-i Inv-loop μ-loop
 add-i c = omega arith
@@ -41,12 +41,11 @@ loop-less c = omega arith
 
 loop-again : tie.Need-loop-again Inv-loop μ-loop
 loop-again c =
-    sym (run-at-digit (now (c .before .before .before .before .before .args .text)) _ (c .before .before .before .loop-test .taken)
-    (c .before .if1 .left) (c .if2 .left))
-    ∙ c .before .before .before .before .loop .inv
+    let turn = c .before .before .before in
+    run-at-digit _ _ (turn .loop-test .taken) (c .before .if1 .left) (c .if2 .left) ∙ turn .before .loop .inv
 
 returns-3 : tie.Need-returns-3 Inv-loop μ-loop
-returns-3 c = run-at-end (now (c .before .before .args .text)) _ (c .loop-test .left) ∙ c .before .loop .inv
+returns-3 c = run-at-end _ _ (c .loop-test .left) ∙ c .before .loop .inv
 
 pub digits-end-spec : {M : Type 1} → statement M
 digits-end-spec =

@@ -1,7 +1,8 @@
--- `text_reading::has_byte` meets its contract. Assumes nothing.
+-- `text_reading::has_byte` meets its contract.
+-- Assumes nothing.
+use borrow.Author.Needs.{needs}
 use borrow.Author.Tests.{lt-ltb, le-ltb}
 use Rattle.text_reading.specs.Scan.{hasByte}
-use borrow.Author.Needs.{needs}
 use Rattle.text_reading.proofs.has_byte.Statement.{statement}
 use Rattle.text_reading.proofs.has_byte.Tie as tie
 

@@ -1,33 +1,33 @@
--- `text_reading::value` meets its contract. The invariant: the value so far with the digits to come is the value of all, and it has no more digits
--- than were read. Assumes nothing.
-use mathlib.Core.Path.{_≡_, refl, _∙_, sym, ap}
-use mathlib.Core.List.{[]}
+-- `text_reading::value` meets its contract: the value so far, with the digits to come, is the value of all, and it has no more digits than
+-- were read.
+-- Assumes nothing.
+use mathlib.Core.Path.{_≡_, _∙_}
 use Prim.Native.Nat.{_-_, _^_, _≤_, _<_}
 use native.Mathlib.Omega.{arith}
+use borrow.Author.Needs.{needs}
 use lib.ListN.{length, drop, drop-of-length-le}
-use denote.Ref.{now}
 use Rattle.model.specs.Numbers.{valueFrom, valueOf}
 use Rattle.text_reading.proofs.Runs.{Digits, Turn, turn, pow-turn, pow-nine}
 use Rattle.text_reading.proofs.value.Statement.{statement}
 use Rattle.text_reading.proofs.value.Tie as tie
 
 abbrev Inv-loop : tie.InvT-loop
-Inv-loop text v₀ i₀ v i = (i ≤ length text) × (v < 10 ^ i) × Digits (drop i text) × (valueFrom v (drop i text) ≡ valueFrom 0 text)
+Inv-loop text v₀ i₀ v i =
+    (i ≤ length text) × (v < 10 ^ i) × Digits (drop i text) × (valueFrom v (drop i text) ≡ valueFrom 0 text)
 
 abbrev μ-loop : tie.MeasureT-loop
 μ-loop text v₀ i₀ v i = length text - i
 
--- within a turn
-at-turn : (c : tie.In-loop Inv-loop μ-loop) → Turn (now (c .before .before .args .text)) (c .before .loop .i) (c .before .loop .v)
-at-turn c = turn _ _ _ (c .loop-test .taken) (c .before .loop .inv .2)
+-- the next byte is a digit
+next : (c : tie.In-loop Inv-loop μ-loop) → Turn (c .before .before .args .text .now) (c .before .loop .i) (c .before .loop .v)
+next c = turn _ _ (c .loop-test .taken) _ (c .before .loop .inv .2)
 
+-- at most nine digits were read
 small : (c : tie.In-loop Inv-loop μ-loop) → c .before .loop .v < 1000000000
-small c =
-    let at-loop = c .before in
-    pow-nine _ (at-loop .loop .i) (at-loop .loop .inv .1) (omega arith)
+small c = let loop = c .before .loop in pow-nine _ (loop .i) (loop .inv .1) (omega arith)
 
 loop-holds : tie.Need-loop-holds Inv-loop μ-loop
-loop-holds c = (omega arith, omega arith, c .pre .1, refl)
+loop-holds c = search needs
 
 mul-v : tie.Need-mul-v Inv-loop μ-loop
 mul-v c = omega (arith, small c)
@@ -36,13 +36,13 @@ shared-slice-read-v : tie.Need-shared-slice-read-v Inv-loop μ-loop
 shared-slice-read-v c = omega arith
 
 sub-v : tie.Need-sub-v Inv-loop μ-loop
-sub-v c = at-turn (c .before) .low
+sub-v c = next (c .before) .low
 
 cast-v : tie.Need-cast-v Inv-loop μ-loop
-cast-v c = omega (arith, at-turn (c .before))
+cast-v c = omega (arith, next (c .before))
 
 add-v : tie.Need-add-v Inv-loop μ-loop
-add-v c = omega (arith, small (c .before), at-turn (c .before))
+add-v c = omega (arith, small (c .before), next (c .before))
 
 add-i : tie.Need-add-i Inv-loop μ-loop
 add-i c = omega arith
@@ -52,20 +52,13 @@ loop-less c = omega arith
 
 loop-again : tie.Need-loop-again Inv-loop μ-loop
 loop-again c =
-    let at-loop = c .before .before in
-    let t = at-turn (c .before) in (
-      omega arith,
-      pow-turn _ (at-loop .loop .i) _ (at-loop .loop .inv .1) (omega arith),
-      t .rest,
-      t .goes-on ∙ at-loop .loop .inv .3,
-    )
+    let inv = c .before .before .loop .inv in
+    let t = next (c .before) in
+    (omega arith, pow-turn _ _ _ (inv .1) (omega arith), t .rest, t .goes-on ∙ inv .3)
 
 returns : tie.Need-returns Inv-loop μ-loop
 unfolding valueFrom valueOf
-returns c =
-    let at-loop = c .before in
-    let e : drop (at-loop .loop .i) (now (c .before .before .args .text)) ≡ [] = drop-of-length-le _ (c .loop-test .left) in
-    sym (ap (valueFrom (at-loop .loop .v)) e) ∙ at-loop .loop .inv .3
+returns c = rw (drop-of-length-le _ (c .loop-test .left)) at (c .before .loop .inv .3)
 
 pub value-spec : {M : Type 1} → statement M
 value-spec =
