@@ -79,7 +79,8 @@ fn write_row(a: usize, row: &[u16], buffer: &mut [u8], at: usize) -> usize
 
 // Writes a survey's text, for which there is room, from the first byte on.
 fn write_text(n: usize, starts: &[u32], neighbours: &[u16], buffer: &mut [u8])
-    requires { ⌜ Accepted n (now starts) (now neighbours) × (length (textOf n (now starts) (now neighbours)) ≤ length (now buffer)) ⌝ }
+    requires { ⌜ Accepted n (now starts) (now neighbours) ×
+        (length (textOf n (now starts) (now neighbours)) ≤ length (now buffer)) ⌝ }
     ensures { λ _. ⌜ now (buffer .exit) ≡ over (textOf n (now (starts .entry)) (now (neighbours .entry))) (now (buffer .entry)) ⌝ }
 {
     let mut pos = text_writing::write_line(buffer, 0, 83, n as u32, starts[n] / 2);
@@ -97,7 +98,8 @@ fn write_text(n: usize, starts: &[u32], neighbours: &[u16], buffer: &mut [u8])
 
 // Writes a survey's text into a buffer. What was written is read back as the same survey.
 pub fn write_survey(n: usize, starts: &[u32], neighbours: &[u16], buffer: &mut [u8]) -> Counting
-    ensures { λ r. ⌜ writeReturned r (now (buffer .exit)) ≡ writing n (now (starts .entry)) (now (neighbours .entry)) (now (buffer .entry)) ⌝ }
+    ensures { λ r. ⌜ writeReturned r (now (buffer .exit)) ≡
+        writing n (now (starts .entry)) (now (neighbours .entry)) (now (buffer .entry)) ⌝ }
     ensures { λ r. ⌜ WriteRight n (now (starts .entry)) (now (neighbours .entry)) (writeReturned r (now (buffer .exit))) ⌝ }
 {
     match survey_acceptance::accept(n, starts, neighbours) {

@@ -1,16 +1,15 @@
 -- `survey_writing::row_length` meets its contract: the bytes counted and those of the lines left are all.
 -- Assumes nothing.
 use borrow.Author.Needs.{needs}
-use Prim.Native.Nat.{_-_, _≤_}
+use Prim.Native.Nat.{_-_}
 use native.Mathlib.Omega.{arith}
-use lib.ListN.{length, drop}
-use Rattle.survey_writing.specs.LinkLines.{linesOf}
-use Rattle.survey_writing.proofs.LineLaws.{Counted, row-none, row-more, row-done}
+use lib.ListN.{length}
+use Rattle.survey_writing.proofs.LineLaws.{RowCounted, row-more, row-done}
 use Rattle.survey_writing.proofs.row_length.Statement.{statement}
 use Rattle.survey_writing.proofs.row_length.Tie as tie
 
 abbrev Inv-loop : tie.InvT-loop
-Inv-loop a row total₀ i₀ total i = (i ≤ length row) × Counted total i (linesOf a row) (linesOf a (drop i row))
+Inv-loop a row total₀ i₀ total i = RowCounted a row total i
 
 abbrev μ-loop : tie.MeasureT-loop
 μ-loop a row total₀ i₀ total i = length row - i
@@ -38,17 +37,11 @@ loop-less c = omega arith
 
 loop-again : tie.Need-loop-again Inv-loop μ-loop
 loop-again c =
-    let at-loop = c .before .before .before in (
-      omega arith,
-      row-more _ _ _ _ _
-          (c .before .before .loop-test .taken) (at-loop .loop .inv .1) (c .link-length .ensures),
-    )
+    let turn = c .before .before in
+    row-more (turn .before .loop .inv) (turn .loop-test .taken) (c .link-length .ensures)
 
 returns : tie.Need-returns Inv-loop μ-loop
-returns c =
-    let at-loop = c .before in
-    row-done _ _ _ _ (c .loop-test .left)
-    (at-loop .loop .inv .0) (at-loop .loop .inv .1)
+returns c = row-done (c .before .loop .inv) (c .loop-test .left)
 
 pub row-length-spec : {M : Type 1} → statement M
 row-length-spec =

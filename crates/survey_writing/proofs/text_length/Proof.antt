@@ -1,26 +1,24 @@
 -- `survey_writing::text_length` meets its contract: the bytes counted and those of the rows left are all.
 -- Assumes nothing.
--- `survey_writing::text_length` meets its contract: the bytes counted and those of the rows left are all.
--- Assumes nothing.
 use borrow.Author.Needs.{needs}
-use mathlib.Core.Path.{_≡_, sym, ap, subst}
-use mathlib.Core.List.{List}
-use Prim.Native.Nat.{ℕ, _+_, _-_, _*_, _≤_}
+use Prim.Native.Nat.{_-_, _≤_}
 use native.Mathlib.Omega.{arith}
-use lib.ListN.{length, getD}
-use Rattle.model.specs.Survey.{neighboursOf}
-use Rattle.model.specs.Writing.{textOf}
-use Rattle.survey_neighbours.proofs.RowLaws.{rows-of}
-use Rattle.survey_writing.specs.LinkLines.{linesOf}
-use Rattle.survey_writing.proofs.LineLaws.{Counted, rowsFrom, own-end, own-few, text-none, text-more, text-done}
+use lib.ListN.{length}
+use Rattle.survey_writing.proofs.LineLaws.{TextCounted, own-few, text-none, total-few, text-more, text-done}
 use Rattle.survey_writing.proofs.text_length.Statement.{statement}
 use Rattle.survey_writing.proofs.text_length.Tie as tie
 
 abbrev Inv-loop : tie.InvT-loop
-Inv-loop n starts neighbours total₀ v₀ total v = (v ≤ n) × Counted total (1 + getD starts v 0) (textOf n starts neighbours) (rowsFrom n (neighboursOf starts neighbours) v)
+Inv-loop n starts neighbours total₀ v₀ total v = TextCounted n starts neighbours total v
 
 abbrev μ-loop : tie.MeasureT-loop
 μ-loop n starts neighbours total₀ v₀ total v = n - v
+
+-- the row that is counted is short
+row-few : (c : tie.After-own Inv-loop μ-loop) → length (c .own .result .now) ≤ 32768
+row-few c =
+    let start = c .before .before .before .before .before .before .before in
+    rw (c .own .ensures) (own-few (start .pre) _ (c .before .loop-test .taken))
 
 cast-line-length : tie.Need-cast-line-length Inv-loop μ-loop
 cast-line-length c = search needs
@@ -36,45 +34,18 @@ line-length-requires c κs = omega arith
 
 loop-holds : tie.Need-loop-holds Inv-loop μ-loop
 loop-holds c =
-    let start = c .before .before .before .before in (
-      omega arith,
-      text-none _ _ _ (start .pre) _ 0
-          ((c .line-length .ensures .0) 83) (c .line-length .ensures .1),
-    )
+    text-none (c .before .before .before .before .pre) (c .line-length .ensures .0 83) (c .line-length .ensures .1)
 
 own-requires : tie.Need-own-requires Inv-loop μ-loop
 own-requires c κs = search needs
 
 row-length-requires : tie.Need-row-length-requires Inv-loop μ-loop
-row-length-requires c κs =
-    let start = c .before .before .before .before .before .before .before in
-    let at-loop = c .before .before in
-    let at-loop-test = c .before in (
-      omega arith,
-      subst (λ (l : List ℕ). length l ≤ 32768) (sym (c .own .ensures))
-          (omega (
-            arith,
-            own-end _ _ _ (start .pre) _
-                (at-loop-test .loop-test .taken),
-            own-few _ _ _ (start .pre)
-                ((at-loop .loop .v) + 1) (omega arith),
-          )),
-    )
+row-length-requires c κs = (omega arith, row-few c)
 
 add-total : tie.Need-add-total Inv-loop μ-loop
 add-total c =
-    let start = c .before .before .before .before .before .before .before .before in
     let at-loop = c .before .before .before in
-    let at-loop-test = c .before .before in
-    omega (
-      arith,
-      ap length (c .before .own .ensures),
-      own-end _
-          _ _ (start .pre) _ (at-loop-test .loop-test .taken),
-      own-few
-          _ _ _ (start .pre) ((at-loop .loop .v) + 1)
-          (omega arith),
-    )
+    omega (arith, row-few (c .before), total-few (at-loop .before .before .before .before .before .pre) (at-loop .loop .inv))
 
 add-v : tie.Need-add-v Inv-loop μ-loop
 add-v c = search needs
@@ -84,21 +55,13 @@ loop-less c = omega arith
 
 loop-again : tie.Need-loop-again Inv-loop μ-loop
 loop-again c =
-    let start = c .before .before .before .before .before .before .before .before in
-    let at-loop = c .before .before .before in (
-      omega arith,
-      text-more _ _ _ (start .pre) _
-          _ _ (c .before .before .loop-test .taken) (at-loop .loop .inv .1)
-          (subst (λ (l : List ℕ). ((c .row-length .result) ≡ length (linesOf (at-loop .loop .v) l)) ×
-          ((c .row-length .result) ≤ 24 * length l)) (c .before .own .ensures) (c .row-length .ensures)),
-    )
+    let turn = c .before .before in
+    let start = turn .before .before .before .before .before .before in
+    let counted = rw (c .before .own .ensures) at (c .row-length .ensures) in
+    text-more (start .pre) (turn .before .loop .inv) (turn .loop-test .taken) counted
 
 returns : tie.Need-returns Inv-loop μ-loop
-returns c =
-    let start = c .before .before .before .before .before .before in
-    let at-loop = c .before in
-    text-done _ _ _ (start .pre) _
-    _ (c .loop-test .left) (at-loop .loop .inv .1)
+returns c = text-done (c .before .before .before .before .before .before .pre) (c .before .loop .inv) (c .loop-test .left)
 
 pub text-length-spec : {M : Type 1} → statement M
 text-length-spec =

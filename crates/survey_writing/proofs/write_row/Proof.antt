@@ -1,26 +1,42 @@
 -- `survey_writing::write_row` meets its contract: the lines written and those left are all.
 -- Assumes nothing.
-use borrow.Author.Needs.{needs}
-use mathlib.Core.Path.{subst}
-use mathlib.Core.List.{List, [], _∷_}
+use mathlib.Core.List.{List, [], _∷_, _++_}
 use Prim.Native.Nat.{ℕ, _+_, _-_, _≤_}
 use native.Mathlib.Omega.{arith}
-use lib.ListN.{length, getD, drop, length-append}
-use Rattle.base_lists.proofs.Written.{Left, left-all, left-room, left-more, left-length, left-none}
+use lib.ListN.{length, getD, drop}
+use Rattle.base_lists.proofs.Written.{Left, left-all, left-fits, left-more, left-length, left-none}
 use Rattle.survey_writing.specs.LinkLines.{linesOf}
 use Rattle.survey_writing.proofs.LineLaws.{line-next, line-end}
 use Rattle.survey_writing.proofs.write_row.Statement.{statement}
 use Rattle.survey_writing.proofs.write_row.Tie as tie
 
 abbrev Inv-loop : tie.InvT-loop
-Inv-loop a row buffer₀ at pos₀ i₀ buffer pos i = (i ≤ length row) × Left buffer₀ buffer at pos (linesOf a row) (linesOf a (drop i row))
+Inv-loop a row buffer₀ at pos₀ i₀ buffer pos i =
+    (i ≤ length row) × Left buffer₀ buffer at pos (linesOf a row) (linesOf a (drop i row))
 
 abbrev μ-loop : tie.MeasureT-loop
 μ-loop a row buffer₀ at pos₀ i₀ buffer pos i = length row - i
 
+module _ (c : tie.In-loop Inv-loop μ-loop) where
+  abbrev start : tie.Start Inv-loop μ-loop
+  start = c .before .before .before .before
+
+  abbrev row : List ℕ
+  row = start .args .row .now
+
+  -- the next line, and those after it
+  abbrev line : List ℕ
+  line = linesOf (start .args .a) (getD row (c .before .loop .i) 0 ∷ [])
+
+  abbrev rest : List ℕ
+  rest = linesOf (start .args .a) (drop (c .before .loop .i + 1) row)
+
+  next : Left (start .args .buffer .now) (c .before .loop .buffer) (start .args .at) (c .before .loop .pos)
+      (linesOf (start .args .a) row) (line ++ rest)
+  next = rw (line-next _ _ _ (c .loop-test .taken)) at (c .before .loop .inv .1)
+
 loop-holds : tie.Need-loop-holds Inv-loop μ-loop
-loop-holds c =
-    (omega arith, left-all _ _ (linesOf _ _))
+loop-holds c = (omega arith, left-all _ _ _)
 
 mul-write-link : tie.Need-mul-write-link Inv-loop μ-loop
 mul-write-link c = omega arith
@@ -30,21 +46,9 @@ shared-slice-read-write-link c = omega arith
 
 write-link-requires : tie.Need-write-link-requires Inv-loop μ-loop
 write-link-requires c κs =
-    let start = c .before .before .before .before .before .before in
-    let at-loop = c .before .before .before in (
-      (start .pre .0),
-      omega (
-        arith,
-        left-room _ _
-            (linesOf _ _) (start .pre .1) _ _ _
-            (subst (λ (t : List ℕ). Left (start .args .buffer .now) (at-loop .loop .buffer) (start .args .at) (at-loop .loop .pos)
-            (linesOf (start .args .a) (start .args .row .now)) t)
-            (line-next _ _ _ (c .before .before .loop-test .taken))
-            (at-loop .loop .inv .1)),
-        length-append (linesOf (start .args .a) (getD (start .args .row .now) (at-loop .loop .i) 0 ∷ []))
-            (linesOf (start .args .a) (drop ((at-loop .loop .i) + 1) (start .args .row .now))),
-      ),
-    )
+    let turn = c .before .before in
+    let pre = turn .before .before .before .before .pre in
+    (pre .0, left-fits _ _ _ (pre .1) _ _ (line turn) (rest turn) (next turn))
 
 add-i : tie.Need-add-i Inv-loop μ-loop
 add-i c = omega arith
@@ -54,35 +58,17 @@ loop-less c = omega arith
 
 loop-again : tie.Need-loop-again Inv-loop μ-loop
 loop-again c =
-    let start = c .before .before .before .before .before .before .before .before .before in
-    let at-loop = c .before .before .before .before .before .before in
-    let at-write-link = c .before .before in (
-      omega arith,
-      left-more _ _ (linesOf _ _) (start .pre .1)
-          _ _ _ _
-          (subst (λ (t : List ℕ). Left (start .args .buffer .now) (at-loop .loop .buffer) (start .args .at) (at-loop .loop .pos)
-          (linesOf (start .args .a) (start .args .row .now)) t)
-          (line-next _ _ _
-          (c .before .before .before .before .before .loop-test .taken)) (at-loop .loop .inv .1)) _
-          _ (at-write-link .write-link .ensures),
-    )
+    let turn = c .before .before .before .before .before in
+    let pre = turn .before .before .before .before .pre in
+    (omega arith, left-more _ _ _ (pre .1) _ _ _ _ (next turn) _ _ (c .before .before .write-link .ensures))
 
 same-length : tie.Need-same-length Inv-loop μ-loop
-same-length c =
-    let start = c .before .before .before .before in
-    let at-loop = c .before in
-    left-length _ _ (linesOf _ _) (start .pre .1)
-    _ _ _ (at-loop .loop .inv .1)
+same-length c = left-length _ _ _ (c .before .before .before .before .pre .1) _ _ _ (c .before .loop .inv .1)
 
 returns : tie.Need-returns Inv-loop μ-loop
 returns c =
     let start = c .before .before .before .before in
-    let at-loop = c .before in
-    left-none _ _ (linesOf _ _) (start .pre .1)
-    _ _
-    (subst (λ (t : List ℕ). Left (start .args .buffer .now) (at-loop .loop .buffer) (start .args .at) (at-loop .loop .pos)
-    (linesOf (start .args .a) (start .args .row .now)) t)
-    (line-end _ _ _ (c .loop-test .left)) (at-loop .loop .inv .1))
+    left-none _ _ _ (start .pre .1) _ _ (rw (line-end _ _ _ (c .loop-test .left)) at (c .before .loop .inv .1))
 
 pub write-row-spec : {M : Type 1} → statement M
 write-row-spec =

@@ -1,15 +1,25 @@
 -- `survey_writing::write_survey` meets its contract: acceptance, then the buffer's length, then the text.
 -- Assumes nothing.
--- `survey_writing::write_survey` meets its contract: acceptance, then the buffer's length, then the text.
--- Assumes nothing.
-use mathlib.Core.Path.{sym, ap, _∙_}
+use mathlib.Core.Path.{_≡_, sym, ap, _∙_}
 use native.Mathlib.Omega.{arith}
-use Rattle.model.specs.Answers.{acceptAnswer}
+use Rattle.model.specs.Answers.{acceptAnswer, answered}
+use Rattle.model.specs.Survey.{accepting, Accepted}
 use Rattle.model.proofs.Acceptance.{accepting-facts}
 use Rattle.survey_writing.proofs.LineLaws.{writing-refused, writing-short, writing-whole}
 use borrow.Author.Needs.{needs}
 use Rattle.survey_writing.proofs.write_survey.Statement.{statement}
 use Rattle.survey_writing.proofs.write_survey.Tie as tie
+
+module _ (c : tie.After-enum-told) where
+  abbrev start : tie.Start
+  start = c .before .before .before .before .before .before
+
+  -- the lists are accepted
+  answers : answered tt ≡ accepting (start .args .n) (start .args .starts .now) (start .args .neighbours .now)
+  answers = sym (ap acceptAnswer (c .enum-told .given .1)) ∙ c .before .before .accept .ensures
+
+  accepted : Accepted (start .args .n) (start .args .starts .now) (start .args .neighbours .now)
+  accepted = accepting-facts _ _ _ tt (sym answers)
 
 accept-requires : tie.Need-accept-requires
 accept-requires c κs = search needs
@@ -21,43 +31,28 @@ enum-told : tie.Need-enum-told
 enum-told c = search needs
 
 text-length-requires : tie.Need-text-length-requires
-text-length-requires c κs =
-    (accepting-facts _ _ _ tt
-    (sym (sym (ap acceptAnswer (c .enum-told .given .1)) ∙ (c .before .before .accept .ensures))))
+text-length-requires c κs = accepted c
 
 returns : tie.Need-returns
-returns c =
-    writing-short _ _ _ _
-    (sym (ap acceptAnswer (c .before .before .enum-told .given .1)) ∙ (c .before .before .before .before .accept .ensures))
-    (omega arith)
+returns c = writing-short _ _ _ _ (answers (c .before .before)) (omega arith)
 
 write-text-requires : tie.Need-write-text-requires
-write-text-requires c κs = (
-  (accepting-facts _ _ _ tt
-      (sym (sym (ap acceptAnswer (c .before .before .before .enum-told .given .1)) ∙
-      (c .before .before .before .before .before .accept .ensures)))),
-  omega arith,
-)
+write-text-requires c κs = (accepted (c .before .before .before), omega arith)
 
 returns-2 : tie.Need-returns-2
 returns-2 c =
-    let at-r = c .before in
-    writing-refused _ _ _ _
-    (at-r .r .given .0 .0) (sym (ap acceptAnswer (at-r .r .given .1)) ∙ (c .before .before .before .accept .ensures))
+    let r = c .before .r in
+    writing-refused _ _ _ _ (r .given .0 .0) (sym (ap acceptAnswer (r .given .1)) ∙ c .before .before .before .accept .ensures)
 
 same-length : tie.Need-same-length
 same-length c = search needs
 
 returns-3 : tie.Need-returns-3
 returns-3 c =
-    let at-accept = c .before .before .before .before .before .before .before .before in
-    let at-enum-told = c .before .before .before .before .before .before in
-    let at-text-length = c .before .before .before .before .before in
-    let at-write-text = c .before .before in
-    writing-whole _ _ _ _
-    (sym (ap acceptAnswer (at-enum-told .enum-told .given .1)) ∙ (at-accept .accept .ensures))
-    (omega arith)
-    _ _ (at-write-text .write-text .ensures) (at-text-length .text-length .ensures)
+    let write-text = c .before .before .write-text in
+    let text-length = c .before .before .before .before .before .text-length in
+    let told = c .before .before .before .before .before .before in
+    writing-whole _ _ _ _ (answers told) (omega arith) (write-text .ensures) (text-length .ensures)
 
 pub write-survey-spec : {M : Type 1} → statement M
 write-survey-spec =

@@ -1,25 +1,60 @@
 -- `survey_writing::write_text` meets its contract: the rows written and those left are all.
 -- Assumes nothing.
 use borrow.Author.Needs.{needs}
-use mathlib.Core.Path.{sym, subst}
-use mathlib.Core.List.{List}
+use mathlib.Core.Path.{_∙_}
+use mathlib.Core.List.{List, _++_}
 use Prim.Native.Nat.{ℕ, _+_, _-_, _≤_}
 use native.Mathlib.Omega.{arith}
 use lib.ListN.{length}
-use Rattle.base_lists.specs.Written.{Wrote}
-use Rattle.base_lists.proofs.Written.{Left, left-all}
-use Rattle.model.specs.Survey.{neighboursOf}
-use Rattle.survey_neighbours.proofs.RowLaws.{rows-of}
+use Rattle.base_lists.proofs.Written.{wrote-room, wrote-length, wrote-then, wrote-over, Left, left-all, left-fits, left-more, left-length, left-none}
+use Rattle.model.specs.Survey.{Graph, neighboursOf}
 use Rattle.survey_writing.specs.LinkLines.{linesOf}
-use Rattle.survey_writing.proofs.LineLaws.{rowsFrom, all-room, next-room, next-written, rows-length, text-written}
+use Rattle.survey_writing.proofs.LineLaws.{rowsFrom, firstLine, length-text, rows-next, rows-end, text-is}
 use Rattle.survey_writing.proofs.write_text.Statement.{statement}
 use Rattle.survey_writing.proofs.write_text.Tie as tie
 
 abbrev Inv-loop : tie.InvT-loop
-Inv-loop n starts neighbours buffer₀ pos₀ v₀ buffer pos v = (v ≤ n) × Left buffer₀ buffer pos₀ pos (rowsFrom n (neighboursOf starts neighbours) 0) (rowsFrom n (neighboursOf starts neighbours) v)
+Inv-loop n starts neighbours buffer₀ pos₀ v₀ buffer pos v =
+    let G : Graph = neighboursOf starts neighbours in
+    (v ≤ n) × Left buffer₀ buffer pos₀ pos (rowsFrom n G 0) (rowsFrom n G v)
 
 abbrev μ-loop : tie.MeasureT-loop
 μ-loop n starts neighbours buffer₀ pos₀ v₀ buffer pos v = n - v
+
+-- the lines of the rows
+abbrev rows : (c : tie.Start Inv-loop μ-loop) → List ℕ
+rows c = rowsFrom (c .args .n) (neighboursOf (c .args .starts .now) (c .args .neighbours .now)) 0
+
+-- there is room for the first line and the rows
+all-room : (c : tie.Start Inv-loop μ-loop)
+    → 0 + length (firstLine (c .args .n) (c .args .starts .now)) + length (rows c) ≤ length (c .args .buffer .now)
+all-room c = omega (arith, length-text (c .args .n) (c .args .starts .now) (c .args .neighbours .now), c .pre .1)
+
+-- once the first line is written, there is room for the rows behind it
+module _ (c : tie.After-write-line Inv-loop μ-loop) where
+  abbrev start : tie.Start Inv-loop μ-loop
+  start = c .before .before .before .before .before .before
+
+  room : c .write-line .result + length (rows start) ≤ length (c .write-line .last .0)
+  room = wrote-room (rows start) (all-room start) (c .write-line .ensures)
+
+module _ (c : tie.In-loop Inv-loop μ-loop) where
+  abbrev first : tie.After-write-line Inv-loop μ-loop
+  first = c .before .before .before .before
+
+  abbrev G : Graph
+  G = neighboursOf (start first .args .starts .now) (start first .args .neighbours .now)
+
+  -- the lines of the next row, and those of the rows after it
+  abbrev lines : List ℕ
+  lines = linesOf (c .before .loop .v) (G (c .before .loop .v))
+
+  abbrev rest : List ℕ
+  rest = rowsFrom (start first .args .n) G (c .before .loop .v + 1)
+
+  next : Left (first .write-line .last .0) (c .before .loop .buffer) (first .write-line .result) (c .before .loop .pos)
+      (rows (start first)) (lines ++ rest)
+  next = rw (rows-next _ _ _ (c .loop-test .taken)) at (c .before .loop .inv .1)
 
 cast-write-line : tie.Need-cast-write-line Inv-loop μ-loop
 cast-write-line c = search needs
@@ -31,13 +66,7 @@ shared-slice-read-write-line : tie.Need-shared-slice-read-write-line Inv-loop μ
 shared-slice-read-write-line c = search needs
 
 write-line-requires : tie.Need-write-line-requires Inv-loop μ-loop
-write-line-requires c κs =
-    let start = c .before .before .before .before .before in
-    omega (
-      arith,
-      all-room _ _ _ (start .pre .0)
-          (start .args .buffer .now) (start .pre .1),
-    )
+write-line-requires c κs = omega (arith, all-room (c .before .before .before .before .before))
 
 loop-holds : tie.Need-loop-holds Inv-loop μ-loop
 loop-holds c = (omega arith, left-all _ _ _)
@@ -47,18 +76,8 @@ own-requires c κs = search needs
 
 write-row-requires : tie.Need-write-row-requires Inv-loop μ-loop
 write-row-requires c κs =
-    let start = c .before .before .before .before .before .before .before .before .before .before .before .before in
-    let at-write-line = c .before .before .before .before .before .before in
-    let at-loop = c .before .before .before in
-    let at-loop-test = c .before .before in (
-      omega arith,
-      subst
-          (λ (l : List ℕ). (at-loop .loop .pos) + length (linesOf (at-loop .loop .v) l) ≤ length (at-loop .loop .buffer))
-          (sym (c .before .own .ensures)) (next-room _ _ _
-          (start .pre .0) _ (start .pre .1) _ _
-          (at-write-line .write-line .ensures) _ _ _ (at-loop .loop .inv .1)
-          (at-loop-test .loop-test .taken)),
-    )
+    let turn = c .before .before in
+    (omega arith, rw (c .before .own .ensures) (left-fits _ _ _ (room (first turn)) _ _ (lines turn) (rest turn) (next turn)))
 
 add-v : tie.Need-add-v Inv-loop μ-loop
 add-v c = search needs
@@ -68,38 +87,24 @@ loop-less c = omega arith
 
 loop-again : tie.Need-loop-again Inv-loop μ-loop
 loop-again c =
-    let start = c .before .before .before .before .before .before .before .before .before .before .before .before .before .before .before in
-    let at-write-line = c .before .before .before .before .before .before .before .before .before in
-    let at-loop = c .before .before .before .before .before .before in
-    let at-write-row = c .before .before in (
-      omega arith,
-      next-written _ _ _ (start .pre .0)
-          _ (start .pre .1) _ _
-          (at-write-line .write-line .ensures) _ _ _ (at-loop .loop .inv .1)
-          (c .before .before .before .before .before .loop-test .taken) _
-          _ (subst
-          (λ (l : List ℕ). Wrote (at-loop .loop .buffer) (at-write-row .write-row .last .1 .1 .0) (at-loop .loop .pos)
-          (at-write-row .write-row .result) (linesOf (at-loop .loop .v) l)) (c .before .before .before .before .own .ensures)
-          (at-write-row .write-row .ensures)),
-    )
+    let write-row = c .before .before .write-row in
+    let own = c .before .before .before .before .own in
+    let turn = c .before .before .before .before .before in
+    (omega arith, left-more _ _ _ (room (first turn)) _ _ _ _ (next turn) _ _ (rw (own .ensures) at (write-row .ensures)))
 
 same-length : tie.Need-same-length Inv-loop μ-loop
 same-length c =
-    let start = c .before .before .before .before .before .before .before .before .before .before in
-    let at-write-line = c .before .before .before .before in
-    let at-loop = c .before in
-    rows-length _ _ _ (start .pre .0) _
-    (start .pre .1) _ _ (at-write-line .write-line .ensures)
-    _ _ _ (at-loop .loop .inv .1)
+    let first = c .before .before .before .before in
+    left-length _ _ _ (room first) _ _ _ (c .before .loop .inv .1)
+    ∙ wrote-length (omega (arith, all-room (start first))) (first .write-line .ensures)
 
 returns : tie.Need-returns Inv-loop μ-loop
 returns c =
-    let start = c .before .before .before .before .before .before .before .before .before .before in
-    let at-write-line = c .before .before .before .before in
-    let at-loop = c .before in
-    text-written _ _ _ (start .pre .0) _
-    (start .pre .1) _ _ (at-write-line .write-line .ensures)
-    _ _ _ (at-loop .loop .inv .1) (c .loop-test .left)
+    let first = c .before .before .before .before in
+    let args = start first .args in
+    let behind = left-none _ _ _ (room first) _ _ (rw (rows-end _ _ _ (c .loop-test .left)) at (c .before .loop .inv .1)) in
+    let all = wrote-then (all-room (start first)) (first .write-line .ensures) behind in
+    wrote-over _ (rw (← text-is (args .n) (args .starts .now) (args .neighbours .now)) at all) .0
 
 pub write-text-spec : {M : Type 1} → statement M
 write-text-spec =
