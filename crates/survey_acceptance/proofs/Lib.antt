@@ -1,6 +1,5 @@
 pub mod Rest
 pub mod Matching
-pub mod Pass
-pub mod Cursors
 pub mod Fitting
+pub mod Cursors
 pub mod SurveyTest

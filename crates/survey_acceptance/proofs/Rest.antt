@@ -1,20 +1,29 @@
--- A test of all nodes from v up to n: the first, and the others.
+-- A test of all nodes below n, made one after the other: what was found and the nodes left still say the whole.
 -- Assumes nothing.
-use mathlib.Core.Path.{_≡_, sym, ap, _∙_}
+use mathlib.Core.Path.{_≡_, sym, _∙_}
 use mathlib.Core.Bool.{Bool, _&&_, and-assoc, and-true}
 use Prim.Native.Nat.{ℕ, suc, _+_, _-_, _≤_, _<_}
+use native.Mathlib.Nat.{sub-zero}
 use native.Mathlib.Numerals.{add-one}
 use native.Mathlib.Omega.{arith}
-use Rattle.model.specs.Basics.{all, from}
+use Rattle.model.specs.Basics.{all, from, upTo}
 
-pub rest-next : (p : ℕ → Bool) (good : Bool) (n v : ℕ) → v < n → ((good && p v) && all p (from (v + 1) (n - (v + 1)))) ≡ (good && all p (from v (n - v)))
-unfolding from all
-rest-next p good n v h =
-    let e : n - v ≡ suc (n - (v + 1)) = omega arith in
-    and-assoc good (p v) (all p (from (v + 1) (n - (v + 1))))
-    ∙ ap (λ (u : ℕ). good && (p v && all p (from u (n - (v + 1))))) (add-one v)
-    ∙ ap (λ (k : ℕ). good && all p (from v k)) (sym e)
+-- the nodes below v are tested
+pub record Tested (p : ℕ → Bool) (n : ℕ) (whole good : Bool) (v : ℕ) : Type 0 where
+  pub within : v ≤ n
+  pub rest : (good && all p (from v (n - v))) ≡ whole
 
-pub rest-end : (p : ℕ → Bool) (good : Bool) (n v : ℕ) → n ≤ v → good ≡ (good && all p (from v (n - v)))
-unfolding from all
-rest-end p good n v h = let e : 0 ≡ n - v = omega arith in sym (and-true good) ∙ ap (λ (k : ℕ). good && all p (from v k)) e
+pub tested-none : {p : ℕ → Bool} {n : ℕ} {good : Bool} → Tested p n (good && all p (upTo n)) good 0
+unfolding upTo
+tested-none {n = n} = record { within = omega arith; rest = rw (sub-zero n) }
+
+module _ {p : ℕ → Bool} {n : ℕ} {whole good : Bool} {v : ℕ} (t : Tested p n whole good v) where
+  pub tested-next : v < n → Tested p n whole (good && p v) (v + 1)
+  unfolding from all
+  tested-next h =
+      let e : n - v ≡ suc (n - suc v) = omega arith in
+      record { within = omega arith; rest = and-assoc good (p v) _ ∙ rw (add-one v) (rw e at (t .rest)) }
+
+  pub tested-all : n ≤ v → good ≡ whole
+  unfolding from all
+  tested-all h = let e : n - v ≡ 0 = omega arith in sym (and-true good) ∙ rw e at (t .rest)

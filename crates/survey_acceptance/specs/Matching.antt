@@ -1,4 +1,5 @@
--- One row of a survey, met with a cursor for each node: the place behind those of its smaller neighbours that have been met.
+-- One row of a survey, and a cursor for each node: the place in the node's row behind those of its smaller neighbours whose rows have been
+-- passed.
 -- Assumes nothing.
 use mathlib.Core.Path.{_≡_}
 use mathlib.Core.Bool.{Bool, _&&_}
@@ -18,6 +19,6 @@ unfoldable pub rowFits : (neighbours : List ℕ) (last n v : ℕ) (row cursors :
 rowFits neighbours last n v row cursors =
     ascending (v ∷ row) && all (λ x. ltb x n && ltb (getD cursors x 0) last && stands neighbours v x cursors) row
 
--- the cursors of a row's nodes have moved on by one, and no other
+-- the cursors of a row's nodes have moved on by one, and no others have
 abbrev pub Moved : (row cursors cursors′ : List ℕ) → Type 0
 Moved row cursors cursors′ = (x : ℕ) → getD cursors′ x 0 ≡ (if has x row then getD cursors x 0 + 1 else getD cursors x 0)

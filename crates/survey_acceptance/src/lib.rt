@@ -12,7 +12,7 @@ ghost use Rattle.model.specs.Survey.{isSurvey, accepting};
 ghost use Rattle.survey_neighbours.specs.Rows.{Rows};
 ghost use Rattle.survey_acceptance.specs.Matching.{rowFits, Moved};
 
-// Each node's cursor is put at its row's start.
+// Puts each node's cursor at the start of its row.
 fn put_cursors(n: usize, starts: &[u32], cursors: &mut [u32])
     requires { ⌜ (n ≤ length (now starts)) × (n ≤ length (now cursors)) ⌝ }
     ensures { λ _. ⌜ ((x : ℕ) → x < n → getD (now (cursors .exit)) x 0 ≡ getD (now (starts .entry)) x 0) ⌝ }
@@ -24,8 +24,8 @@ fn put_cursors(n: usize, starts: &[u32], cursors: &mut [u32])
     }
 }
 
-// Meets the larger nodes of row v, which must ascend from v on and lie below n: at each one's cursor must stand v, and the cursor
-// moves on. Bits in which an entry is not v are collected and not branched on, for speed.
+// Checks v's larger neighbours, which are `row`: they must ascend from v on and lie below n, and v must stand at the cursor of each, which
+// then moves on by one. The bits in which an entry differs from v are collected, not branched on, for speed.
 fn match_row(
     n: usize,
     last: usize,
@@ -61,8 +61,8 @@ fn match_row(
     wrong == 0
 }
 
-// Whether all rows can be matched, each node's cursor being at its row's start at first. Once the rows below v are, v's cursor is behind
-// its smaller nodes.
+// Whether all rows can be matched. Each node's cursor is at the start of its row at first; once the rows below v are matched, v's cursor
+// has passed v's smaller neighbours.
 fn match_rows(n: usize, starts: &[u32], neighbours: &[u16], cursors: &mut [u32]) -> bool
     requires { ⌜ Rows n (now starts) (now neighbours) × (getD (now starts) n 0 % 2 ≡ 0) × (getD (now starts) n 0 / 2 ≤ 16384) ⌝ }
     requires { ⌜ (n ≤ length (now cursors)) × ((x : ℕ) → x < n → getD (now cursors) x 0 ≡ getD (now starts) x 0) ⌝ }
@@ -84,8 +84,9 @@ fn match_rows(n: usize, starts: &[u32], neighbours: &[u16], cursors: &mut [u32])
     true
 }
 
-// Whether rows that can be read ascend strictly, hold nodes below n other than their own, and b stands at a exactly when a stands at b.
-// One pass: each node's smaller neighbours are met in their order while the rows are passed, so one cursor for each node is enough.
+// Whether rows that can be read ascend strictly, hold nodes below n other than their own, and b is in row a exactly when a is in row b.
+// One pass over the rows is enough: the nodes that have x in their rows are passed in ascending order, as they must stand in row x, so that
+// one cursor for x finds them there.
 fn matched(n: usize, starts: &[u32], neighbours: &[u16]) -> bool
     requires { ⌜ Rows n (now starts) (now neighbours) × (getD (now starts) n 0 % 2 ≡ 0) × (getD (now starts) n 0 / 2 ≤ 16384) ⌝ }
     ensures { λ r. ⌜ r ≡ isSurvey n (now (starts .entry)) (now (neighbours .entry)) ⌝ }
@@ -98,7 +99,8 @@ fn matched(n: usize, starts: &[u32], neighbours: &[u16]) -> bool
 // Whether the starts begin at 0 and never fall up to the n-th.
 fn starts_rise(n: usize, starts: &[u32]) -> bool
     requires { ⌜ (n + 1 ≤ length (now starts)) × (n ≤ 1024) ⌝ }
-    ensures { λ r. ⌜ r ≡ (eqb (getD (now (starts .entry)) 0 0) 0 && all (λ v. leb (getD (now (starts .entry)) v 0) (getD (now (starts .entry)) (v + 1) 0)) (upTo n)) ⌝ }
+    ensures { λ r. ⌜ r ≡ (eqb (getD (now (starts .entry)) 0 0) 0
+        && all (λ v. leb (getD (now (starts .entry)) v 0) (getD (now (starts .entry)) (v + 1) 0)) (upTo n)) ⌝ }
 {
     let mut good = starts[0] == 0;
     let mut v = 0;

@@ -1,14 +1,18 @@
 -- `survey_acceptance::accept` meets its contract.
 -- Assumes nothing.
-use mathlib.Core.Path.{sym, _∙_}
+use mathlib.Core.Path.{_≡_, sym, _∙_}
+use mathlib.Core.Bool.{false}
 use native.Mathlib.Omega.{arith}
-use borrow.Author.Tests.{not-true, not-false}
-use borrow.Author.Tests.{lt-ltb, le-ltb}
-use Rattle.model.specs.Survey.{accepting}
+use borrow.Author.Tests.{not-true, not-false, lt-ltb, le-ltb}
+use Rattle.model.specs.Survey.{badSize, accepting}
 use Rattle.model.proofs.Acceptance.{good-size, small-size, large-size}
 use borrow.Author.Needs.{needs}
 use Rattle.survey_acceptance.proofs.accept.Statement.{statement}
 use Rattle.survey_acceptance.proofs.accept.Tie as tie
+
+-- n is in range
+size : (c : tie.Else2) → badSize (c .before .before .before .before .args .n) ≡ false
+size c = good-size _ (omega arith) (omega arith)
 
 returns : tie.Need-returns
 unfolding accepting
@@ -23,7 +27,7 @@ add-if3 c = search needs
 
 returns-3 : tie.Need-returns-3
 unfolding accepting
-returns-3 c = rw (good-size (c .before .before .before .before .before .args .n) (omega arith) (omega arith), lt-ltb _ _ (c .if3 .taken))
+returns-3 c = rw (size (c .before), lt-ltb _ _ (c .if3 .taken))
 
 is-survey-requires : tie.Need-is-survey-requires
 is-survey-requires c κs = search needs
@@ -31,24 +35,14 @@ is-survey-requires c κs = search needs
 returns-4 : tie.Need-returns-4
 unfolding accepting
 returns-4 c =
-    let start = c .before .before .before .before .before .before .before in
-    rw (
-      good-size (start .args .n) (omega arith) (omega arith),
-      le-ltb _ _ (c .before .before .if3 .left),
-      sym
-          (c .before .is-survey .ensures) ∙ not-true _ (c .if4 .taken),
-    )
+    let room = c .before .before in
+    rw (size (room .before), le-ltb _ _ (room .if3 .left), sym (c .before .is-survey .ensures) ∙ not-true _ (c .if4 .taken))
 
 returns-5 : tie.Need-returns-5
 unfolding accepting
 returns-5 c =
-    let start = c .before .before .before .before .before .before .before in
-    rw (
-      good-size (start .args .n) (omega arith) (omega arith),
-      le-ltb _ _ (c .before .before .if3 .left),
-      sym
-          (c .before .is-survey .ensures) ∙ not-false _ (c .if4 .left),
-    )
+    let room = c .before .before in
+    rw (size (room .before), le-ltb _ _ (room .if3 .left), sym (c .before .is-survey .ensures) ∙ not-false _ (c .if4 .left))
 
 pub accept-spec : {M : Type 1} → statement M
 accept-spec =

@@ -1,6 +1,6 @@
 -- `survey_acceptance::put_cursors` meets its contract: the cursors below v are put.
 -- Assumes nothing.
-use mathlib.Core.Path.{_≡_, refl, _∙_}
+use mathlib.Core.Path.{_≡_, _∙_}
 use Prim.Native.Nat.{ℕ, _≤_, _<_, _-_}
 use native.Mathlib.Omega.{arith}
 use lib.ListN.{length, getD, set, length-set}
@@ -11,7 +11,8 @@ use Rattle.survey_acceptance.proofs.put_cursors.Statement.{statement}
 use Rattle.survey_acceptance.proofs.put_cursors.Tie as tie
 
 abbrev Inv-loop : tie.InvT-loop
-Inv-loop n starts cursors₀ v₀ cursors v = (v ≤ n) × (length cursors ≡ length cursors₀) × ((x : ℕ) → x < v → getD cursors x 0 ≡ getD starts x 0)
+Inv-loop n starts cursors₀ v₀ cursors v =
+    (v ≤ n) × (length cursors ≡ length cursors₀) × ((x : ℕ) → x < v → getD cursors x 0 ≡ getD starts x 0)
 
 abbrev μ-loop : tie.MeasureT-loop
 μ-loop n starts cursors₀ v₀ cursors v = n - v
@@ -39,25 +40,22 @@ loop-less c = search needs
 
 loop-again : tie.Need-loop-again Inv-loop μ-loop
 loop-again c =
-    let start = c .before .before .before in
-    let at-loop = c .before .before in (
+    let loop = c .before .before .loop in
+    let starts = c .before .before .before .args .starts .now in
+    let cursors = loop .cursors in
+    let start = getD starts (loop .v) 0 in (
       omega arith,
-      length-set (at-loop .loop .cursors) _ (getD (start .args .starts .now) _ 0) ∙
-          (at-loop .loop .inv .1),
-      below-next (λ (x : ℕ). getD
-          (set (at-loop .loop .cursors) _ (getD (start .args .starts .now) _ 0)) x 0 ≡ getD
-          (start .args .starts .now) x 0) _
-          (λ x h. getD-set-other (at-loop .loop .cursors) _ x (getD (start .args .starts .now) _ 0) 0
-          (λ e. omega arith) ∙ (at-loop .loop .inv .2) x h)
-          (getD-set-same (at-loop .loop .cursors) _ (getD (start .args .starts .now) _ 0) 0
-          (omega arith)),
+      length-set cursors (loop .v) start ∙ loop .inv .1,
+      below-next (λ x. getD (set cursors (loop .v) start) x 0 ≡ getD starts x 0) (loop .v)
+          (λ x h. getD-set-other cursors (loop .v) x start 0 (λ e. omega arith) ∙ loop .inv .2 x h)
+          (getD-set-same cursors (loop .v) start 0 (omega arith)),
     )
 
 same-length : tie.Need-same-length Inv-loop μ-loop
 same-length c = search needs
 
 returns : tie.Need-returns Inv-loop μ-loop
-returns c = λ x h. (c .before .loop .inv .2) x (omega arith)
+returns c = λ x h. c .before .loop .inv .2 x (omega arith)
 
 pub put-cursors-spec : {M : Type 1} → statement M
 put-cursors-spec =
