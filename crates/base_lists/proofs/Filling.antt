@@ -1,6 +1,6 @@
 -- A loop that fills a list with one value: after i turns it is `replicate i v ++ drop i d`.
 -- Assumes nothing.
-use mathlib.Core.Path.{_≡_, refl, sym, ap, _∙_}
+use mathlib.Core.Path.{_≡_, sym, ap, _∙_}
 use mathlib.Core.List.{List, _++_, append-nil}
 use Prim.Native.Nat.{ℕ, _+_, _≤_, _<_}
 use native.Mathlib.Omega.{arith}
@@ -13,19 +13,15 @@ pub record Filled (v : ℕ) (d s : List ℕ) (i : ℕ) : Type 0 where
   pub within : i ≤ length d
   pub same : length s ≡ length d
 
-pub filled-none : (v : ℕ) (d : List ℕ) → Filled v d d 0
-filled-none v d = record { content = refl; within = omega arith; same = refl }
+pub filled-more : {v : ℕ} {d s : List ℕ} {i : ℕ} → Filled v d s i → i < length s → Filled v d (set s i v) (i + 1)
+filled-more {v} {d} {s} {i} f h = record {
+  content = rw (f .content) (fill-more i v d (omega arith));
+  within = omega arith;
+  same = length-set s i v ∙ f .same;
+}
 
-pub filled-more : (v : ℕ) (d s : List ℕ) (i : ℕ) → Filled v d s i → i < length s → Filled v d (set s i v) (i + 1)
-filled-more v d s i f h =
-    record {
-      content = ap (λ (x : List ℕ). set x i v) (f .content) ∙ fill-more i v d (omega arith);
-      within = omega arith;
-      same = length-set s i v ∙ f .same;
-    }
-
-pub filled-all : (v : ℕ) (d s : List ℕ) (i : ℕ) → Filled v d s i → length s ≤ i → s ≡ replicate (length d) v
-filled-all v d s i f h =
+pub filled-all : {v : ℕ} {d s : List ℕ} {i : ℕ} → Filled v d s i → length s ≤ i → s ≡ replicate (length d) v
+filled-all {d = d} {i = i} f h =
     let e : i ≡ length d = omega arith in
     f .content ∙ rw (e, drop-length d, append-nil)
 

@@ -1,44 +1,40 @@
 -- Laws of entries written into a list.
 -- Assumes nothing.
-use mathlib.Core.Path.{_≡_, refl, sym, ap, _∙_, subst}
+use mathlib.Core.Path.{_≡_, refl, sym, ap, _∙_}
 use mathlib.Core.List.{List, [], _∷_, _++_, append-assoc, append-nil}
 use Prim.Native.Nat.{ℕ, _+_, _-_, _≤_}
-use native.Mathlib.Nat.{add-assoc}
 use native.Mathlib.Numerals.{add-one}
 use native.Mathlib.Omega.{arith}
 use borrow.Rule.Slice.PartMut.{putMid}
-use lib.ListN.{length, take, drop, set, length-append, length-drop, drop-of-length-le}
-use lib.Seq.{set-split, append-snoc, length-take-le, take-at, drop-append-add, drop-drop, paste-zero}
+use lib.ListN.{length, take, drop, set, length-append, drop-of-length-le}
+use lib.Seq.{set-split, append-snoc, length-take-le, take-length, length-paste, take-at, drop-append-add, drop-drop, paste-zero}
 use Rattle.model.specs.Basics.{over}
 use Rattle.base_lists.specs.Written.{written, Wrote}
 
-pub write-one : (buf : List ℕ) (at b : ℕ) → at + 1 ≤ length buf → set buf at b ≡ written buf at (b ∷ [])
+write-one : (buf : List ℕ) (at b : ℕ) → at + 1 ≤ length buf → set buf at b ≡ written buf at (b ∷ [])
 unfolding written
-write-one buf at b h =
-    set-split buf at b (omega arith)
-    ∙ rw (append-snoc (take at buf) b (drop (at + 1) buf), add-one)
+write-one buf at b h = set-split buf at b (omega arith) ∙ rw (append-snoc (take at buf) b (drop (at + 1) buf), add-one)
 
 length-head : (buf : List ℕ) (at : ℕ) (t : List ℕ) → at ≤ length buf → length (take at buf ++ t) ≡ at + length t
-length-head buf at t h = length-append (take at buf) t ∙ ap (λ (k : ℕ). k + length t) (length-take-le at buf h)
+length-head buf at t h = rw (length-append, length-take-le at buf h)
 
-pub length-written : (buf : List ℕ) (at : ℕ) (t : List ℕ) → at + length t ≤ length buf → length (written buf at t) ≡ length buf
+length-written : (buf : List ℕ) (at : ℕ) (t : List ℕ) → at + length t ≤ length buf → length (written buf at t) ≡ length buf
 unfolding written
-length-written buf at t h =
-    let e = length-append (take at buf ++ t) (drop (at + length t) buf) in
-    let f = length-head buf at t (omega arith) in
-    omega (arith, length-drop (at + length t) buf)
+length-written buf at t h = rw take-length at (length-paste buf at t (length t) h (omega arith))
 
 -- a text written behind a text: the two in a row
-pub written-behind : (buf : List ℕ) (at : ℕ) (t u : List ℕ) → at + length t + length u ≤ length buf → written (written buf at t) (at + length t) u ≡ written buf at (t ++ u)
+written-behind : (buf : List ℕ) (at : ℕ) (t u : List ℕ) → at + length t + length u ≤ length buf
+    → written (written buf at t) (at + length t) u ≡ written buf at (t ++ u)
 unfolding written
 written-behind buf at t u h =
-    let p : List ℕ = take at buf ++ t in
-    let q : List ℕ = drop (at + length t) buf in
-    let l : length p ≡ at + length t = length-head buf at t (omega arith) in
-    let e : drop (at + length t + length u) (p ++ q) ≡ drop (at + length (t ++ u)) buf =
-    ap (λ (k : ℕ). drop (k + length u) (p ++ q)) (sym l) ∙ drop-append-add p q (length u) ∙ drop-drop (length u) (at + length t) buf
-    ∙ ap (λ (k : ℕ). drop k buf) (add-assoc at (length t) (length u) ∙ ap (λ (k : ℕ). at + k) (sym (length-append t u))) in
-    rw (take-at p q (at + length t) l, e, append-assoc (take at buf) t u)
+    let head : List ℕ = take at buf ++ t in
+    let rest : List ℕ = drop (at + length t) buf in
+    let l : length head ≡ at + length t = length-head buf at t (omega arith) in
+    let end : at + length t + length u ≡ at + length (t ++ u) = rw length-append (omega arith) in
+    let after : drop (at + length t + length u) (head ++ rest) ≡ drop (at + length (t ++ u)) buf =
+    ap (λ (k : ℕ). drop (k + length u) (head ++ rest)) (sym l) ∙ drop-append-add head rest (length u)
+    ∙ drop-drop (length u) (at + length t) buf ∙ ap (λ (k : ℕ). drop k buf) end in
+    rw (take-at head rest (at + length t) l, after, append-assoc (take at buf) t u)
 
 -- nothing
 pub wrote-none : (buf : List ℕ) (at : ℕ) → Wrote buf buf at at []
@@ -52,17 +48,18 @@ wrote-one buf at b h = record { ends = refl; text = write-one buf at b h }
 -- a text, and a text behind it
 pub wrote-then : {buf buf′ buf″ : List ℕ} {at i e : ℕ} {t u : List ℕ}
     → at + length t + length u ≤ length buf → Wrote buf buf′ at i t → Wrote buf′ buf″ i e u → Wrote buf buf″ at e (t ++ u)
-wrote-then {buf} {buf′} {buf″} {at} {i} {e} {t} {u} h p q =
-    record {
-      ends = rw (length-append t u) (omega (arith, p .ends, q .ends));
-      text = q .text ∙ rw (p .text, p .ends) (written-behind buf at t u h);
-    }
+wrote-then {buf} {at = at} {t = t} {u = u} h p q = record {
+  ends = rw (length-append t u) (omega (arith, p .ends, q .ends));
+  text = q .text ∙ rw (p .text, p .ends) (written-behind buf at t u h);
+}
 
-pub wrote-length : {buf buf′ : List ℕ} {at e : ℕ} {t : List ℕ} → at + length t ≤ length buf → Wrote buf buf′ at e t → length buf′ ≡ length buf
+pub wrote-length : {buf buf′ : List ℕ} {at e : ℕ} {t : List ℕ}
+    → at + length t ≤ length buf → Wrote buf buf′ at e t → length buf′ ≡ length buf
 wrote-length {buf} {at = at} {t = t} h w = ap length (w .text) ∙ length-written buf at t h
 
 -- what is left behind a text has room for a next one
-pub wrote-room : {buf buf′ : List ℕ} {at i : ℕ} {t : List ℕ} (u : List ℕ) → at + length t + length u ≤ length buf → Wrote buf buf′ at i t → i + length u ≤ length buf′
+pub wrote-room : {buf buf′ : List ℕ} {at i : ℕ} {t : List ℕ} (u : List ℕ)
+    → at + length t + length u ≤ length buf → Wrote buf buf′ at i t → i + length u ≤ length buf′
 wrote-room u h w = omega (arith, wrote-length (omega arith) w, w .ends)
 
 -- a text written from the first place on replaces the front
@@ -75,7 +72,7 @@ wrote-over {buf} t w =
 -- a list of the same length is replaced whole
 pub over-whole : (t l : List ℕ) → length l ≡ length t → over t l ≡ t
 unfolding over
-over-whole t l e = let h : length l ≤ length t = omega arith in ap (λ (r : List ℕ). t ++ r) (drop-of-length-le l h) ∙ append-nil t
+over-whole t l e = let h : length l ≤ length t = omega arith in rw (drop-of-length-le l h, append-nil)
 
 -- a part that was lent and is put back is written at its place
 pub put-written : (l : List ℕ) (at k : ℕ) (part : List ℕ) → length part ≡ k → putMid at k l part ≡ written l at part
@@ -113,7 +110,8 @@ module _ (buf : List ℕ) (at : ℕ) (whole : List ℕ) where
     left-fits t left l = omega (arith, left-room (t ++ left) l, length-append t left)
 
     -- a piece
-    pub left-more : (t left : List ℕ) → Left buf buf′ at pos whole (t ++ left) → (buf″ : List ℕ) (pos′ : ℕ) → Wrote buf′ buf″ pos pos′ t → Left buf buf″ at pos′ whole left
+    pub left-more : (t left : List ℕ) → Left buf buf′ at pos whole (t ++ left) → (buf″ : List ℕ) (pos′ : ℕ) → Wrote buf′ buf″ pos pos′ t
+        → Left buf buf″ at pos′ whole left
     left-more t left l buf″ pos′ w = record {
       done = l .done ++ t;
       wrote = wrote-then (omega (arith, left-part (t ++ left) l, length-append t left)) (l .wrote) w;
@@ -121,4 +119,4 @@ module _ (buf : List ℕ) (at : ℕ) (whole : List ℕ) where
     }
 
     pub left-none : Left buf buf′ at pos whole [] → Wrote buf buf′ at pos whole
-    left-none l = subst (λ (t : List ℕ). Wrote buf buf′ at pos t) (sym (append-nil (l .done)) ∙ l .all) (l .wrote)
+    left-none l = rw (sym (append-nil (l .done)) ∙ l .all) at (l .wrote)

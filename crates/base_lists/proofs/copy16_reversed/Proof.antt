@@ -17,7 +17,7 @@ abbrev μ-loop : tie.MeasureT-loop
 μ-loop from list₀ i₀ list i = length from - i
 
 loop-holds : tie.Need-loop-holds Inv-loop μ-loop
-loop-holds c = copied-none _ _ 0
+loop-holds c = copied-none
 
 sub-list : tie.Need-sub-list Inv-loop μ-loop
 sub-list c = omega arith
@@ -45,23 +45,19 @@ loop-less c = omega arith
 
 loop-again : tie.Need-loop-again Inv-loop μ-loop
 loop-again c =
-    let start = c .before .before .before in
-    let at-loop = c .before .before in
-    copied-more (reverse (start .args .from .now)) _ 0 (omega (arith, length-reverse (start .args .from .now))) _
-    _ (at-loop .loop .inv) (omega (arith, length-reverse (start .args .from .now))) _ _ (omega arith)
-    (sym (getD-reverse (start .args .from .now) _ 0 (c .before .loop-test .taken)))
+    let turn = c .before in
+    let from = turn .before .before .args .from .now in
+    let size = length-reverse from in
+    copied-more (omega arith) (turn .before .loop .inv) (omega arith) (omega arith) (sym (getD-reverse from _ 0 (turn .loop-test .taken)))
 
 same-length : tie.Need-same-length Inv-loop μ-loop
 same-length c = search needs
 
 returns : tie.Need-returns Inv-loop μ-loop
 returns c =
-    let start = c .before .before in
-    let at-loop = c .before in
-    let e : 0 + length (reverse (start .args .from .now)) ≡ length (start .args .from .now) = omega
-    (arith, length-reverse (start .args .from .now)) in rw e at
-    (copied-all (reverse (start .args .from .now)) _ 0 _ _ (at-loop .loop .inv)
-    (omega arith))
+    let from = c .before .before .args .from .now in
+    let size : 0 + length (reverse from) ≡ length from = omega (arith, length-reverse from) in
+    rw size at (copied-all (c .before .loop .inv) (omega arith))
 
 pub copy16-reversed-spec : {M : Type 1} → statement M
 copy16-reversed-spec =
