@@ -1,13 +1,13 @@
 -- Bits of words: the operations bit by bit, a single bit, each once over the width.
 -- Assumes nothing.
 use mathlib.Core.Path.{_≡_, refl, sym, ap, ap₂, _∙_, fun-ext}
+use mathlib.Core.Logic.{⊎-elim}
 use mathlib.Core.Bool.{Bool, true, false, not, _&&_, _||_, or-comm, and-true}
 use mathlib.Core.List.{List}
 use Prim.Native.Nat.{ℕ, zero, suc, _+_, _-_, _*_, _/_, _%_, _^_, _<_}
 use native.Mathlib.Nat.{mod-lt, div-one, one-mul, pow-suc, le-of-suc-le-suc, not-suc-le-zero, zero-lt-suc}
 use native.Mathlib.Numerals.{one-add}
 use native.Mathlib.Omega.{arith}
-use native.Mathlib.Decide.{ℕ-discrete as decEq}
 use borrow.Author.Tests.{eq-eqb, ne-eqb, eqb-true, eqb-false}
 use lib.Bits.{bitAnd, bitOr, and-shr, or-shr, and-mod, or-mod}
 use lib.Dec.{eqb, eqb·suc-suc}
@@ -15,7 +15,8 @@ use lib.ListN.{getD, set, length, replicate}
 use lib.Pow.{shl-exact, shr-shr, pow-pos}
 use lib.Seq.{getD-set-same, getD-set-other}
 use Rattle.model.proofs.Entries.{getD-same}
-use Rattle.base_nodeset.specs.NodeSet.{bit, member, emptySet, inserted, difference}
+use Rattle.model.proofs.Tests.{eq-or}
+use Rattle.base_nodeset.specs.NodeSet.{Nodes, bit, member, emptySet, inserted, difference}
 
 -- two tests agree where each passes when the other does
 pub eqb-same : (a b c d : ℕ) → (a ≡ b → c ≡ d) → (c ≡ d → a ≡ b) → eqb a b ≡ eqb c d
@@ -73,7 +74,8 @@ bit-of-zero (suc k) = bit-suc 0 k ∙ bit-of-zero k
 pub bit-pow : (j k : ℕ) → bit (2 ^ j) k ≡ eqb k j
 bit-pow zero zero = bit-zero 1
 bit-pow zero (suc k) = bit-suc 1 k ∙ bit-of-zero k ∙ sym (ne-eqb (suc k) 0 (omega arith))
-bit-pow (suc j) zero = bit-zero (2 ^ suc j) ∙ ne-eqb (2 ^ suc j % 2) 1 (omega (arith, pow-suc 2 j)) ∙ sym (ne-eqb 0 (suc j) (omega arith))
+bit-pow (suc j) zero =
+    bit-zero (2 ^ suc j) ∙ ne-eqb (2 ^ suc j % 2) 1 (omega (arith, pow-suc 2 j)) ∙ sym (ne-eqb 0 (suc j) (omega arith))
 bit-pow (suc j) (suc k) =
     let half : 2 ^ suc j / 2 ≡ 2 ^ j = omega (arith, pow-suc 2 j) in
     bit-suc (2 ^ suc j) k ∙ ap (λ (x : ℕ). bit x k) half ∙ bit-pow j k ∙ sym (eqb·suc-suc k j)
@@ -91,7 +93,8 @@ bit-not (suc n) w zero h l =
     flip (suc (suc d)) q = absurd (not-suc-le-zero (le-of-suc-le-suc (le-of-suc-le-suc q)))
 bit-not (suc n) w (suc k) h l =
     let e : ((2 ^ suc n - 1) - w) / 2 ≡ (2 ^ n - 1) - w / 2 = omega (arith, pow-suc 2 n) in
-    bit-suc ((2 ^ suc n - 1) - w) k ∙ ap (λ (x : ℕ). bit x k) e ∙ bit-not n (w / 2) k (omega (arith, pow-suc 2 n)) (omega arith) ∙ ap not (sym (bit-suc w k))
+    bit-suc ((2 ^ suc n - 1) - w) k ∙ ap (λ (x : ℕ). bit x k) e ∙ bit-not n (w / 2) k (omega (arith, pow-suc 2 n)) (omega arith)
+    ∙ ap not (sym (bit-suc w k))
 
 -- ---- words
 
@@ -112,53 +115,49 @@ empty-words n = fun-ext (λ v. ap (λ (w : ℕ). bit w (v % 64)) (getD-same n (v
 pub shifted : (k : ℕ) → k < 64 → (1 * 2 ^ k) % 2 ^ 64 ≡ 2 ^ k
 shifted k h = shl-exact {a = 1} 1 k 64 (omega arith) (omega arith) ∙ one-mul (2 ^ k)
 
+-- ---- one word changed
+
+module _ (ws : List ℕ) (i w : ℕ) where
+  pub word-changed : i < length ws → (x : ℕ) → x / 64 ≡ i → member (set ws i w) x ≡ bit w (x % 64)
+  unfolding member
+  word-changed h x e = rw (e, getD-set-same ws i w 0 h)
+
+  pub word-kept : (x : ℕ) → (x / 64 ≡ i → ⊥) → member (set ws i w) x ≡ member ws x
+  unfolding member
+  word-kept x d = rw (getD-set-other ws i (x / 64) w 0 d)
+
+  -- the words are the set p if w says which of its nodes are in p, and the other words say it already
+  pub set-word : i < length ws → {p : Nodes} → ((x : ℕ) → x / 64 ≡ i → bit w (x % 64) ≡ p x)
+      → ((x : ℕ) → (x / 64 ≡ i → ⊥) → member ws x ≡ p x) → member (set ws i w) ≡ p
+  set-word h here others =
+      fun-ext (λ x. ⊎-elim (λ e. word-changed h x e ∙ here x e) (λ d. word-kept x d ∙ others x d) (eq-or (x / 64) i))
+
+-- node v's bit is that of no other node of its word
+own-bit : (x v : ℕ) → x / 64 ≡ v / 64 → bit (1 * 2 ^ (v % 64) % 2 ^ 64) (x % 64) ≡ eqb x v
+own-bit x v e =
+    rw (shifted (v % 64) (omega arith), bit-pow (v % 64) (x % 64))
+    (eqb-same (x % 64) (v % 64) x v (λ (q : x % 64 ≡ v % 64). omega arith) (λ (q : x ≡ v). ap (λ (y : ℕ). y % 64) q))
+
+-- a node of another word is another node
+other-word : (x v : ℕ) → (x / 64 ≡ v / 64 → ⊥) → eqb x v ≡ false
+other-word x v d = ne-eqb x v (λ (q : x ≡ v). d (ap (λ (y : ℕ). y / 64) q))
+
 -- the word of node v with the node's bit set
 pub set-with : (ws : List ℕ) (v : ℕ) → v / 64 < length ws
     → member (set ws (v / 64) (bitOr (getD ws (v / 64) 0) (1 * 2 ^ (v % 64) % 2 ^ 64))) ≡ inserted (member ws) v
 unfolding member inserted
-set-with ws v h = fun-ext (λ x. at x (decEq (x / 64) (v / 64)))
-  where
-    new : ℕ
-    new = bitOr (getD ws (v / 64) 0) (1 * 2 ^ (v % 64) % 2 ^ 64)
-
-    at : (x : ℕ) → Dec (x / 64 ≡ v / 64) → bit (getD (set ws (v / 64) new) (x / 64) 0) (x % 64) ≡ (eqb x v || bit (getD ws (x / 64) 0) (x % 64))
-    at x (yes e) =
-        ap (λ (i : ℕ). bit (getD (set ws (v / 64) new) i 0) (x % 64)) e
-        ∙ ap (λ (w : ℕ). bit w (x % 64)) (getD-set-same ws (v / 64) new 0 h)
-        ∙ bit-or (getD ws (v / 64) 0) (1 * 2 ^ (v % 64) % 2 ^ 64) (x % 64)
-        ∙ or-comm (bit (getD ws (v / 64) 0) (x % 64)) (bit (1 * 2 ^ (v % 64) % 2 ^ 64) (x % 64))
-        ∙ ap₂ (λ (b : Bool) (i : ℕ). b || bit (getD ws i 0) (x % 64))
-        (ap (λ (w : ℕ). bit w (x % 64)) (shifted (v % 64) (omega arith)) ∙ bit-pow (v % 64) (x % 64)
-        ∙ eqb-same (x % 64) (v % 64) x v (λ (q : x % 64 ≡ v % 64). omega arith) (λ (q : x ≡ v). ap (λ (y : ℕ). y % 64) q))
-        (sym e)
-    at x (no e) = ap (λ (w : ℕ). bit w (x % 64)) (getD-set-other ws (v / 64) (x / 64) new 0 e)
-        ∙ sym (ap (λ (b : Bool). b || bit (getD ws (x / 64) 0) (x % 64)) (ne-eqb x v (λ (q : x ≡ v). e (ap (λ (y : ℕ). y / 64) q))))
+set-with ws v h =
+    set-word ws (v / 64) (bitOr (getD ws (v / 64) 0) (1 * 2 ^ (v % 64) % 2 ^ 64)) h
+    (λ x e. rw (e, bit-or, own-bit x v e) (or-comm (bit (getD ws (v / 64) 0) (x % 64)) (eqb x v)))
+    (λ x d. rw (other-word x v d))
 
 -- the word of node v with the node's bit cleared
 pub set-without : (ws : List ℕ) (v : ℕ) → v / 64 < length ws
-    → member (set ws (v / 64) (bitAnd (getD ws (v / 64) 0) ((2 ^ 64 - 1) - 1 * 2 ^ (v % 64) % 2 ^ 64))) ≡ difference (member ws) (λ x. eqb x v)
+    → member (set ws (v / 64) (bitAnd (getD ws (v / 64) 0) ((2 ^ 64 - 1) - 1 * 2 ^ (v % 64) % 2 ^ 64)))
+    ≡ difference (member ws) (λ x. eqb x v)
 unfolding member difference
-set-without ws v h = fun-ext (λ x. at x (decEq (x / 64) (v / 64)))
-  where
-    one : ℕ
-    one = 1 * 2 ^ (v % 64) % 2 ^ 64
-
-    new : ℕ
-    new = bitAnd (getD ws (v / 64) 0) ((2 ^ 64 - 1) - one)
-
-    cleared : (x : ℕ) → x / 64 ≡ v / 64 → bit ((2 ^ 64 - 1) - one) (x % 64) ≡ not (eqb x v)
-    cleared x e =
-        bit-not 64 one (x % 64) (mod-lt (1 * 2 ^ (v % 64)) (pow-pos 64)) (omega arith)
-        ∙ ap not (ap (λ (w : ℕ). bit w (x % 64)) (shifted (v % 64) (omega arith)) ∙ bit-pow (v % 64) (x % 64)
-        ∙ eqb-same (x % 64) (v % 64) x v (λ (q : x % 64 ≡ v % 64). omega arith) (λ (q : x ≡ v). ap (λ (y : ℕ). y % 64) q))
-
-    at : (x : ℕ) → Dec (x / 64 ≡ v / 64) → bit (getD (set ws (v / 64) new) (x / 64) 0) (x % 64) ≡ (bit (getD ws (x / 64) 0) (x % 64) && not (eqb x v))
-    at x (yes e) =
-        ap (λ (i : ℕ). bit (getD (set ws (v / 64) new) i 0) (x % 64)) e
-        ∙ ap (λ (w : ℕ). bit w (x % 64)) (getD-set-same ws (v / 64) new 0 h)
-        ∙ bit-and (getD ws (v / 64) 0) ((2 ^ 64 - 1) - one) (x % 64)
-        ∙ ap₂ (λ (i : ℕ) (b : Bool). bit (getD ws i 0) (x % 64) && b) (sym e) (cleared x e)
-    at x (no e) =
-        let out : eqb x v ≡ false = ne-eqb x v (λ (q : x ≡ v). e (ap (λ (y : ℕ). y / 64) q)) in
-        ap (λ (w : ℕ). bit w (x % 64)) (getD-set-other ws (v / 64) (x / 64) new 0 e)
-        ∙ sym (ap (λ (b : Bool). bit (getD ws (x / 64) 0) (x % 64) && not b) out ∙ and-true (bit (getD ws (x / 64) 0) (x % 64)))
+set-without ws v h =
+    let one = 1 * 2 ^ (v % 64) % 2 ^ 64 in
+    set-word ws (v / 64) (bitAnd (getD ws (v / 64) 0) ((2 ^ 64 - 1) - one)) h
+    (λ x e. rw (e, bit-and, bit-not 64 one (x % 64) (mod-lt (1 * 2 ^ (v % 64)) (pow-pos 64)) (omega arith), own-bit x v e))
+    (λ x d. rw (other-word x v d) (sym (and-true (member ws x))))

@@ -52,34 +52,33 @@ pub record Lowest (k u w : ℕ) : Type 0 where
   pub holds : 2 ^ trailingZeros k w ≤ w
   pub first : membersFrom k u w ≡ (u + trailingZeros k w) ∷ membersFrom k u (w - 2 ^ trailingZeros k w)
 
+lowest-odd : (k u w : ℕ) → 0 < w → w % 2 ≡ 1 → Lowest (suc k) u w
+lowest-odd k u w p o =
+    let t : trailingZeros (suc k) w ≡ 0 = trailing-odd k w o in
+    let e : (w - 1) % 2 ≡ 0 = omega arith in
+    let half : (w - 1) / 2 ≡ w / 2 = omega arith in
+    let place : u + 0 ≡ u = omega arith in
+    record { below = omega arith; holds = rw t p; first = rw (t, place, bits-even k u (w - 1) e, half) (bits-odd k u w o) }
+
+lowest-even : (k u w : ℕ) → w % 2 ≡ 0 → Lowest k (suc u) (w / 2) → Lowest (suc k) u w
+lowest-even k u w o l =
+    let z = trailingZeros k (w / 2) in
+    let t : trailingZeros (suc k) w ≡ suc z = trailing-even k w o in
+    let twice : 2 ^ suc z ≡ 2 ^ z * 2 = pow-suc 2 z in
+    let e : (w - 2 ^ suc z) % 2 ≡ 0 = omega (arith, l .holds) in
+    let half : (w - 2 ^ suc z) / 2 ≡ w / 2 - 2 ^ z = omega (arith, l .holds) in
+    let place : u + suc z ≡ suc u + z = omega arith in
+    record {
+      below = omega (arith, l .below);
+      holds = rw t (omega (arith, l .holds));
+      first = rw (t, place, bits-even k u (w - 2 ^ suc z) e, half) (bits-even k u w o ∙ l .first);
+    }
+
 pub lowest : (k u w : ℕ) → 0 < w → w < 2 ^ k → Lowest k u w
 lowest zero u w p h = absurd (omega arith)
 lowest (suc k) u w p h =
-    ⊎-elim
-    (λ o.
-    let t : trailingZeros (suc k) w ≡ 0 = trailing-odd k w o in
-    let e : (w - 1) % 2 ≡ 0 = omega arith in
-    let f : (w - 1) / 2 ≡ w / 2 = omega arith in
-    let z : u + 0 ≡ u = omega arith in
-    record {
-      below = omega arith;
-      holds = rw t p;
-      first = rw (t, z) (bits-odd k u w o ∙ ap (λ (l : List ℕ). u ∷ l) (sym (bits-even k u (w - 1) e ∙ ap (membersFrom k (suc u)) f)));
-    })
-    (λ o.
-    let t : trailingZeros (suc k) w ≡ suc (trailingZeros k (w / 2)) = trailing-even k w o in
-    let g : 2 ^ suc k ≡ 2 ^ k * 2 = pow-suc 2 k in
-    let i = lowest k (suc u) (w / 2) (omega arith) (omega arith) in
-    let x : 2 ^ suc (trailingZeros k (w / 2)) ≡ 2 ^ trailingZeros k (w / 2) * 2 = pow-suc 2 (trailingZeros k (w / 2)) in
-    let e : (w - 2 ^ suc (trailingZeros k (w / 2))) % 2 ≡ 0 = omega (arith, i .holds) in
-    let f : (w - 2 ^ suc (trailingZeros k (w / 2))) / 2 ≡ w / 2 - 2 ^ trailingZeros k (w / 2) = omega (arith, i .holds) in
-    let z : u + suc (trailingZeros k (w / 2)) ≡ suc u + trailingZeros k (w / 2) = omega arith in
-    record {
-      below = omega (arith, i .below);
-      holds = rw t (omega (arith, i .holds));
-      first = rw (t, z) (bits-even k u w o ∙ i .first ∙ ap (λ (l : List ℕ). (suc u + trailingZeros k (w / 2)) ∷ l) (sym (bits-even k u (w - 2 ^ suc (trailingZeros k (w / 2))) e ∙ ap (membersFrom k (suc u)) f)));
-    })
-    (odd-or w)
+    let twice : 2 ^ suc k ≡ 2 ^ k * 2 = pow-suc 2 k in
+    ⊎-elim (lowest-odd k u w p) (λ o. lowest-even k u w o (lowest k (suc u) (w / 2) (omega arith) (omega arith))) (odd-or w)
 
 -- the ones of a word of k bits are as many as its set bits
 pub ones-members : (k u w : ℕ) → w < 2 ^ k → length (membersFrom k u w) ≡ ones w
@@ -102,7 +101,8 @@ members-keep (suc k) u w f h =
     let rest = members-keep k (suc u) (w / 2) f (λ i l. ap f (suc-add u i ∙ sym (add-suc u i)) ∙ h (suc i) (omega arith) ∙ bit-suc w i) in
     rw (first, rest)
 
-pub row-word : (k u w : ℕ) (f : ℕ → Bool) → ((i : ℕ) → i < k → f (u + i) ≡ bit w i) → keep f (upTo (u + k)) ≡ keep f (upTo u) ++ membersFrom k u w
+pub row-word : (k u w : ℕ) (f : ℕ → Bool) → ((i : ℕ) → i < k → f (u + i) ≡ bit w i)
+    → keep f (upTo (u + k)) ≡ keep f (upTo u) ++ membersFrom k u w
 unfolding upTo
 row-word k u w f h =
     ap (keep f) (from-add 0 u k ∙ ap (λ (x : ℕ). from 0 u ++ from x k) (zero-add u))

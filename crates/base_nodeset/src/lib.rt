@@ -36,7 +36,8 @@ pub fn contains(words: &[u64], v: usize) -> bool
 // The size of the intersection of two sets: ones are counted word by word.
 pub fn count_intersection(a: &[u64], b: &[u64]) -> usize
     requires { ⌜ (length (now a) ≡ length (now b)) × (64 * length (now a) < 2 ^ 32) ⌝ }
-    ensures { λ r. ⌜ r ≡ length (keep (intersection (member (now (a .entry))) (member (now (b .entry)))) (upTo (64 * length (now (a .entry))))) ⌝ }
+    ensures { λ r. ⌜ r ≡ length (keep (intersection (member (now (a .entry))) (member (now (b .entry))))
+        (upTo (64 * length (now (a .entry))))) ⌝ }
 {
     let mut total = 0;
     let mut i = 0;
@@ -74,7 +75,8 @@ pub fn subtract(a: &mut [u64], b: &[u64])
 // The smallest member, by the trailing zeros of the first word that is not 0; where there is none, the count of bits.
 pub fn smallest(words: &[u64]) -> usize
     requires { ⌜ 64 * length (now words) < 2 ^ 32 ⌝ }
-    ensures { λ r. ⌜ r ≡ firstOf (member (now (words .entry))) (64 * length (now (words .entry))) (upTo (64 * length (now (words .entry)))) ⌝ }
+    ensures { λ r. ⌜ r ≡ firstOf (member (now (words .entry))) (64 * length (now (words .entry)))
+        (upTo (64 * length (now (words .entry)))) ⌝ }
 {
     let mut i = 0;
     while i < words.len() {

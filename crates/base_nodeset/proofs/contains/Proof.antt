@@ -1,6 +1,5 @@
 -- `base_nodeset::contains` meets its contract, by computation.
 -- Assumes nothing.
-use mathlib.Core.Path.{refl}
 use Rattle.base_nodeset.specs.NodeSet.{member, bit}
 use borrow.Author.Needs.{needs}
 use Rattle.base_nodeset.proofs.contains.Statement.{statement}

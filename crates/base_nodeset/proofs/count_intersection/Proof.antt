@@ -1,9 +1,11 @@
 -- `base_nodeset::count_intersection` meets its contract: the total counts the members of both in the first i words.
 -- Assumes nothing.
-use Prim.Native.Nat.{_-_}
+use Prim.Native.Nat.{ℕ, _-_, _^_, _≤_, _<_}
 use native.Mathlib.Omega.{arith}
-use lib.ListN.{length}
-use Rattle.base_nodeset.proofs.Words.{Counted, counted-none, counted-few, counted-ones, counted-more, counted-all}
+use lib.Bits.{bitAnd}
+use lib.Count.{ones}
+use lib.ListN.{length, getD}
+use Rattle.base_nodeset.proofs.Words.{Counted, counted-none, ones-few, counted-few, counted-more, counted-all}
 use borrow.Author.Needs.{needs}
 use Rattle.base_nodeset.proofs.count_intersection.Statement.{statement}
 use Rattle.base_nodeset.proofs.count_intersection.Tie as tie
@@ -15,7 +17,7 @@ abbrev μ-loop : tie.MeasureT-loop
 μ-loop a b total₀ i₀ total i = length a - i
 
 loop-holds : tie.Need-loop-holds Inv-loop μ-loop
-loop-holds c = counted-none _ _
+loop-holds c = counted-none
 
 mul-total : tie.Need-mul-total Inv-loop μ-loop
 mul-total c = search needs
@@ -29,20 +31,28 @@ mul-total-2 c = search needs
 shared-slice-read-total-2 : tie.Need-shared-slice-read-total-2 Inv-loop μ-loop
 shared-slice-read-total-2 c = search needs
 
+-- the two words of a turn: what is in both has at most 64 bits
+module _ (c : tie.After-shared-slice-known2 Inv-loop μ-loop) where
+  abbrev loop : tie.At-loop Inv-loop μ-loop
+  loop = c .before .before .before
+
+  abbrev word-a : ℕ
+  word-a = getD (loop .before .args .a .now) (loop .loop .i) 0
+
+  abbrev word-b : ℕ
+  word-b = getD (loop .before .args .b .now) (loop .loop .i) 0
+
+  fits : word-a < 2 ^ 64
+  fits = c .before .shared-slice-known .given _ .fits
+
+  few : ones (bitAnd word-a word-b) ≤ 64
+  few = ones-few word-a word-b fits
+
 cast-total : tie.Need-cast-total Inv-loop μ-loop
-cast-total c =
-    let at-loop = c .before .before .before in
-    omega (arith, counted-ones _ _ _ _ (at-loop .loop .inv) ((c .before .shared-slice-known .given) _ .fits))
+cast-total c = omega (arith, few c)
 
 add-total : tie.Need-add-total Inv-loop μ-loop
-add-total c =
-    let at-loop = c .before .before .before in
-    omega (
-      arith,
-      counted-ones _ _ _ _ (at-loop .loop .inv) ((c .before .shared-slice-known .given) _ .fits),
-      counted-few
-          _ _ _ _ (at-loop .loop .inv),
-    )
+add-total c = omega (arith, few c, counted-few (loop c .loop .inv))
 
 add-i : tie.Need-add-i Inv-loop μ-loop
 add-i c = search needs
@@ -52,12 +62,11 @@ loop-less c = search needs
 
 loop-again : tie.Need-loop-again Inv-loop μ-loop
 loop-again c =
-    let at-loop = c .before .before .before in
-    counted-more _ _ _ _ (at-loop .loop .inv) (c .before .before .loop-test .taken)
-    ((c .before .shared-slice-known .given) _ .fits)
+    let turn = c .before .before in
+    counted-more (turn .before .loop .inv) (turn .loop-test .taken) (fits c)
 
 returns : tie.Need-returns Inv-loop μ-loop
-returns c = counted-all _ _ _ _ (c .before .loop .inv) (c .loop-test .left)
+returns c = counted-all (c .before .loop .inv) (c .loop-test .left)
 
 pub count-intersection-spec : {M : Type 1} → statement M
 count-intersection-spec =

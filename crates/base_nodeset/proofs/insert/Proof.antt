@@ -1,6 +1,5 @@
 -- `base_nodeset::insert` meets its contract, by the law for one set bit.
 -- Assumes nothing.
-use native.Mathlib.Omega.{arith}
 use Rattle.base_nodeset.proofs.Bits.{set-with}
 use borrow.Author.Needs.{needs}
 use Rattle.base_nodeset.proofs.insert.Statement.{statement}
@@ -25,9 +24,7 @@ same-length : tie.Need-same-length
 same-length c = search needs
 
 returns : tie.Need-returns
-returns c =
-    let start = c .before in
-    set-with _ _ (start .pre)
+returns c = set-with _ _ (c .before .pre)
 
 pub insert-spec : {M : Type 1} → statement M
 insert-spec =

@@ -1,9 +1,9 @@
 -- `base_nodeset::insert_below` meets its contract: the first i words are full, the others empty.
 -- Assumes nothing.
-use mathlib.Core.Path.{sym, ap, _∙_}
-use Prim.Native.Nat.{_-_, _*_, _%_, _≤_}
+use mathlib.Core.Path.{_≡_, sym, ap, _∙_}
+use Prim.Native.Nat.{ℕ, _-_, _*_, _/_, _%_, _^_, _≤_}
 use native.Mathlib.Omega.{arith}
-use lib.ListN.{length}
+use lib.ListN.{length, set}
 use lib.Pow.{pow-pos}
 use Rattle.base_nodeset.proofs.Bits.{shifted}
 use Rattle.base_nodeset.proofs.Words.{Below, below-none, below-word, below-last, below-all}
@@ -18,7 +18,7 @@ abbrev μ-loop : tie.MeasureT-loop
 μ-loop words₀ n last k i₀ words i = last - i
 
 loop-holds : tie.Need-loop-holds Inv-loop μ-loop
-loop-holds c = (omega arith, below-none _ (c .pre .0))
+loop-holds c = (omega arith, below-none (c .pre .0))
 
 mul-words : tie.Need-mul-words Inv-loop μ-loop
 mul-words c = search needs
@@ -33,15 +33,21 @@ loop-less : tie.Need-loop-less Inv-loop μ-loop
 loop-less c = search needs
 
 loop-again : tie.Need-loop-again Inv-loop μ-loop
-loop-again c = (omega arith, below-word _ _ (omega arith) (c .before .loop .inv .1))
+loop-again c = (omega arith, below-word _ (omega arith) (c .before .loop .inv .1))
+
+-- all whole words are full
+full : (c : tie.After-loop Inv-loop μ-loop) → Below (c .before .loop .words) (64 * (c .before .before .args .n / 64))
+full c =
+    let e : c .before .loop .i ≡ c .before .before .args .n / 64 = omega arith in
+    rw e at (c .before .loop .inv .1)
 
 shl-words : tie.Need-shl-words Inv-loop μ-loop
 shl-words c = search needs
 
 sub-words : tie.Need-sub-words Inv-loop μ-loop
 sub-words c =
-    let start = c .before .before .before in
-    rw (shifted ((start .args .n) % 64) (omega arith)) (pow-pos (_ % 64))
+    let n = c .before .before .before .args .n in
+    rw (shifted (n % 64) (omega arith)) (pow-pos (n % 64))
 
 mul-words-2 : tie.Need-mul-words-2 Inv-loop μ-loop
 mul-words-2 c = search needs
@@ -49,27 +55,25 @@ mul-words-2 c = search needs
 slice-write-words-2 : tie.Need-slice-write-words-2 Inv-loop μ-loop
 slice-write-words-2 c = search needs
 
+-- the low bits of the last word make the set whole
+module _ (c : tie.Then1 Inv-loop μ-loop) where
+  abbrev n : ℕ
+  n = c .before .before .before .args .n
+
+  whole : Below (set (c .before .before .loop .words) (n / 64) (1 * 2 ^ (n % 64) % 2 ^ 64 - 1)) n
+  whole = below-last n (c .before .before .before .pre .1) (full (c .before)) (c .if1 .taken)
+
 same-length : tie.Need-same-length Inv-loop μ-loop
-same-length c =
-    let start = c .before .before .before in
-    let at-loop = c .before .before in
-    below-last _ _ _ (start .pre .1) (at-loop .loop .inv .0) (c .before .loop-test .left) (at-loop .loop .inv .1) (c .if1 .taken) .long ∙
-    sym (ap length (start .pre .0))
+same-length c = whole c .long ∙ sym (ap length (c .before .before .before .pre .0))
 
 returns : tie.Need-returns Inv-loop μ-loop
-returns c =
-    let at-loop = c .before .before in
-    below-last _ _ _ (c .before .before .before .pre .1) (at-loop .loop .inv .0) (c .before .loop-test .left) (at-loop .loop .inv .1)
-    (c .if1 .taken) .says
+returns c = whole c .says
 
 same-length-2 : tie.Need-same-length-2 Inv-loop μ-loop
 same-length-2 c = search needs
 
 returns-2 : tie.Need-returns-2 Inv-loop μ-loop
-returns-2 c =
-    let at-loop = c .before .before in
-    below-all _ _ _ (c .before .before .before .pre .1) (at-loop .loop .inv .0) (c .before .loop-test .left) (at-loop .loop .inv .1)
-    (c .if1 .left) .says
+returns-2 c = below-all _ (c .before .before .before .pre .1) (full (c .before)) (c .if1 .left) .says
 
 pub insert-below-spec : {M : Type 1} → statement M
 insert-below-spec =

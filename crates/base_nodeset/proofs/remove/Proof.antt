@@ -1,6 +1,5 @@
 -- `base_nodeset::remove` meets its contract, by the law for one cleared bit.
 -- Assumes nothing.
-use native.Mathlib.Omega.{arith}
 use Rattle.base_nodeset.proofs.Bits.{set-without}
 use borrow.Author.Needs.{needs}
 use Rattle.base_nodeset.proofs.remove.Statement.{statement}
@@ -25,9 +24,7 @@ same-length : tie.Need-same-length
 same-length c = search needs
 
 returns : tie.Need-returns
-returns c =
-    let start = c .before in
-    set-without _ _ (start .pre)
+returns c = set-without _ _ (c .before .pre)
 
 pub remove-spec : {M : Type 1} → statement M
 remove-spec =

@@ -1,8 +1,9 @@
 -- `base_nodeset::smallest` meets its contract: no member stands in the first i words.
 -- Assumes nothing.
-use Prim.Native.Nat.{_-_}
+use Prim.Native.Nat.{ℕ, _-_, _^_, _<_}
 use native.Mathlib.Omega.{arith}
-use lib.ListN.{length}
+use lib.Count.{trailingZeros}
+use lib.ListN.{length, getD}
 use Rattle.base_nodeset.proofs.Words.{Clear, clear-none, clear-more, clear-all, clear-below, clear-first}
 use borrow.Author.Needs.{needs}
 use Rattle.base_nodeset.proofs.smallest.Statement.{statement}
@@ -15,7 +16,7 @@ abbrev μ-loop : tie.MeasureT-loop
 μ-loop words i₀ i = length words - i
 
 loop-holds : tie.Need-loop-holds Inv-loop μ-loop
-loop-holds c = clear-none _
+loop-holds c = clear-none
 
 mul-word : tie.Need-mul-word Inv-loop μ-loop
 mul-word c = search needs
@@ -26,29 +27,28 @@ shared-slice-read-word c = search needs
 mul-result : tie.Need-mul-result Inv-loop μ-loop
 mul-result c = search needs
 
+-- where the word of a turn is not 0, one of its bits is set
+module _ (c : tie.Then1 Inv-loop μ-loop) where
+  abbrev turn : tie.In-loop Inv-loop μ-loop
+  turn = c .before .before
+
+  abbrev word : ℕ
+  word = getD (turn .before .before .args .words .now) (turn .before .loop .i) 0
+
+  fits : word < 2 ^ 64
+  fits = c .before .shared-slice-known .given _ .fits
+
+  below : trailingZeros 64 word < 64
+  below = clear-below (turn .before .loop .inv) (turn .loop-test .taken) (c .if1 .taken) fits
+
 cast-result : tie.Need-cast-result Inv-loop μ-loop
-cast-result c =
-    let at-loop = c .before .before .before in
-    omega (
-      arith,
-      clear-below _ _ (at-loop .loop .inv) (c .before .before .loop-test .taken) (c .if1 .taken)
-          ((c .before .shared-slice-known .given) _ .fits),
-    )
+cast-result c = omega (arith, below c)
 
 add-result : tie.Need-add-result Inv-loop μ-loop
-add-result c =
-    let at-loop = c .before .before .before in
-    omega (
-      arith,
-      clear-below _ _ (at-loop .loop .inv) (c .before .before .loop-test .taken) (c .if1 .taken)
-          ((c .before .shared-slice-known .given) _ .fits),
-    )
+add-result c = omega (arith, below c)
 
 returns : tie.Need-returns Inv-loop μ-loop
-returns c =
-    let at-loop = c .before .before .before in
-    clear-first _ _ (at-loop .loop .inv) (c .before .before .loop-test .taken) (c .if1 .taken)
-    ((c .before .shared-slice-known .given) _ .fits)
+returns c = clear-first (turn c .before .loop .inv) (turn c .loop-test .taken) (c .if1 .taken) (fits c)
 
 add-i : tie.Need-add-i Inv-loop μ-loop
 add-i c = search needs
@@ -57,13 +57,15 @@ loop-less : tie.Need-loop-less Inv-loop μ-loop
 loop-less c = search needs
 
 loop-again : tie.Need-loop-again Inv-loop μ-loop
-loop-again c = clear-more _ _ (c .before .before .before .loop .inv) (c .before .before .loop-test .taken) (c .if1 .left)
+loop-again c =
+    let turn = c .before .before in
+    clear-more (turn .before .loop .inv) (turn .loop-test .taken) (c .if1 .left)
 
 mul-result-2 : tie.Need-mul-result-2 Inv-loop μ-loop
 mul-result-2 c = search needs
 
 returns-2 : tie.Need-returns-2 Inv-loop μ-loop
-returns-2 c = clear-all _ _ (c .before .loop .inv) (c .loop-test .left)
+returns-2 c = clear-all (c .before .loop .inv) (c .loop-test .left)
 
 pub smallest-spec : {M : Type 1} → statement M
 smallest-spec =

@@ -1,7 +1,6 @@
 -- `base_nodeset::subtract` meets its contract: the first i words are without the other set, the rest is as it was.
 -- Assumes nothing.
 use Prim.Native.Nat.{_-_}
-use native.Mathlib.Omega.{arith}
 use lib.ListN.{length}
 use Rattle.base_nodeset.proofs.Words.{Removed, removed-none, removed-more, removed-all}
 use borrow.Author.Needs.{needs}
@@ -15,7 +14,7 @@ abbrev μ-loop : tie.MeasureT-loop
 μ-loop a₀ b i₀ a i = length a₀ - i
 
 loop-holds : tie.Need-loop-holds Inv-loop μ-loop
-loop-holds c = removed-none _ _
+loop-holds c = removed-none
 
 mul-a : tie.Need-mul-a Inv-loop μ-loop
 mul-a c = search needs
@@ -43,15 +42,14 @@ loop-less c = search needs
 
 loop-again : tie.Need-loop-again Inv-loop μ-loop
 loop-again c =
-    let at-loop = c .before .before .before in
-    removed-more _ _ _ _ (at-loop .loop .inv) (c .before .before .loop-test .taken)
-    ((c .shared-slice-known .given) _ .fits)
+    let turn = c .before .before in
+    removed-more (turn .before .loop .inv) (turn .loop-test .taken) (c .shared-slice-known .given _ .fits)
 
 same-length : tie.Need-same-length Inv-loop μ-loop
 same-length c = search needs
 
 returns : tie.Need-returns Inv-loop μ-loop
-returns c = removed-all _ _ _ _ (c .before .loop .inv) (c .loop-test .left)
+returns c = removed-all (c .before .loop .inv) (c .loop-test .left)
 
 pub subtract-spec : {M : Type 1} → statement M
 subtract-spec =

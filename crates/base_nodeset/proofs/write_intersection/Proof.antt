@@ -1,22 +1,21 @@
 -- `base_nodeset::write_intersection` meets its contract: the first i words are those of what is in both.
 -- Assumes nothing.
-use mathlib.Core.Path.{sym, _∙_}
 use Prim.Native.Nat.{_-_}
-use native.Mathlib.Omega.{arith}
 use lib.ListN.{length}
-use Rattle.base_nodeset.proofs.Words.{Shared, shared-none, shared-more, shared-all}
+use Rattle.base_nodeset.specs.NodeSet.{member, intersection}
+use Rattle.base_nodeset.proofs.Words.{Made, made-none, shared-more, shared-all}
 use borrow.Author.Needs.{needs}
 use Rattle.base_nodeset.proofs.write_intersection.Statement.{statement}
 use Rattle.base_nodeset.proofs.write_intersection.Tie as tie
 
 abbrev Inv-loop : tie.InvT-loop
-Inv-loop a b into₀ i₀ into i = Shared a b into i
+Inv-loop a b into₀ i₀ into i = Made (intersection (member a) (member b)) (length a) into i
 
 abbrev μ-loop : tie.MeasureT-loop
 μ-loop a b into₀ i₀ into i = length a - i
 
 loop-holds : tie.Need-loop-holds Inv-loop μ-loop
-loop-holds c = search needs
+loop-holds c = made-none (c .pre .1)
 
 mul-into : tie.Need-mul-into Inv-loop μ-loop
 mul-into c = search needs
@@ -43,13 +42,15 @@ loop-less : tie.Need-loop-less Inv-loop μ-loop
 loop-less c = search needs
 
 loop-again : tie.Need-loop-again Inv-loop μ-loop
-loop-again c = shared-more _ _ _ _ (c .before .before .before .loop .inv) (c .before .before .loop-test .taken)
+loop-again c =
+    let turn = c .before .before in
+    shared-more _ _ (turn .before .loop .inv) (turn .loop-test .taken)
 
 same-length : tie.Need-same-length Inv-loop μ-loop
 same-length c = search needs
 
 returns : tie.Need-returns Inv-loop μ-loop
-returns c = shared-all _ _ _ _ (c .before .loop .inv) (c .loop-test .left)
+returns c = shared-all _ _ (c .before .loop .inv) (c .loop-test .left)
 
 pub write-intersection-spec : {M : Type 1} → statement M
 write-intersection-spec =
