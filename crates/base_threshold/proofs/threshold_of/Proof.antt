@@ -22,7 +22,9 @@ threshold-at-requires c κs = search needs
 
 returns-3 : tie.Need-returns-3
 unfolding thresholdAnswer
-returns-3 c = rw (good-size (c .before .before .before .args .n) (omega arith) (omega arith)) (ap answered (c .threshold-at .ensures))
+returns-3 c =
+    let n = c .before .before .before .args .n in
+    rw (good-size n (omega arith) (omega arith)) (ap answered (c .threshold-at .ensures))
 
 pub threshold-of-spec : {M : Type 1} → statement M
 threshold-of-spec = tie.close (tie.spec returns returns-2 threshold-at-requires returns-3)
