@@ -43,7 +43,8 @@ fn write_row(bits: &[u64], v: usize, neighbours: &mut [u16], at: usize) -> usize
 // Writes the two lists of n nodes with the matrix's links.
 pub fn write_lists(bits: &[u64], n: usize, starts: &mut [u32], neighbours: &mut [u16])
     requires { ⌜ (n ≤ 1024) × (length (now bits) ≡ 16384) × (n + 1 ≤ length (now starts)) ⌝ }
-    requires { ⌜ (length (neighboursFrom n (rowsIn (now bits))) ≤ length (now neighbours)) × (length (neighboursFrom n (rowsIn (now bits))) ≤ 32768) ⌝ }
+    requires { ⌜ (length (neighboursFrom n (rowsIn (now bits))) ≤ length (now neighbours))
+        × (length (neighboursFrom n (rowsIn (now bits))) ≤ 32768) ⌝ }
     ensures { λ _. ⌜ now (starts .exit) ≡ over (startsOf n (rowsIn (now (bits .entry)))) (now (starts .entry)) ⌝ }
     ensures { λ _. ⌜ now (neighbours .exit) ≡ over (neighboursFrom n (rowsIn (now (bits .entry)))) (now (neighbours .entry)) ⌝ }
 {

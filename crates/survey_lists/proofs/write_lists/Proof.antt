@@ -1,12 +1,12 @@
 -- `survey_lists::write_lists` meets its contract: after v nodes the lists have the starts and the rows of the nodes below v.
 -- Assumes nothing.
 use borrow.Author.Needs.{needs}
-use mathlib.Core.Path.{_∙_}
 use lib.ListN.{length-set}
 use Prim.Native.Nat.{_-_}
 use native.Mathlib.Omega.{arith}
 use Rattle.survey_lists.specs.MatrixRows.{rowsIn}
-use Rattle.survey_lists.proofs.ListLaws.{Lists, lists-none, position, start-here, row-fits, lists-more, lists-long, lists-done}
+use Rattle.survey_lists.proofs.ListLaws.{Lists, lists-none, lists-more, lists-done}
+use Rattle.survey_lists.proofs.ListLaws.{place-small, start-here, starts-long, neighbours-long, row-fits}
 use Rattle.survey_lists.proofs.write_lists.Statement.{statement}
 use Rattle.survey_lists.proofs.write_lists.Tie as tie
 
@@ -18,47 +18,23 @@ abbrev μ-loop : tie.MeasureT-loop
 
 loop-holds : tie.Need-loop-holds Inv-loop μ-loop
 loop-holds c =
-    let start = c .before .before .before in
-    lists-none (rowsIn _) _ _ _
-    (start .pre .0 .2) (start .pre .1 .0)
+    let pre = c .before .before .before .pre in
+    lists-none (pre .0 .2) (pre .1 .0)
 
 cast-starts : tie.Need-cast-starts Inv-loop μ-loop
-cast-starts c =
-    let start = c .before .before .before .before .before in
-    let at-loop = c .before in
-    omega (
-      arith,
-      position (rowsIn _) _ _ _
-          (start .pre .0 .2) (start .pre .1 .0) _ _ _ _
-          (at-loop .loop .inv) .1,
-    )
+cast-starts c = omega (arith, place-small (c .before .loop .inv))
 
 mul-starts : tie.Need-mul-starts Inv-loop μ-loop
 mul-starts c = search needs
 
 slice-write-starts : tie.Need-slice-write-starts Inv-loop μ-loop
-slice-write-starts c =
-    let start = c .before .before .before .before .before in
-    let at-loop = c .before in
-    omega (
-      arith,
-      start-here (rowsIn _) _ _ _
-          (start .pre .0 .2) (start .pre .1 .0) _ _ _ _
-          (at-loop .loop .inv) .0,
-    )
+slice-write-starts c = start-here (c .before .loop .inv)
 
 write-row-requires : tie.Need-write-row-requires Inv-loop μ-loop
 write-row-requires c κs =
-    let start = c .before .before .before .before .before .before in
-    let at-loop = c .before .before in
-    let at-loop-test = c .before in (
-      omega arith,
-      (start .pre .0 .1),
-      row-fits (rowsIn _)
-          _ _ _ (start .pre .0 .2) (start .pre .1 .0)
-          _ _ _ _ (at-loop .loop .inv)
-          (at-loop-test .loop-test .taken),
-    )
+    let turn = c .before in
+    let start = turn .before .before .before .before .before in
+    (omega arith, start .pre .0 .1, row-fits (turn .before .loop .inv) (turn .loop-test .taken))
 
 add-v : tie.Need-add-v Inv-loop μ-loop
 add-v c = search needs
@@ -68,62 +44,26 @@ loop-less c = omega arith
 
 loop-again : tie.Need-loop-again Inv-loop μ-loop
 loop-again c =
-    let start = c .before .before .before .before .before .before .before .before .before in
-    let at-loop = c .before .before .before .before .before in
-    let at-write-row = c .before .before in
-    lists-more (rowsIn _) _ _ _
-    (start .pre .0 .2) (start .pre .1 .0) _ _ _ _
-    (at-loop .loop .inv) (c .before .before .before .before .loop-test .taken) _ _
-    (at-write-row .write-row .ensures)
+    let turn = c .before .before .before .before in
+    lists-more (turn .before .loop .inv) (turn .loop-test .taken) (c .before .before .write-row .ensures)
 
 cast-starts-2 : tie.Need-cast-starts-2 Inv-loop μ-loop
-cast-starts-2 c =
-    let start = c .before .before .before .before .before in
-    let at-loop = c .before in
-    omega (
-      arith,
-      position (rowsIn _) _ _ _
-          (start .pre .0 .2) (start .pre .1 .0) _ _ _ _
-          (at-loop .loop .inv) .1,
-    )
+cast-starts-2 c = omega (arith, place-small (c .before .loop .inv))
 
 mul-starts-2 : tie.Need-mul-starts-2 Inv-loop μ-loop
 mul-starts-2 c = search needs
 
 slice-write-starts-2 : tie.Need-slice-write-starts-2 Inv-loop μ-loop
-slice-write-starts-2 c =
-    let start = c .before .before .before .before .before in
-    let at-loop = c .before in
-    omega (
-      arith,
-      start-here (rowsIn _) _ _ _
-          (start .pre .0 .2) (start .pre .1 .0) _ _ _ _
-          (at-loop .loop .inv) .1,
-    )
+slice-write-starts-2 c = omega (arith, starts-long (c .before .loop .inv))
 
 same-length : tie.Need-same-length Inv-loop μ-loop
-same-length c =
-    let start = c .before .before .before .before .before in
-    let at-loop = c .before in
-    length-set (at-loop .loop .starts) _ _ ∙ start-here (rowsIn _) _ _
-    _ (start .pre .0 .2) (start .pre .1 .0) _ _
-    _ _ (at-loop .loop .inv) .1
+same-length c = simp length-set (starts-long (c .before .loop .inv))
 
 same-length-2 : tie.Need-same-length-2 Inv-loop μ-loop
-same-length-2 c =
-    let start = c .before .before .before .before .before in
-    let at-loop = c .before in
-    lists-long (rowsIn _) _ _ _
-    (start .pre .0 .2) (start .pre .1 .0) _ _ _ _
-    (at-loop .loop .inv)
+same-length-2 c = neighbours-long (c .before .loop .inv)
 
 returns : tie.Need-returns Inv-loop μ-loop
-returns c =
-    let start = c .before .before .before .before .before in
-    let at-loop = c .before in
-    lists-done (rowsIn _) _ _ _
-    (start .pre .0 .2) (start .pre .1 .0) _ _ _ _
-    (at-loop .loop .inv) (omega arith)
+returns c = lists-done (c .before .loop .inv) (omega arith)
 
 pub write-lists-spec : {M : Type 1} → statement M
 write-lists-spec =

@@ -1,22 +1,20 @@
 -- `survey_lists::write_row` meets its contract: after w words the row's part below 64 * w is written.
 -- Assumes nothing.
 use borrow.Author.Needs.{needs}
-use Prim.Native.Nat.{_-_, _≤_}
+use Prim.Native.Nat.{_-_}
 use native.Mathlib.Omega.{arith}
-use Rattle.base_lists.specs.Written.{Wrote}
-use Rattle.survey_lists.proofs.ListLaws.{rowTo, row-none, word-fits, word-more, row-long, row-whole}
+use Rattle.survey_lists.proofs.ListLaws.{Row, row-none, word-fits, word-more, row-long, row-whole}
 use Rattle.survey_lists.proofs.write_row.Statement.{statement}
 use Rattle.survey_lists.proofs.write_row.Tie as tie
 
 abbrev Inv-loop : tie.InvT-loop
-Inv-loop bits v neighbours₀ at pos₀ w₀ neighbours pos w = (w ≤ 16) × Wrote neighbours₀ neighbours at pos (rowTo bits v w)
+Inv-loop bits v neighbours₀ at pos₀ w₀ neighbours pos w = Row bits v neighbours₀ neighbours at pos w
 
 abbrev μ-loop : tie.MeasureT-loop
 μ-loop bits v neighbours₀ at pos₀ w₀ neighbours pos w = 16 - w
 
 loop-holds : tie.Need-loop-holds Inv-loop μ-loop
-loop-holds c =
-    (omega arith, row-none _ _ _ _)
+loop-holds c = row-none (c .before .before .pre .2)
 
 mul-word : tie.Need-mul-word Inv-loop μ-loop
 mul-word c = search needs
@@ -35,13 +33,8 @@ mul-write-word c = omega arith
 
 write-word-requires : tie.Need-write-word-requires Inv-loop μ-loop
 write-word-requires c κs =
-    let start = c .before .before .before .before .before .before in
-    let at-loop = c .before .before .before in (
-      omega arith,
-      word-fits _ _ _ (c .before .before .loop-test .taken)
-          _ _ _ _ (start .pre .2)
-          (at-loop .loop .inv .1),
-    )
+    let turn = c .before .before in
+    (omega arith, word-fits (turn .before .loop .inv) (turn .loop-test .taken))
 
 add-w : tie.Need-add-w Inv-loop μ-loop
 add-w c = omega arith
@@ -51,28 +44,14 @@ loop-less c = omega arith
 
 loop-again : tie.Need-loop-again Inv-loop μ-loop
 loop-again c =
-    let start = c .before .before .before .before .before .before .before .before .before in
-    let at-loop = c .before .before .before .before .before .before in
-    let at-write-word = c .before .before in (
-      omega arith,
-      word-more _ _ _
-          (c .before .before .before .before .before .loop-test .taken) _ _
-          _ _ (start .pre .2) (at-loop .loop .inv .1) _ _
-          (at-write-word .write-word .ensures),
-    )
+    let turn = c .before .before .before .before .before in
+    word-more (turn .before .loop .inv) (turn .loop-test .taken) (c .before .before .write-word .ensures)
 
 same-length : tie.Need-same-length Inv-loop μ-loop
-same-length c =
-    let start = c .before .before .before .before in
-    let at-loop = c .before in
-    row-long _ _ _ _ _
-    _ _ (at-loop .loop .inv .0) (start .pre .2) (at-loop .loop .inv .1)
+same-length c = row-long (c .before .loop .inv)
 
 returns : tie.Need-returns Inv-loop μ-loop
-returns c =
-    let at-loop = c .before in
-    row-whole _ _ _ _ _
-    _ _ (at-loop .loop .inv .0) (c .loop-test .left) (at-loop .loop .inv .1)
+returns c = row-whole (c .before .loop .inv) (c .loop-test .left)
 
 pub write-row-spec : {M : Type 1} → statement M
 write-row-spec =

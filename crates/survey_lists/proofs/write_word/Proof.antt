@@ -1,10 +1,13 @@
 -- `survey_lists::write_word` meets its contract: what is written and the bits that are left are the bits of the word.
 -- Assumes nothing.
-use borrow.Author.Needs.{needs}
+use mathlib.Core.Path.{_≡_}
+use Prim.Native.Nat.{ℕ, _+_, _*_, _%_, _^_, _≤_}
 use native.Mathlib.Omega.{arith}
 use lib.Count.{trailingZeros}
+use lib.ListN.{length}
 use lib.Pow.{pow-pos}
 use Rattle.base_nodeset.proofs.Bits.{shifted}
+use Rattle.base_nodeset.proofs.Members.{Lowest}
 use Rattle.survey_lists.proofs.WordWriting.{Some, some-none, some-all, some-long, low, some-here, some-more}
 use Rattle.survey_lists.proofs.write_word.Statement.{statement}
 use Rattle.survey_lists.proofs.write_word.Tie as tie
@@ -16,80 +19,60 @@ abbrev μ-loop : tie.MeasureT-loop
 μ-loop word base neighbours₀ at left₀ pos₀ neighbours left pos = left
 
 loop-holds : tie.Need-loop-holds Inv-loop μ-loop
-loop-holds c = some-none _ _ _ _ ((c .fits .word) .fits)
+loop-holds c = some-none (c .pre .1) (c .fits .word .fits)
+
+-- a turn: a bit is left, the lowest is taken off, and there is room for its node
+module _ (c : tie.In-loop Inv-loop μ-loop) where
+  abbrev zeros : ℕ
+  zeros = trailingZeros 64 (c .before .loop .left)
+
+  lowest-left : Lowest 64 (c .before .before .args .base) (c .before .loop .left)
+  lowest-left = low (c .before .loop .inv) (c .loop-test .taken)
+
+  shift : 1 * 2 ^ zeros % 2 ^ 64 ≡ 2 ^ zeros
+  shift = shifted zeros (lowest-left .below)
+
+  here : c .before .loop .pos + 1 ≤ length (c .before .loop .neighbours)
+  here = some-here (c .before .loop .inv) (c .loop-test .taken)
 
 cast-u : tie.Need-cast-u Inv-loop μ-loop
-cast-u c = omega (arith, (low _ _ _ _ _ _ _ (c .before .before .pre .1) (c .before .loop .inv) (omega arith)) .below)
+cast-u c = omega (arith, lowest-left c .below)
 
 add-u : tie.Need-add-u Inv-loop μ-loop
-add-u c =
-    let start = c .before .before in
-    omega (arith, (low _ _ _ _ _ _ _ (start .pre .1) (c .before .loop .inv) (omega arith)) .below)
+add-u c = omega (arith, lowest-left c .below)
 
 cast-neighbours : tie.Need-cast-neighbours Inv-loop μ-loop
-cast-neighbours c =
-    let start = c .before .before in
-    omega (arith, (low _ _ _ _ _ _ _ (start .pre .1) (c .before .loop .inv) (omega arith)) .below)
+cast-neighbours c = omega (arith, lowest-left c .below)
 
 mul-neighbours : tie.Need-mul-neighbours Inv-loop μ-loop
-mul-neighbours c =
-    let start = c .before .before in
-    let at-loop = c .before in
-    omega (
-      arith,
-      (some-here _ _ _ _ _ _ _ (start .pre .1) (at-loop .loop .inv) (omega arith)),
-      (some-long _ _ _ _ _ _ _ (start .pre .1) (at-loop .loop .inv)),
-    )
+mul-neighbours c = omega (arith, here c, some-long (c .before .loop .inv))
 
 slice-write-neighbours : tie.Need-slice-write-neighbours Inv-loop μ-loop
-slice-write-neighbours c = omega (arith, (some-here _ _ _ _ _ _ _ (c .before .before .pre .1) (c .before .loop .inv) (omega arith)))
+slice-write-neighbours c = omega (arith, here c)
 
 add-pos : tie.Need-add-pos Inv-loop μ-loop
-add-pos c =
-    let start = c .before .before in
-    let at-loop = c .before in
-    omega (
-      arith,
-      (some-here _ _ _ _ _ _ _ (start .pre .1) (at-loop .loop .inv) (omega arith)),
-      (some-long _ _ _ _ _ _ _ (start .pre .1) (at-loop .loop .inv)),
-    )
+add-pos c = omega (arith, here c, some-long (c .before .loop .inv))
 
 cast-left : tie.Need-cast-left Inv-loop μ-loop
-cast-left c = omega (arith, (low _ _ _ _ _ _ _ (c .before .before .pre .1) (c .before .loop .inv) (omega arith)) .below)
+cast-left c = omega (arith, lowest-left c .below)
 
 shl-left : tie.Need-shl-left Inv-loop μ-loop
-shl-left c = (low _ _ _ _ _ _ _ (c .before .before .pre .1) (c .before .loop .inv) (omega arith)) .below
+shl-left c = lowest-left c .below
 
 sub-left : tie.Need-sub-left Inv-loop μ-loop
-sub-left c =
-    let start = c .before .before in
-    let at-loop = c .before in
-    rw (shifted (trailingZeros 64 _) ((low _ _ _ _ _ _ _ (start .pre .1) (at-loop .loop .inv) (omega arith)) .below))
-    ((low _ _ _ _ _ _ _ (start .pre .1) (at-loop .loop .inv) (omega arith)) .holds)
+sub-left c = rw (shift c) (lowest-left c .holds)
 
 loop-less : tie.Need-loop-less Inv-loop μ-loop
-loop-less c =
-    let start = c .before .before in
-    let at-loop = c .before in
-    rw (shifted (trailingZeros 64 _) ((low _ _ _ _ _ _ _ (start .pre .1) (at-loop .loop .inv) (omega arith)) .below))
-    (omega (
-      arith,
-      pow-pos
-          (trailingZeros 64 (at-loop .loop .left)),
-    ))
+loop-less c = rw (shift c) (omega (arith, pow-pos (zeros c)))
 
 loop-again : tie.Need-loop-again Inv-loop μ-loop
-loop-again c =
-    let start = c .before .before in
-    let at-loop = c .before in
-    rw (shifted (trailingZeros 64 _) ((low _ _ _ _ _ _ _ (start .pre .1) (at-loop .loop .inv) (omega arith)) .below))
-    (some-more _ _ _ _ _ _ _ (start .pre .1) (at-loop .loop .inv) (omega arith))
+loop-again c = rw (shift c) (some-more (c .before .loop .inv) (c .loop-test .taken))
 
 same-length : tie.Need-same-length Inv-loop μ-loop
-same-length c = (some-long _ _ _ _ _ _ _ (c .before .before .pre .1) (c .before .loop .inv))
+same-length c = some-long (c .before .loop .inv)
 
 returns : tie.Need-returns Inv-loop μ-loop
-returns c = some-all _ _ _ _ _ _ _ (c .before .before .pre .1) (c .before .loop .inv) (c .loop-test .left)
+returns c = some-all (c .before .loop .inv) (c .loop-test .left)
 
 pub write-word-spec : {M : Type 1} → statement M
 write-word-spec =
