@@ -22,7 +22,8 @@ fn read_lists(
     requires { ⌜ (n ≤ 1024) × (m ≤ 16384) × (n + 1 ≤ length (now starts)) × (2 * m ≤ length (now neighbours)) ⌝ }
     requires { ⌜ (now starts ≡ replicate (length (now starts)) 0) × (now neighbours ≡ replicate (length (now neighbours)) 0) ⌝ }
     ensures { λ r. ⌜ readReturned r (now (starts .exit)) (now (neighbours .exit))
-        ≡ readingOf (length (now (starts .entry))) (length (now (neighbours .entry))) (parsed n (readLinks n m [] (drop at (now (text .entry))))) ⌝ }
+        ≡ readingOf (length (now (starts .entry))) (length (now (neighbours .entry)))
+        (parsed n (readLinks n m [] (drop at (now (text .entry))))) ⌝ }
 {
     let mut bits = [0u64; 16384];
     match survey_lines::read_links(text, at, n, m, &mut bits) {

@@ -1,13 +1,8 @@
 -- `survey_reading::read_lists` meets its contract: the matrix that the link lines fill gives the two lists.
 -- Assumes nothing.
-use mathlib.Core.Path.{_∙_, subst}
-use mathlib.Core.List.{[]}
 use native.Mathlib.Omega.{arith}
 use lib.ListN.{length, drop}
-use Rattle.model.specs.Reading.{readLinks}
-use Rattle.survey_lines.specs.declared.Links.{Links}
-use Rattle.survey_lines.specs.LinesRead.{Told}
-use Rattle.survey_reading.proofs.ReadLaws.{links-taken, links-refused, read-refused, read-written}
+use Rattle.survey_reading.proofs.ReadLaws.{Filled, links-taken, links-refused, read-written}
 use borrow.Author.Needs.{needs}
 use Rattle.survey_reading.proofs.read_lists.Statement.{statement}
 use Rattle.survey_reading.proofs.read_lists.Tie as tie
@@ -27,30 +22,29 @@ enum-told c = search needs
 slice-aggregate-write-lists : tie.Need-slice-aggregate-write-lists
 slice-aggregate-write-lists c = search needs
 
+-- the link lines were taken: what the matrix gives
+module _ (c : tie.After-enum-told) where
+  abbrev start : tie.Start
+  start = c .before .before .before .before .before .before .before .before
+
+  abbrev read : tie.After-read-links
+  read = c .before .before .before
+
+  filled : Filled (start .args .n) (start .args .m) (length (start .args .starts .now)) (length (start .args .neighbours .now))
+      (drop (start .args .at) (start .args .text .now)) (read .read-links .last .1 .1 .1 .1 .0)
+  filled = links-taken (read .read-links .ensures) (c .enum-told .given .1) (start .pre .0 .0)
+
 write-lists-requires : tie.Need-write-lists-requires
 write-lists-requires c κs =
-    let start = c .before .before .before .before .before .before .before .before .before .before .before in
-    let at-read-links = c .before .before .before .before .before .before in
-    let d = (links-taken _ _ (length (start .args .starts .now)) (length (start .args .neighbours .now))
-    (drop (start .args .at) _) _ (start .pre .0 .0)
-    (subst (λ (r : Links). Told (readLinks (start .args .n) (start .args .m) [] (drop (start .args .at) (start .args .text .now))) r
-    (at-read-links .read-links .last .1 .1 .1 .1 .0)) (c .before .before .before .enum-told .given .1)
-    (at-read-links .read-links .ensures))) in (
-      ((start .pre .0 .0), d .long, (start .pre .0 .2)),
-      (omega arith, omega arith),
-    )
+    let taken = c .before .before .before in
+    let pre = start taken .pre in
+    let f = filled taken in
+    ((pre .0 .0, f .long, pre .0 .2), (omega arith, omega arith))
 
 returns : tie.Need-returns
 returns c =
-    let start = c .before .before .before .before .before .before .before .before .before in
-    let at-read-links = c .before .before .before .before in
-    let at-r = c .before in
-    read-refused (length (start .args .starts .now)) (length (start .args .neighbours .now)) (at-r .r .given .0 .0)
-    _ _ (start .pre .1 .0) (start .pre .1 .1) ∙ links-refused _
-    _ (length (start .args .starts .now)) (length (start .args .neighbours .now))
-    (drop (start .args .at) _) _ _
-    (subst (λ (r : Links). Told (readLinks (start .args .n) (start .args .m) [] (drop (start .args .at) (start .args .text .now))) r
-    (at-read-links .read-links .last .1 .1 .1 .1 .0)) (at-r .r .given .1) (at-read-links .read-links .ensures))
+    let pre = c .before .before .before .before .before .before .before .before .before .pre in
+    links-refused _ _ _ _ (c .before .before .before .before .read-links .ensures) (c .before .r .given .1) _ _ (pre .1 .0) (pre .1 .1)
 
 same-length : tie.Need-same-length
 same-length c = search needs
@@ -60,19 +54,10 @@ same-length-2 c = search needs
 
 returns-2 : tie.Need-returns-2
 returns-2 c =
-    let start = c .before .before .before .before .before .before .before .before .before .before .before .before .before .before .before .before in
-    let at-read-links = c .before .before .before .before .before .before .before .before .before .before .before in
-    let at-enum-told = c .before .before .before .before .before .before .before .before in
-    let at-write-lists = c .before .before .before .before in
-    read-written _ _ (length (start .args .starts .now)) (length (start .args .neighbours .now))
-    (drop (start .args .at) _) _
-    (links-taken _ _ (length (start .args .starts .now)) (length (start .args .neighbours .now))
-    (drop (start .args .at) _) _ (start .pre .0 .0)
-    (subst (λ (r : Links). Told (readLinks (start .args .n) (start .args .m) [] (drop (start .args .at) (start .args .text .now))) r
-    (at-read-links .read-links .last .1 .1 .1 .1 .0)) (at-enum-told .enum-told .given .1) (at-read-links .read-links .ensures)))
-    _ _ _
-    _ (start .pre .1 .0) (start .pre .1 .1) (at-write-lists .write-lists .ensures .0)
-    (at-write-lists .write-lists .ensures .1)
+    let taken = c .before .before .before .before .before .before .before .before in
+    let pre = start taken .pre in
+    let write-lists = c .before .before .before .before .write-lists in
+    read-written (filled taken) (pre .1 .0) (pre .1 .1) (write-lists .ensures .0) (write-lists .ensures .1)
 
 pub read-lists-spec : {M : Type 1} → statement M
 read-lists-spec =
