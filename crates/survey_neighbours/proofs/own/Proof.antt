@@ -1,16 +1,16 @@
 -- `survey_neighbours::own` meets its contract.
 -- Assumes nothing.
-use mathlib.Core.Path.{refl}
 use native.Mathlib.Omega.{arith}
 use Prim.Native.Nat.{_+_}
 use Rattle.model.specs.Survey.{neighboursOf}
-use Rattle.survey_neighbours.proofs.RowLaws.{Part, part}
+use Rattle.survey_neighbours.proofs.RowLaws.{Bounds, bounds}
 use borrow.Author.Needs.{needs}
 use Rattle.survey_neighbours.proofs.own.Statement.{statement}
 use Rattle.survey_neighbours.proofs.own.Tie as tie
 
-part-of : (c : tie.Start) → Part (c .args .n) (c .args .starts .now) (c .args .neighbours .now) (c .pre .0) (c .args .v)
-part-of c = part (c .args .n) (c .args .starts .now) (c .args .neighbours .now) (c .pre .0) (c .args .v) (c .pre .1)
+-- node v's neighbours stand in the list
+own-bounds : (c : tie.Start) → Bounds (c .args .starts .now) (c .args .neighbours .now) (c .args .v)
+own-bounds c = bounds _ _ _ (c .pre .0) _ (c .pre .1)
 
 mul-a : tie.Need-mul-a
 mul-a c = search needs
@@ -34,16 +34,16 @@ cast-e : tie.Need-cast-e
 cast-e c = omega (arith, c .shared-slice-known2 .given (c .before .before .args .v + 1))
 
 mul-result : tie.Need-mul-result
-mul-result c = let p = part-of (c .before .before) in omega arith
+mul-result c = let b = own-bounds (c .before .before) in omega arith
 
 sub-result : tie.Need-sub-result
-sub-result c = part-of (c .before .before) .from-to
+sub-result c = own-bounds (c .before .before) .from-to
 
 part-result-start : tie.Need-part-result-start
-part-result-start c = part-of (c .before .before) .from-to
+part-result-start c = own-bounds (c .before .before) .from-to
 
 part-result-end : tie.Need-part-result-end
-part-result-end c = part-of (c .before .before) .end
+part-result-end c = own-bounds (c .before .before) .end
 
 returns : tie.Need-returns
 unfolding neighboursOf
