@@ -15,8 +15,9 @@ use Rattle.model.specs.declared.Verdict.the-variants.{Parted, Long, Short}
 use Rattle.model.specs.declared.TestResult.{TestResult}
 use Rattle.model.specs.Answers.{Outcome, refused, answered, number}
 use Rattle.model.proofs.Outcomes.{never, number-bounds}
-use Rattle.base_answer_codes.specs.Code.{noField, countField, sizeField, routeNumber, hubNumber, answerField, verdictNumber, testField}
-use Rattle.base_answer_codes.specs.Code.{field, decoded, noValue, countIn, sizeIn, routeIn, answerIn, verdictIn, testIn, IsCode}
+use Rattle.base_answer_codes.specs.Code.{noField, countField, sizeField, answerField, testField}
+use Rattle.base_answer_codes.specs.Code.{routeNumber, hubNumber, verdictNumber, field, decoded}
+use Rattle.base_answer_codes.specs.Code.{noValue, countIn, sizeIn, routeIn, answerIn, verdictIn, testIn, IsCode}
 
 -- a mask is a remainder
 masked : (k x y : ℕ) → x / 2 ^ k % 65536 ≡ y → field k x ≡ y
@@ -25,7 +26,8 @@ masked k x y e = and-mask (x / 2 ^ k) 16 ∙ e
 
 -- ---- a refusal, or a value
 
-pub refusal-code : {A : Type 0} (values : A → ℕ) (value : ℕ → A) (r : Refusal) {o : Outcome A} {k : ℕ} → o ≡ refused (number r) → k ≡ number r → IsCode values value o k
+pub refusal-code : {A : Type 0} (values : A → ℕ) (value : ℕ → A) (r : Refusal)
+    → {o : Outcome A} {k : ℕ} → o ≡ refused (number r) → k ≡ number r → IsCode values value o k
 unfolding decoded countIn
 refusal-code values value r e i =
     let b = number-bounds r in

@@ -12,7 +12,8 @@ use model::Verdict;
 ghost use mathlib.Core.Path.{_≡_};
 ghost use Prim.Native.Nat.{ℕ, _<_, _^_};
 ghost use Rattle.model.specs.Answers.{answered, acceptAnswer, readAnswer, countAnswer, pairAnswer, testAnswer};
-ghost use Rattle.base_answer_codes.specs.Code.{noField, countField, sizeField, routeNumber, hubNumber, answerField, verdictNumber, testField, noValue, countIn, sizeIn, answerIn, testIn, IsCode};
+ghost use Rattle.base_answer_codes.specs.Code.{noField, countField, sizeField, answerField, testField};
+ghost use Rattle.base_answer_codes.specs.Code.{routeNumber, hubNumber, verdictNumber, noValue, countIn, sizeIn, answerIn, testIn, IsCode};
 
 pub fn accepting_code(x: Accepting) -> u64
     ensures { λ r. ⌜ IsCode noField noValue (acceptAnswer x) r ⌝ }

@@ -21,8 +21,9 @@ enum-told : tie.Need-enum-told
 enum-told c = search needs
 
 returns : tie.Need-returns
-returns c = let x = c .before .before .x in refusal-code noField noValue (x .given .0 .0) (ap acceptAnswer (x .given .1))
-    (c .refusal-number .ensures)
+returns c =
+    let x = c .before .before .x in
+    refusal-code noField noValue (x .given .0 .0) (ap acceptAnswer (x .given .1)) (c .refusal-number .ensures)
 
 returns-2 : tie.Need-returns-2
 returns-2 c = answer-code noField noValue tt none-back (ap acceptAnswer (c .enum-told .given .1)) refl

@@ -47,14 +47,16 @@ mul-result-3 : tie.Need-mul-result-3
 mul-result-3 c = search needs
 
 returns : tie.Need-returns
-returns c = let x = c .before .before .x in refusal-code answerField answerIn (x .given .0 .0) (ap pairAnswer (x .given .1))
-    (c .refusal-number .ensures)
+returns c =
+    let x = c .before .before .x in
+    refusal-code answerField answerIn (x .given .0 .0) (ap pairAnswer (x .given .1)) (c .refusal-number .ensures)
 
 returns-2 : tie.Need-returns-2
-returns-2 c = let x = c .before .before .before .before .x2 in answer-code answerField answerIn (x .given .0 .0)
-    (pair-back (x .given .0 .0) (omega arith)) (ap pairAnswer (x .given .1))
-    (ap₂ (λ k h. 65536 * (x .given .0 .0 .report + 65536 * (k + 65536 * h))) (c .before .route-number .ensures .0)
-    (c .hub-number .ensures .0))
+returns-2 c =
+    let x = c .before .before .before .before .x2 in
+    let answer = x .given .0 .0 in
+    answer-code answerField answerIn answer (pair-back answer (omega arith)) (ap pairAnswer (x .given .1))
+    (ap₂ (λ k h. 65536 * (answer .report + 65536 * (k + 65536 * h))) (c .before .route-number .ensures .0) (c .hub-number .ensures .0))
 
 pub asking-code-spec : {M : Type 1} → statement M
 asking-code-spec =

@@ -22,15 +22,19 @@ enum-known-x-2 : tie.Need-enum-known-x-2
 enum-known-x-2 c = search needs
 
 mul-result : tie.Need-mul-result
-mul-result c = let x = c .before .x2 in omega (arith, c .before .before .before .pre (x .given .0 .0) (ap countAnswer (x .given .1)))
+mul-result c =
+    let x = c .before .x2 in
+    omega (arith, c .before .before .before .pre (x .given .0 .0) (ap countAnswer (x .given .1)))
 
 returns : tie.Need-returns
-returns c = let x = c .before .before .x in refusal-code countField countIn (x .given .0 .0) (ap countAnswer (x .given .1))
-    (c .refusal-number .ensures)
+returns c =
+    let x = c .before .before .x in
+    refusal-code countField countIn (x .given .0 .0) (ap countAnswer (x .given .1)) (c .refusal-number .ensures)
 
 returns-2 : tie.Need-returns-2
-returns-2 c = let x = c .before .x2 in answer-code countField countIn (x .given .0 .0) (count-back (x .given .0 .0))
-    (ap countAnswer (x .given .1)) refl
+returns-2 c =
+    let x = c .before .x2 in
+    answer-code countField countIn (x .given .0 .0) (count-back (x .given .0 .0)) (ap countAnswer (x .given .1)) refl
 
 pub counting-code-spec : {M : Type 1} → statement M
 counting-code-spec =
