@@ -1,4 +1,4 @@
--- A loop that copies a list into another one from a place on, as it stands or turned round.
+-- A loop that copies a list into another one from a place on, as it stands or reversed.
 -- Assumes nothing.
 use mathlib.Core.Path.{_≡_, refl, _∙_}
 use mathlib.Core.List.{List, [], _∷_, reverse, reverse-cons}
@@ -35,7 +35,7 @@ copied-all {from} {i = i} c h =
     let e : i ≡ length from = omega (arith, c .within) in
     record { ends = refl; text = c .content ∙ rw (e, take-length) }
 
--- the i-th entry of a list turned round
+-- the i-th entry of a reversed list
 pub getD-reverse : (l : List ℕ) (i d : ℕ) → i < length l → getD (reverse l) i d ≡ getD l (length l - 1 - i) d
 getD-reverse [] i d h = absurd (omega arith)
 getD-reverse (x ∷ l) i d h =

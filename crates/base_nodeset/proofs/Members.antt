@@ -52,6 +52,7 @@ pub record Lowest (k u w : ℕ) : Type 0 where
   pub holds : 2 ^ trailingZeros k w ≤ w
   pub first : membersFrom k u w ≡ (u + trailingZeros k w) ∷ membersFrom k u (w - 2 ^ trailingZeros k w)
 
+-- an odd word: the lowest bit is bit 0
 lowest-odd : (k u w : ℕ) → 0 < w → w % 2 ≡ 1 → Lowest (suc k) u w
 lowest-odd k u w p o =
     let t : trailingZeros (suc k) w ≡ 0 = trailing-odd k w o in
@@ -60,6 +61,7 @@ lowest-odd k u w p o =
     let place : u + 0 ≡ u = omega arith in
     record { below = omega arith; holds = rw t p; first = rw (t, place, bits-even k u (w - 1) e, half) (bits-odd k u w o) }
 
+-- an even word: it is that of the word halved, one place up
 lowest-even : (k u w : ℕ) → w % 2 ≡ 0 → Lowest k (suc u) (w / 2) → Lowest (suc k) u w
 lowest-even k u w o l =
     let z = trailingZeros k (w / 2) in

@@ -84,7 +84,7 @@ pub made-none : {p : Nodes} {n : ℕ} {ws : List ℕ} → length ws ≡ n → Ma
 made-none e = record { within = omega arith; same = e; done = λ x h. absurd (omega arith) }
 
 module _ {p : Nodes} {n : ℕ} {ws : List ℕ} {i : ℕ} (m : Made p n ws i) where
-  pub made-more : i < n → (w : ℕ) → ((x : ℕ) → x / 64 ≡ i → bit w (x % 64) ≡ p x) → Made p n (set ws i w) (i + 1)
+  made-more : i < n → (w : ℕ) → ((x : ℕ) → x / 64 ≡ i → bit w (x % 64) ≡ p x) → Made p n (set ws i w) (i + 1)
   made-more h w here = record {
     within = omega arith;
     same = length-set ws i w ∙ m .same;
@@ -94,7 +94,7 @@ module _ {p : Nodes} {n : ℕ} {ws : List ℕ} {i : ℕ} (m : Made p n ws i) whe
         (eq-or (x / 64) i);
   }
 
-  pub made-all : n ≤ i → ((x : ℕ) → n ≤ x / 64 → p x ≡ false) → member ws ≡ p
+  made-all : n ≤ i → ((x : ℕ) → n ≤ x / 64 → p x ≡ false) → member ws ≡ p
   made-all h past =
       fun-ext (λ x. ⊎-elim (m .done x) (λ l. member-past ws x (omega (arith, m .same)) ∙ sym (past x (omega arith))) (lt-or (x / 64) i))
 

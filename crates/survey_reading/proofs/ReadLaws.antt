@@ -30,7 +30,7 @@ use Rattle.survey_lists.specs.MatrixRows.{rowsIn}
 use Rattle.survey_lines.specs.declared.Links.the-variants as links
 
 -- lists that are all zero, as a refusal leaves them
-pub read-refused : (p q : ℕ) (r : Refusal) {s x : List ℕ} → s ≡ replicate p 0 → x ≡ replicate q 0
+read-refused : (p q : ℕ) (r : Refusal) {s x : List ℕ} → s ≡ replicate p 0 → x ≡ replicate q 0
     → readReturned (read.Refused r) s x ≡ readingOf p q (refused (number r))
 unfolding readingOf
 read-refused p q r hs hx = rw (hs, hx)

@@ -1,4 +1,4 @@
--- `base_lists::copy16_reversed` meets its contract: a copy of the list turned round.
+-- `base_lists::copy16_reversed` meets its contract: a copy of the reversed list.
 -- Assumes nothing.
 use borrow.Author.Needs.{needs}
 use mathlib.Core.Path.{_≡_, sym}
