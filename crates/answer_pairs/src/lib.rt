@@ -70,7 +70,8 @@ pub fn pair_answer(
     a: usize,
     b: usize,
 ) -> Asking
-    requires { ⌜ (n ≤ 1024) × (n * n ≤ length (now full)) × (n * n ≤ length (now low)) × (n * n ≤ length (now report)) × (a < n) × (b < n) ⌝ }
+    requires { ⌜ (n ≤ 1024) × (n * n ≤ length (now full)) × (n * n ≤ length (now low)) × (n * n ≤ length (now report))
+        × (a < n) × (b < n) ⌝ }
     ensures { λ r. ⌜ pairAnswer r ≡ pair n (now (full .entry)) (now (low .entry)) (now (report .entry)) a b ⌝ }
 {
     let r = entry_at(n, report, a, b);

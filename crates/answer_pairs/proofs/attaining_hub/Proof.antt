@@ -4,7 +4,7 @@ use mathlib.Core.Path.{sym, _∙_}
 use Prim.Native.Nat.{_-_}
 use borrow.Author.Needs.{needs}
 use native.Mathlib.Omega.{arith}
-use Rattle.answer_pairs.proofs.HubLaws.{Tried, tried-none, tried-found, tried-more, tried-all}
+use Rattle.answer_pairs.proofs.HubLaws.{Tried, tried-found, tried-more, tried-all}
 use Rattle.answer_pairs.proofs.attaining_hub.Statement.{statement}
 use Rattle.answer_pairs.proofs.attaining_hub.Tie as tie
 
@@ -25,9 +25,8 @@ cast-result c = omega arith
 
 returns : tie.Need-returns Inv-loop μ-loop
 returns c =
-    let at-loop = c .before .before .before in
-    tried-found _ _ _ _ _ _
-    (at-loop .loop .inv) (c .before .before .loop-test .taken) (sym (c .before .hub-attains .ensures) ∙ (c .if1 .taken))
+    let turn = c .before .before in
+    tried-found (turn .before .loop .inv) (turn .loop-test .taken) (sym (c .before .hub-attains .ensures) ∙ c .if1 .taken)
 
 add-h : tie.Need-add-h Inv-loop μ-loop
 add-h c = omega arith
@@ -37,15 +36,11 @@ loop-less c = omega arith
 
 loop-again : tie.Need-loop-again Inv-loop μ-loop
 loop-again c =
-    let at-loop = c .before .before .before in
-    tried-more _ _ _ _ _ _
-    (at-loop .loop .inv) (c .before .before .loop-test .taken) (sym (c .before .hub-attains .ensures) ∙ (c .if1 .left))
+    let turn = c .before .before in
+    tried-more (turn .before .loop .inv) (turn .loop-test .taken) (sym (c .before .hub-attains .ensures) ∙ c .if1 .left)
 
 returns-2 : tie.Need-returns-2 Inv-loop μ-loop
-returns-2 c =
-    let at-loop = c .before in
-    tried-all _ _ _ _ _ _
-    (at-loop .loop .inv) (c .loop-test .left)
+returns-2 c = tried-all (c .before .loop .inv) (c .loop-test .left)
 
 pub attaining-hub-spec : {M : Type 1} → statement M
 attaining-hub-spec =

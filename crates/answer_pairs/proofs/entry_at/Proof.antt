@@ -1,35 +1,28 @@
 -- `answer_pairs::entry_at` meets its contract.
 -- Assumes nothing.
 use borrow.Author.Needs.{needs}
-use mathlib.Core.Path.{refl}
+use Prim.Native.Nat.{_+_, _*_, _<_}
 use native.Mathlib.Omega.{arith}
 use Rattle.model.specs.Tables.{entryAt}
-use Rattle.model.proofs.Entries.{place-inside, square-small}
+use Rattle.model.proofs.Entries.{place-inside}
 use Rattle.answer_pairs.proofs.entry_at.Statement.{statement}
 use Rattle.answer_pairs.proofs.entry_at.Tie as tie
 
+-- the entry stands in the table
+inside : (c : tie.Start) → c .args .row * c .args .n + c .args .column < c .args .n * c .args .n
+inside c = place-inside _ _ _ (c .pre .2) (c .pre .3)
+
 mul-at : tie.Need-mul-at
-mul-at c = omega (
-  arith,
-  place-inside _ _ _ (c .pre .2) (c .pre .3),
-)
+mul-at c = omega (arith, inside c)
 
 add-at : tie.Need-add-at
-add-at c = omega (
-  arith,
-  place-inside _ _ _ (c .pre .2) (c .pre .3),
-)
+add-at c = omega (arith, inside c)
 
 mul-result : tie.Need-mul-result
-mul-result c = omega (
-  arith,
-  place-inside _ _ _ (c .pre .2) (c .pre .3),
-)
+mul-result c = omega (arith, inside c)
 
 shared-slice-read-result : tie.Need-shared-slice-read-result
-shared-slice-read-result c =
-    let start = c .before in
-    omega (arith, place-inside _ _ _ (start .pre .2) (start .pre .3))
+shared-slice-read-result c = omega (arith, inside (c .before))
 
 returns : tie.Need-returns
 unfolding entryAt

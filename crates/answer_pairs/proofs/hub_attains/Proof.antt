@@ -1,9 +1,9 @@
--- `answer_pairs::hub_attains` meets its contract.
+-- `answer_pairs::hub_attains` meets its contract: at each `return` the tests that led there say whether h counts as a hub.
 -- Assumes nothing.
-use native.Mathlib.Omega.{arith}
-use mathlib.Core.Path.{sym, _∙_}
-use Rattle.answer_pairs.proofs.HubLaws.{first-none, second-none, neither-none}
 use borrow.Author.Needs.{needs}
+use borrow.Author.Tests.{eq-eqb, ne-eqb}
+use Rattle.model.specs.Tables.{sum, via}
+use Rattle.model.specs.Pair.{taken}
 use Rattle.answer_pairs.proofs.hub_attains.Statement.{statement}
 use Rattle.answer_pairs.proofs.hub_attains.Tie as tie
 
@@ -11,18 +11,17 @@ entry-at-requires : tie.Need-entry-at-requires
 entry-at-requires c κs = search needs
 
 returns : tie.Need-returns
-returns c =
-    first-none _ _ _ _ _ _
-    (sym (c .before .entry-at .ensures) ∙ (c .if1 .taken))
+unfolding taken
+returns c = rw (← c .before .entry-at .ensures, eq-eqb _ _ (c .if1 .taken))
 
 entry-at-requires-2 : tie.Need-entry-at-requires-2
 entry-at-requires-2 c κs = search needs
 
 returns-2 : tie.Need-returns-2
+unfolding taken
 returns-2 c =
-    second-none _ _ _ _ _ _
-    (λ e. (c .before .before .if1 .left) ((c .before .before .before .entry-at .ensures) ∙ e))
-    (sym (c .before .entry-at2 .ensures) ∙ (c .if2 .taken))
+    let first = c .before .before in
+    rw (← first .before .entry-at .ensures, ne-eqb _ _ (first .if1 .left), ← c .before .entry-at2 .ensures, eq-eqb _ _ (c .if2 .taken))
 
 cast-result : tie.Need-cast-result
 cast-result c = search needs
@@ -34,13 +33,10 @@ add-result : tie.Need-add-result
 add-result c = search needs
 
 returns-3 : tie.Need-returns-3
+unfolding taken via sum
 returns-3 c =
-    let at-entry-at = c .before .before .before in
-    let at-entry-at2 = c .before in
-    rw ((at-entry-at .entry-at .ensures), (at-entry-at2 .entry-at2 .ensures))
-    (neither-none _ _ _ _ _ _
-    (λ e. (c .before .before .if1 .left) ((at-entry-at .entry-at .ensures) ∙ e))
-    (λ e. (c .if2 .left) ((at-entry-at2 .entry-at2 .ensures) ∙ e)))
+    let first = c .before .before in
+    rw (← first .before .entry-at .ensures, ne-eqb _ _ (first .if1 .left), ← c .before .entry-at2 .ensures, ne-eqb _ _ (c .if2 .left))
 
 pub hub-attains-spec : {M : Type 1} → statement M
 hub-attains-spec =

@@ -1,10 +1,9 @@
 -- `answer_pairs::pair_answer` meets its contract: at each `return` the tests that led there say which case holds.
 -- Assumes nothing.
-use native.Mathlib.Omega.{arith}
 use mathlib.Core.Path.{_∙_}
 use borrow.Author.Tests.{eq-eqb, ne-eqb}
-use Rattle.model.specs.Pair.{choose, pairBy, pair}
 use borrow.Author.Needs.{needs}
+use Rattle.model.specs.Pair.{choose, pairBy, pair}
 use Rattle.answer_pairs.proofs.pair_answer.Statement.{statement}
 use Rattle.answer_pairs.proofs.pair_answer.Tie as tie
 
@@ -16,26 +15,26 @@ answer-by-requires c κs = search needs
 
 returns : tie.Need-returns
 unfolding pair pairBy choose
-returns c = (c .answer-by .ensures) ∙ rw (
-  eq-eqb _ _ (c .before .before .if1 .taken),
-  ← (c .before .before .before .entry-at .ensures),
-  eq-eqb _ _ (c .before .if2 .taken),
-)
+returns c =
+    let same = c .before .before in
+    c .answer-by .ensures
+    ∙ rw (eq-eqb _ _ (same .if1 .taken), ← same .before .entry-at .ensures, eq-eqb _ _ (c .before .if2 .taken))
 
 returns-2 : tie.Need-returns-2
 unfolding pair pairBy choose
-returns-2 c = rw (eq-eqb _ _ (c .before .if1 .taken), ← (c .before .before .entry-at .ensures), ne-eqb _ _ (c .if2 .left))
+returns-2 c =
+    let same = c .before in
+    rw (eq-eqb _ _ (same .if1 .taken), ← same .before .entry-at .ensures, ne-eqb _ _ (c .if2 .left))
 
 answer-by-requires-2 : tie.Need-answer-by-requires-2
 answer-by-requires-2 c κs = search needs
 
 returns-3 : tie.Need-returns-3
 unfolding pair pairBy choose
-returns-3 c = (c .answer-by2 .ensures) ∙ rw (
-  ne-eqb _ _ (c .before .before .if1 .left),
-  ← (c .before .before .before .entry-at .ensures),
-  eq-eqb _ _ (c .before .if3 .taken),
-)
+returns-3 c =
+    let apart = c .before .before in
+    c .answer-by2 .ensures
+    ∙ rw (ne-eqb _ _ (apart .if1 .left), ← apart .before .entry-at .ensures, eq-eqb _ _ (c .before .if3 .taken))
 
 entry-at-requires-2 : tie.Need-entry-at-requires-2
 entry-at-requires-2 c κs = search needs
@@ -45,15 +44,17 @@ answer-by-requires-3 c κs = search needs
 
 returns-4 : tie.Need-returns-4
 unfolding pair pairBy choose
-returns-4 c = (c .answer-by3 .ensures) ∙ rw (
-  ne-eqb _ _ (c .before .before .before .before .if1 .left),
-  ←
-      (c .before .before .before .before .before .entry-at .ensures),
-  ne-eqb _ _ (c .before .before .before .if3 .left),
-  ←
-      (c .before .before .entry-at2 .ensures),
-  eq-eqb _ _ (c .before .if4 .taken),
-)
+returns-4 c =
+    let joined = c .before .before .before in
+    let apart = joined .before in
+    c .answer-by3 .ensures
+    ∙ rw (
+      ne-eqb _ _ (apart .if1 .left),
+      ← apart .before .entry-at .ensures,
+      ne-eqb _ _ (joined .if3 .left),
+      ← c .before .before .entry-at2 .ensures,
+      eq-eqb _ _ (c .before .if4 .taken),
+    )
 
 attaining-hub-requires : tie.Need-attaining-hub-requires
 attaining-hub-requires c κs = search needs
@@ -61,16 +62,16 @@ attaining-hub-requires c κs = search needs
 returns-5 : tie.Need-returns-5
 unfolding pair pairBy choose
 returns-5 c =
-    let at-entry-at = c .before .before .before .before .before .before in
+    let not-low = c .before .before in
+    let joined = not-low .before .before in
+    let apart = joined .before in
     rw (
-      ne-eqb _ _ (c .before .before .before .before .before .if1 .left),
-      ← (at-entry-at .entry-at .ensures),
-      ne-eqb _ _
-          (c .before .before .before .before .if3 .left),
-      ← (c .before .before .before .entry-at2 .ensures),
-      ne-eqb _ _
-          (c .before .before .if4 .left),
-      ← (c .before .attaining-hub .ensures),
+      ne-eqb _ _ (apart .if1 .left),
+      ← apart .before .entry-at .ensures,
+      ne-eqb _ _ (joined .if3 .left),
+      ← not-low .before .entry-at2 .ensures,
+      ne-eqb _ _ (not-low .if4 .left),
+      ← c .before .attaining-hub .ensures,
       eq-eqb _ _ (c .if5 .taken),
     )
 
@@ -80,17 +81,17 @@ answer-by-requires-4 c κs = search needs
 returns-6 : tie.Need-returns-6
 unfolding pair pairBy choose
 returns-6 c =
-    let at-entry-at = c .before .before .before .before .before .before .before in
-    let at-if1 = c .before .before .before .before .before .before in
-    (c .answer-by4 .ensures) ∙ rw (
-      ne-eqb _ _ (at-if1 .if1 .left),
-      ← (at-entry-at .entry-at .ensures),
-      ne-eqb _ _
-          (c .before .before .before .before .before .if3 .left),
-      ← (c .before .before .before .before .entry-at2 .ensures),
-      ne-eqb _ _
-          (c .before .before .before .if4 .left),
-      ← (c .before .before .attaining-hub .ensures),
+    let not-low = c .before .before .before in
+    let joined = not-low .before .before in
+    let apart = joined .before in
+    c .answer-by4 .ensures
+    ∙ rw (
+      ne-eqb _ _ (apart .if1 .left),
+      ← apart .before .entry-at .ensures,
+      ne-eqb _ _ (joined .if3 .left),
+      ← not-low .before .entry-at2 .ensures,
+      ne-eqb _ _ (not-low .if4 .left),
+      ← c .before .before .attaining-hub .ensures,
       ne-eqb _ _ (c .before .if5 .left),
     )
 

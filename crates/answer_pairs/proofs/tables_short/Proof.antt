@@ -1,6 +1,5 @@
 -- `answer_pairs::tables_short` meets its contract.
 -- Assumes nothing.
-use borrow.Author.Needs.{needs}
 use native.Mathlib.Omega.{arith}
 use borrow.Author.Tests.{lt-ltb, le-ltb}
 use Rattle.model.proofs.Entries.{square-small}
