@@ -12,7 +12,6 @@ use borrow.Author.Tests.{lt-ltb}
 use lib.Dec.{ltb}
 use lib.ListN.{length, getD, take, drop, length-drop}
 use lib.Seq.{take-all, getD-drop}
-use Rattle.base_nodeset.specs.NodeSet.{Nodes}
 use Rattle.model.specs.Graph.{Edges, linked}
 use Rattle.model.specs.Survey.{Graph, IsGraph}
 use Rattle.model.specs.Threshold.{threshold}
@@ -21,53 +20,53 @@ use Rattle.model.specs.Tables.{entryAt}
 use Rattle.model.specs.Walk.{steps, byLow, toHub}
 use Rattle.model.proofs.Entries.{place-inside}
 use Rattle.model.proofs.Walks.{Sound, steps-sound, steps-same, too-long}
+use Rattle.base_nodeset.specs.NodeSet.{Nodes}
 use Rattle.table_degrees.proofs.Degrees.{low-are}
 use Rattle.walk_parts.specs.declared.Part.{Part}
 use Rattle.walk_parts.specs.Parts.{leftIn, Inside, stepsIn, isFound, Leaves, countOf, PartIs}
 
 -- ---- how many nodes a part has
 
-no-part : (n : ℕ) {o : Option (List ℕ)} → o ≡ missing → (old new : List ℕ) → PartIs n o 0 old new
-no-part n e old new = record {
+no-part : {n : ℕ} {o : Option (List ℕ)} {old new : List ℕ} → o ≡ missing → PartIs n o 0 old new
+no-part {old = old} {new = new} e = record {
   counted = sym (ap countOf e);
   few = omega arith;
   missed = λ z. e;
   left = subst (λ (o : Option (List ℕ)). Leaves o old new) (sym e) tt;
 }
 
-not-given : (o : Option (List ℕ)) → false ≡ isFound o → o ≡ missing
-not-given missing e = refl
-not-given (some l) e = let z : _≡_ {A = ℕ} 0 1 = cc in absurd (omega arith)
+not-given : {o : Option (List ℕ)} → false ≡ isFound o → o ≡ missing
+not-given {o = missing} e = refl
+not-given {o = some l} e = let z : _≡_ {A = ℕ} 0 1 = cc in absurd (omega arith)
 
-all-given : (n d : ℕ) (o : Option (List ℕ)) (E : Edges) (v goal : ℕ) → Sound E d v goal o → d < n
-    → (old new : List ℕ) → true ≡ isFound o → Leaves o old new → PartIs n o (d + 1) old new
-all-given n d missing E v goal s h old new e w = let z : _≡_ {A = ℕ} 0 1 = cc in absurd (omega arith)
-all-given n d (some l) E v goal s h old new e w = record {
+pub part-missed : {n : ℕ} {o : Option (List ℕ)} {old new : List ℕ} → false ≡ isFound o → PartIs n o 0 old new
+part-missed e = no-part (not-given e)
+
+all-given : {n d : ℕ} {o : Option (List ℕ)} {old new : List ℕ} (E : Edges) (v goal : ℕ) → Sound E d v goal o → d < n
+    → true ≡ isFound o → Leaves o old new → PartIs n o (d + 1) old new
+all-given {o = missing} E v goal s h e w = let z : _≡_ {A = ℕ} 0 1 = cc in absurd (omega arith)
+all-given {d = d} {o = some l} E v goal s h e w = record {
   counted = add-one d ∙ sym (s .1);
   few = omega arith;
   missed = λ z. absurd (omega arith);
   left = w;
 }
 
-module _ (part : Part) (G : Graph) (may : Nodes) (table : List ℕ) (v : ℕ) where
-  abbrev o : Option (List ℕ)
-  o = stepsIn part G may table (leftIn part table v) v
+module _ {part : Part} {table : List ℕ} (inside : Inside part table) {G : Graph} (g : IsGraph (part .n) G) (may : Nodes)
+    {v : ℕ} (h : v < part .n) where
+  abbrev left : ℕ
+  left = leftIn part table v
 
-  pub part-missed : (old new : List ℕ) → false ≡ isFound o → PartIs (part .n) o 0 old new
-  part-missed old new e = no-part (part .n) (not-given o e) old new
+  pub part-long : part .n ≤ left → {nodes : List ℕ} → PartIs (part .n) (stepsIn part G may table left v) 0 nodes nodes
+  unfolding stepsIn
+  part-long l = no-part (too-long (part .n) G g may (leftIn part table) (part .goal) left v h (omega arith) l)
 
-  module _ (g : IsGraph (part .n) G) (h : v < part .n) where
-    pub part-long : part .n ≤ leftIn part table v → (nodes : List ℕ) → PartIs (part .n) o 0 nodes nodes
-    unfolding stepsIn
-    part-long l nodes =
-        no-part (part .n) (too-long (part .n) G g may (leftIn part table) (part .goal) (leftIn part table v) v h (omega arith) l) nodes nodes
-
-    pub part-given : leftIn part table v < part .n → (old new : List ℕ) → true ≡ isFound o → Leaves o old new
-        → PartIs (part .n) o (leftIn part table v + 1) old new
-    unfolding stepsIn
-    part-given l old new e w =
-        all-given (part .n) (leftIn part table v) o (linked (part .n) G) v (part .goal)
-        (steps-sound (part .n) G g may (leftIn part table) (part .goal) (leftIn part table v) v h) l old new e w
+  pub part-given : left < part .n → {old new : List ℕ}
+      → true ≡ isFound (stepsIn part G may table left v) → Leaves (stepsIn part G may table left v) old new
+      → PartIs (part .n) (stepsIn part G may table left v) (left + 1) old new
+  unfolding stepsIn
+  part-given l e w =
+      all-given (linked (part .n) G) v (part .goal) (steps-sound (part .n) G g may (leftIn part table) (part .goal) left v h) l e w
 
 -- ---- the columns of Low, and the rows of Full
 
@@ -78,15 +77,22 @@ from i table = take (length table - i) (drop i table)
 behind : (i : ℕ) (l : List ℕ) → from i l ≡ drop i l
 behind i l = take-all (length l - i) (drop i l) (omega (arith, length-drop i l))
 
-module _ (n : ℕ) (size : n ≤ 1024) (table : List ℕ) (room : n * n ≤ length table) (i : ℕ) (h : i < n) where
-  pub column-inside : Inside (record { n = n; goal = i; stride = n }) (from i table)
+-- the parts that go by a column and by a row
+abbrev pub byColumn : (n goal : ℕ) → Part
+byColumn n goal = record { n = n; goal = goal; stride = n }
+
+abbrev pub byRow : (n goal : ℕ) → Part
+byRow n goal = record { n = n; goal = goal; stride = 1 }
+
+module _ {n : ℕ} (size : n ≤ 1024) (table : List ℕ) (room : n * n ≤ length table) {i : ℕ} (h : i < n) where
+  pub column-inside : Inside (byColumn n i) (from i table)
   column-inside = record {
     few = size;
     near = size;
     holds = λ x l. rw (behind i table) (omega (arith, length-drop i table, place-inside n x i l h));
   }
 
-  pub row-inside : Inside (record { n = n; goal = i; stride = 1 }) (from (i * n) table)
+  pub row-inside : Inside (byRow n i) (from (i * n) table)
   row-inside = record {
     few = size;
     near = omega arith;
@@ -113,24 +119,23 @@ by-same part G g may may′ table left v h e f =
     steps-same (part .n) G g may may′ (leftIn part table) left (part .goal) e (λ x l. f x) (leftIn part table v) v h
     ∙ ap (λ (d : ℕ). steps G may′ left (part .goal) d v) (f v)
 
-module _ (n : ℕ) (G : Graph) (g : IsGraph n G) {count : ℕ} {old new : List ℕ} where
+module _ {n : ℕ} {G : Graph} (g : IsGraph n G) {may : Nodes} {count : ℕ} {old new : List ℕ} where
   -- the part by low nodes goes by a column of Low
-  pub low-part : (s : ℕ) (low : List ℕ) (a b : ℕ) (may : Nodes) → a < n → s ≡ threshold n → may ≡ (λ v. ltb v n && isLow s G v)
-      → (let part : Part = record { n = n; goal = b; stride = n } in
-      PartIs n (stepsIn part G may (from b low) (leftIn part (from b low) a) a) count old new)
+  pub low-part : {s : ℕ} (low : List ℕ) {a : ℕ} (b : ℕ) → a < n → s ≡ threshold n → may ≡ (λ v. ltb v n && isLow s G v)
+      → PartIs n (stepsIn (byColumn n b) G may (from b low) (leftIn (byColumn n b) (from b low) a) a) count old new
       → PartIs n (byLow n (threshold n) G low a b) count old new
   unfolding byLow
-  low-part s low a b may h e q p =
-      let part : Part = record { n = n; goal = b; stride = n } in
-      rw (by-same part G g may (isLow s G) (from b low) (λ x. entryAt n low x b) a h (low-are n s G may q) (column-left n low b), e) at p
+  low-part {s} low {a} b h e q p =
+      let same = by-same (byColumn n b) G g may (isLow s G) (from b low) (λ x. entryAt n low x b) a h
+      (low-are n s G may q) (column-left n low b) in
+      rw (same, e) at p
 
   -- and the part to a hub by a row of Full
-  pub hub-part : (full : List ℕ) (h v : ℕ) (may : Nodes) → v < n → may ≡ (λ v. ltb v n)
-      → (let part : Part = record { n = n; goal = h; stride = 1 } in
-      PartIs n (stepsIn part G may (from (h * n) full) (leftIn part (from (h * n) full) v) v) count old new)
+  pub hub-part : (full : List ℕ) (h : ℕ) {v : ℕ} → v < n → may ≡ (λ v. ltb v n)
+      → PartIs n (stepsIn (byRow n h) G may (from (h * n) full) (leftIn (byRow n h) (from (h * n) full) v) v) count old new
       → PartIs n (toHub n G full h v) count old new
   unfolding toHub
-  hub-part full h v may l q p =
-      let part : Part = record { n = n; goal = h; stride = 1 } in
+  hub-part full h {v} l q p =
       let all : (x : ℕ) → x < n → may x ≡ true = λ x k. ap (λ (f : Nodes). f x) q ∙ lt-ltb x n k in
-      rw (by-same part G g may (λ x. true) (from (h * n) full) (λ x. entryAt n full h x) v l all (row-left n full h)) at p
+      let same = by-same (byRow n h) G g may (λ x. true) (from (h * n) full) (λ x. entryAt n full h x) v l all (row-left n full h) in
+      rw same at p

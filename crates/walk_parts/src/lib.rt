@@ -59,8 +59,10 @@ fn take_steps(
 ) -> bool
     requires { ⌜ Accepted (part .n) (now starts) (now neighbours) × Inside part (now table) × (length (now allowed) ≡ 16) ⌝ }
     requires { ⌜ (v < part .n) × (d < length (now nodes)) ⌝ }
-    ensures { λ r. ⌜ r ≡ isFound (stepsIn part (neighboursOf (now (starts .entry)) (now (neighbours .entry))) (member (now (allowed .entry))) (now (table .entry)) d v) ⌝ }
-    ensures { λ _. ⌜ Leaves (stepsIn part (neighboursOf (now (starts .entry)) (now (neighbours .entry))) (member (now (allowed .entry))) (now (table .entry)) d v)
+    ensures { λ r. ⌜ r ≡ isFound (stepsIn part (neighboursOf (now (starts .entry)) (now (neighbours .entry)))
+        (member (now (allowed .entry))) (now (table .entry)) d v) ⌝ }
+    ensures { λ _. ⌜ Leaves (stepsIn part (neighboursOf (now (starts .entry)) (now (neighbours .entry)))
+        (member (now (allowed .entry))) (now (table .entry)) d v)
         (now (nodes .entry)) (now (nodes .exit)) ⌝ }
 {
     nodes[d] = v as u16;
@@ -98,7 +100,8 @@ fn write_part(
     requires { ⌜ Accepted (part .n) (now starts) (now neighbours) × Inside part (now table) × (length (now allowed) ≡ 16) ⌝ }
     requires { ⌜ (v < part .n) × (part .n ≤ length (now nodes)) ⌝ }
     ensures { λ r. ⌜ PartIs (part .n)
-        (stepsIn part (neighboursOf (now (starts .entry)) (now (neighbours .entry))) (member (now (allowed .entry))) (now (table .entry)) (leftIn part (now (table .entry)) v) v)
+        (stepsIn part (neighboursOf (now (starts .entry)) (now (neighbours .entry)))
+        (member (now (allowed .entry))) (now (table .entry)) (leftIn part (now (table .entry)) v) v)
         r (now (nodes .entry)) (now (nodes .exit)) ⌝ }
 {
     let d = table[v * part.stride] as usize;

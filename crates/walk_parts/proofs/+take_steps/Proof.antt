@@ -7,9 +7,11 @@ use borrow.Author.Needs.{needs}
 use borrow.Fn.Kinds.{In}
 use borrow.Fn.PlainCycle.{Measures, is, falls, and}
 use lib.ListN.{length-set}
+use Rattle.model.specs.Survey.{neighboursOf}
+use Rattle.base_nodeset.specs.NodeSet.{member}
 use Rattle.survey_neighbours.proofs.RowLaws.{rows-of}
 use Rattle.survey_neighbours.proofs.own.Reads as own-reads
-use Rattle.walk_parts.proofs.StepLaws.{last-step, no-step, step-below, step-on}
+use Rattle.walk_parts.proofs.StepLaws.{Going, Step, last-step, no-step, step-below, step-on}
 use Rattle.walk_parts.proofs.next_node.Reads as next-node-reads
 use Rattle.walk_parts.proofs.take_steps.Reads as reads
 use Rattle.walk_parts.proofs.take_steps.Kinds as kinds
@@ -33,6 +35,19 @@ module _ (t : ℕ) where
   abbrev calls : lts.Claims
   calls = (own-reads.Asked, own-reads.Learnt, next-node-reads.Asked, next-node-reads.Learnt, Below t, reads.Post)
 
+  -- what the call may rely on
+  going : (c : lts.Start calls (At t) reads.Post)
+      → (let args = c .args in
+      Going (args .part) (neighboursOf (args .starts .now) (args .neighbours .now)) (args .d) (args .v) (args .nodes .now))
+  going c = record { graph = c .pre .1 .0 .0 .lists .graph; below = c .pre .1 .1 .0; room = c .pre .1 .1 .1 }
+
+  -- the search for a step
+  step : (c : lts.After-next-node calls (At t) reads.Post)
+      → (let args = c .before .before .before .before .before .before .before .before .args in
+      let G = neighboursOf (args .starts .now) (args .neighbours .now) in
+      Step (args .part) G (member (args .allowed .now)) (args .table .now) (args .d) (args .v) (c .next-node .result))
+  step c = record { some-left = c .before .before .if1 .left; search = rw (c .before .own .ensures) at (c .next-node .ensures) }
+
   cast-nodes : lts.Need-cast-nodes calls (At t) reads.Post
   cast-nodes c = search needs
 
@@ -48,7 +63,7 @@ module _ (t : ℕ) where
   returns : lts.Need-returns calls (At t) reads.Post
   returns c =
       let start = c .before .before .before .before .before .before .before in
-      last-step _ _ _ _ _ _ _ (c .before .if1 .taken) (start .pre .1 .1 .1)
+      last-step (going start) _ _ (c .before .if1 .taken)
 
   own-requires : lts.Need-own-requires calls (At t) reads.Post
   own-requires c κs =
@@ -67,8 +82,9 @@ module _ (t : ℕ) where
   same-length-2 c = simp length-set
 
   returns-2 : lts.Need-returns-2 calls (At t) reads.Post
-  returns-2 c = no-step _ _ _ _ _ _ _ (c .before .before .before .if1 .left) (c .before .next-node .ensures)
-      (c .before .before .own .ensures) (c .if2 .taken) _ _
+  returns-2 c =
+      let start = c .before .before .before .before .before .before .before .before .before in
+      no-step (going start) (step (c .before)) (c .if2 .taken)
 
   sub-take-steps : lts.Need-sub-take-steps calls (At t) reads.Post
   sub-take-steps c = omega arith
@@ -76,20 +92,12 @@ module _ (t : ℕ) where
   cast-take-steps : lts.Need-cast-take-steps calls (At t) reads.Post
   cast-take-steps c = search needs
 
-  -- once the next node is found
-  module _ (c : lts.Else2 calls (At t) reads.Post) where
-    abbrev start : lts.Start calls (At t) reads.Post
-    start = c .before .before .before .before .before .before .before .before .before
-
-    below : c .before .next-node .result < start .args .part .n
-    below =
-        step-below _ _ _ _ _ _ _ (c .before .before .before .if1 .left) (c .before .next-node .ensures) (c .before .before .own .ensures)
-        (start .pre .1 .0 .0 .lists .graph) (start .pre .1 .1 .0) (c .if2 .left)
-
   take-steps-requires : lts.Need-take-steps-requires calls (At t) reads.Post
   take-steps-requires c κs =
-      let start = c .before .before .before .before .before .before .before .before .before .before in
-      (omega (arith, start .pre .0), (start .pre .1 .0, (below (c .before), simp length-set (omega (arith, start .pre .1 .1 .1)))))
+      let found = c .before in
+      let start = found .before .before .before .before .before .before .before .before .before in
+      let below = step-below (going start) (step (found .before)) (found .if2 .left) in
+      (omega (arith, start .pre .0), (start .pre .1 .0, (below, simp length-set (omega (arith, going start .room)))))
 
   same-length-3 : lts.Need-same-length-3 calls (At t) reads.Post
   same-length-3 c = c .before .before .take-steps .kept .1 .1 .1 .1 .1 .1 .1 .0 ∙ simp length-set
@@ -98,8 +106,7 @@ module _ (t : ℕ) where
   returns-3 c =
       let found = c .before .before .before .before in
       let start = found .before .before .before .before .before .before .before .before .before in
-      step-on _ _ _ _ _ _ _ (found .before .before .before .if1 .left) (found .before .next-node .ensures) (found .before .before .own .ensures)
-      (start .pre .1 .0 .0 .lists .graph) (start .pre .1 .1 .0) (found .if2 .left) _ _ (start .pre .1 .1 .1) _ (c .before .before .take-steps .ensures)
+      step-on (going start) (step (found .before)) (found .if2 .left) _ (c .before .before .take-steps .ensures)
 
 pub +take-steps-spec : {M : Type 1} → statement M
 +take-steps-spec = close μ λ t. lts.spec (calls t)

@@ -1,16 +1,18 @@
 -- `walk_parts::leads_on` meets its contract.
 -- Assumes nothing.
+use mathlib.Core.Bool.{and-true, and-false}
 use Prim.Native.Nat.{_*_, _≤_}
 use native.Mathlib.Omega.{arith}
 use borrow.Author.Needs.{needs}
-use mathlib.Core.Path.{_∙_}
-use Rattle.walk_parts.proofs.StepLaws.{place-small, elsewhere, nearer}
+use borrow.Author.Tests.{eq-eqb, ne-eqb}
+use Rattle.walk_parts.specs.Parts.{leadsOn}
+use Rattle.walk_parts.proofs.StepLaws.{place-small}
 use Rattle.walk_parts.proofs.leads_on.Statement.{statement}
 use Rattle.walk_parts.proofs.leads_on.Tie as tie
 
 -- where x's entry stands
 small : (c : tie.Start) → c .args .x * c .args .part .stride ≤ 1048576
-small c = place-small (c .pre .0) (c .args .x) (c .pre .2)
+small c = place-small (c .pre .0) (c .pre .2)
 
 mul-if1 : tie.Need-mul-if1
 mul-if1 c = omega (arith, small (c .before .before .before))
@@ -27,13 +29,15 @@ cast-if1 c =
     omega (arith, c .shared-slice-known3 .given (args .x * args .part .stride))
 
 returns : tie.Need-returns
-returns c = elsewhere _ _ _ _ _ (c .if1 .taken)
+unfolding leadsOn
+returns c = rw (ne-eqb _ _ (c .if1 .taken), and-false)
 
 contains-requires : tie.Need-contains-requires
 contains-requires c κs = search needs
 
 returns-2 : tie.Need-returns-2
-returns-2 c = c .contains .ensures ∙ nearer _ _ _ _ _ (c .before .if1 .left)
+unfolding leadsOn
+returns-2 c = rw (eq-eqb _ _ (c .before .if1 .left), and-true) (c .contains .ensures)
 
 pub leads-on-spec : {M : Type 1} → statement M
 leads-on-spec =

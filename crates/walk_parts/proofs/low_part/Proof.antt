@@ -3,9 +3,9 @@
 use Prim.Native.Nat.{_≤_}
 use lib.ListN.{length}
 use native.Mathlib.Omega.{arith}
+use borrow.Author.Needs.{needs}
 use Rattle.model.proofs.Entries.{place-inside}
 use Rattle.walk_parts.proofs.PartLaws.{column-inside, low-part}
-use borrow.Author.Needs.{needs}
 use Rattle.walk_parts.proofs.low_part.Statement.{statement}
 use Rattle.walk_parts.proofs.low_part.Tie as tie
 
@@ -41,7 +41,7 @@ write-part-requires : tie.Need-write-part-requires
 write-part-requires c κs =
     let start = c .before .before .before .before .before .before .before .before .before .before .before in
     let pre = start .pre in
-    ((pre .0, column-inside _ (pre .0 .size) (start .args .low .now) (pre .1) _ (pre .3), search needs), (pre .2, pre .4))
+    ((pre .0, column-inside (pre .0 .size) (start .args .low .now) (pre .1) (pre .3), search needs), (pre .2, pre .4))
 
 same-length : tie.Need-same-length
 same-length c = search needs
@@ -52,7 +52,8 @@ returns c =
     let low-nodes = call .before .before .before .before .before in
     let threshold = low-nodes .before .before in
     let pre = threshold .before .before .before .before .before .pre in
-    low-part _ _ (pre .0 .lists .graph) _ _ _ _ _ (pre .2) (threshold .threshold-at .ensures) (low-nodes .low-nodes .ensures) (call .write-part .ensures)
+    low-part (pre .0 .lists .graph) _ _ (pre .2) (threshold .threshold-at .ensures) (low-nodes .low-nodes .ensures)
+    (call .write-part .ensures)
 
 pub low-part-spec : {M : Type 1} → statement M
 low-part-spec =

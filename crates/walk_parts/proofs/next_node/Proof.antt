@@ -4,10 +4,10 @@ use mathlib.Core.Path.{refl, sym, _∙_}
 use Prim.Native.Nat.{_-_}
 use native.Mathlib.Omega.{arith}
 use lib.ListN.{length}
-use Rattle.base_nodeset.specs.NodeSet.{member}
 use Rattle.model.specs.Basics.{none}
 use Rattle.model.proofs.Ascending.{getD-has}
 use Rattle.model.proofs.Loops.{Searched, searched-found, searched-more, searched-all}
+use Rattle.base_nodeset.specs.NodeSet.{member}
 use Rattle.walk_parts.specs.Parts.{leadsOn}
 use Rattle.walk_parts.proofs.next_node.Statement.{statement}
 use Rattle.walk_parts.proofs.next_node.Tie as tie

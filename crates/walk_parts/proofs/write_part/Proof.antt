@@ -12,7 +12,7 @@ use Rattle.walk_parts.proofs.write_part.Tie as tie
 
 -- where v's entry stands
 small : (c : tie.Start) → c .args .v * c .args .part .stride ≤ 1048576
-small c = place-small (c .pre .0 .1) (c .args .v) (c .pre .1 .0)
+small c = place-small (c .pre .0 .1) (c .pre .1 .0)
 
 mul-d : tie.Need-mul-d
 mul-d c = omega (arith, small (c .before .before .before .before .before .before))
@@ -32,8 +32,8 @@ cast-d c =
 
 returns : tie.Need-returns
 returns c =
-    let start = c .before .before .before .before .before .before .before .before .before in
-    part-long _ _ _ _ _ (start .pre .0 .0 .lists .graph) (start .pre .1 .0) (c .if1 .taken) _
+    let pre = c .before .before .before .before .before .before .before .before .before .pre in
+    part-long (pre .0 .1) (pre .0 .0 .lists .graph) _ (pre .1 .0) (c .if1 .taken)
 
 take-steps-requires : tie.Need-take-steps-requires
 take-steps-requires c κs =
@@ -44,7 +44,7 @@ same-length : tie.Need-same-length
 same-length c = search needs
 
 returns-2 : tie.Need-returns-2
-returns-2 c = part-missed _ _ _ _ _ _ _ (sym (not-true _ (c .if2 .taken)) ∙ c .before .before .before .take-steps .ensures .0)
+returns-2 c = part-missed (sym (not-true _ (c .if2 .taken)) ∙ c .before .before .before .take-steps .ensures .0)
 
 add-result : tie.Need-add-result
 add-result c = search needs
@@ -56,8 +56,8 @@ returns-3 : tie.Need-returns-3
 returns-3 c =
     let call = c .before .before .before in
     let judged = call .before .before in
-    let start = judged .before .before .before .before .before .before .before .before .before in
-    part-given _ _ _ _ _ (start .pre .0 .0 .lists .graph) (start .pre .1 .0) (judged .if1 .left) _ _
+    let pre = judged .before .before .before .before .before .before .before .before .before .pre in
+    part-given (pre .0 .1) (pre .0 .0 .lists .graph) _ (pre .1 .0) (judged .if1 .left)
     (sym (not-false _ (c .if2 .left)) ∙ call .take-steps .ensures .0) (call .take-steps .ensures .1)
 
 pub write-part-spec : {M : Type 1} → statement M
