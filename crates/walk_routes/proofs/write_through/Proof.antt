@@ -1,12 +1,43 @@
 -- `walk_routes::write_through` meets its contract.
 -- Assumes nothing.
-use mathlib.Core.Path.{sym}
+use mathlib.Core.Path.{_≡_}
+use mathlib.Core.List.{List}
+use mathlib.Core.Option.{Option}
+use Prim.Native.Nat.{ℕ}
 use native.Mathlib.Omega.{arith}
-use lib.Seq.{length-take-le}
-use Rattle.walk_routes.proofs.FitLaws.{first-missed, second-missed, both-short, both-fit}
 use borrow.Author.Needs.{needs}
+use lib.ListN.{length, replicate, length-take}
+use Rattle.model.specs.Basics.{none}
+use Rattle.model.specs.Survey.{neighboursOf}
+use Rattle.model.specs.Walk.{toHub}
+use Rattle.walk_routes.proofs.FitLaws.{Found, found, first-missing, second-missing, none-refused, both-short, both-fit}
 use Rattle.walk_routes.proofs.write_through.Statement.{statement}
 use Rattle.walk_routes.proofs.write_through.Tie as tie
+
+-- the walk list is all none
+blank : (c : tie.After-hub-part) → (let walk = c .before .before .before .before .before .before .args .walk .now in
+    walk ≡ replicate (length walk) none)
+blank c = c .before .before .before .before .before .before .pre .1
+
+-- the part from v to the hub
+abbrev part : tie.Start → ℕ → Option (List ℕ)
+part start v =
+    let args = start .args in
+    toHub (args .n) (neighboursOf (args .starts .now) (args .neighbours .now)) (args .full .now) (args .h) v
+
+-- the part from a is found
+first : (c : tie.Else1)
+    → (let there = c .before .before in
+    let start = there .before .before .before .before .before .before in
+    Found (part start (start .args .a)) (there .hub-part .result) (there .hub-part .last .1 .1 .1 .1 .1 .1 .0))
+first c = found (c .before .before .hub-part .ensures) (c .if1 .left)
+
+-- and the part from b
+second : (c : tie.Else2)
+    → (let back = c .before .before in
+    let start = back .before .before .before .before .before .before .before .before .before .before in
+    Found (part start (start .args .b)) (back .hub-part2 .result) (back .hub-part2 .last .1 .1 .1 .1 .1 .1 .0))
+second c = found (c .before .before .hub-part2 .ensures) (c .if2 .left)
 
 slice-aggregate-hub-part : tie.Need-slice-aggregate-hub-part
 slice-aggregate-hub-part c = search needs
@@ -16,8 +47,8 @@ hub-part-requires c κs = search needs
 
 returns : tie.Need-returns
 returns c =
-    let start = c .before .before .before .before .before .before .before .before in
-    first-missed _ _ (start .pre .1) _ (c .before .before .hub-part .ensures) (c .if1 .taken)
+    let there = c .before .before in
+    none-refused (blank there) _ (first-missing _ (there .hub-part .ensures .missed (c .if1 .taken)))
 
 slice-aggregate-hub-part-2 : tie.Need-slice-aggregate-hub-part-2
 slice-aggregate-hub-part-2 c = search needs
@@ -27,8 +58,9 @@ hub-part-requires-2 c κs = search needs
 
 returns-2 : tie.Need-returns-2
 returns-2 c =
-    let start = c .before .before .before .before .before .before .before .before .before .before .before .before in
-    second-missed _ _ (start .pre .1) _ (c .before .before .hub-part2 .ensures) (c .if2 .taken)
+    let back = c .before .before in
+    let there = back .before .before .before .before in
+    none-refused (blank there) _ (second-missing _ (back .hub-part2 .ensures .missed (c .if2 .taken)))
 
 add-if3 : tie.Need-add-if3
 add-if3 c = search needs
@@ -38,28 +70,17 @@ sub-if3 c = search needs
 
 returns-3 : tie.Need-returns-3
 returns-3 c =
-    let start = c .before .before .before .before .before .before .before .before .before .before .before .before .before in
-    let at-hub-part = c .before .before .before .before .before .before .before in
-    both-short _ _ (start .pre .1) _ _ (at-hub-part .hub-part .ensures)
-    (c .before .before .before .hub-part2 .ensures) (c .before .before .before .before .before .if1 .left) (c .before .if2 .left)
-    (c .if3 .taken)
+    let found-there = c .before .before .before .before .before in
+    both-short (blank (found-there .before .before)) _ (first found-there) (second (c .before)) (c .if3 .taken)
 
 array-share-prefix-there : tie.Need-array-share-prefix-there
 array-share-prefix-there c = search needs
 
 slice-aggregate-copy16-reversed : tie.Need-slice-aggregate-copy16-reversed
-slice-aggregate-copy16-reversed c =
-    sym (length-take-le _ _
-    (omega arith))
+slice-aggregate-copy16-reversed c = simp length-take (omega arith)
 
 copy16-reversed-requires : tie.Need-copy16-reversed-requires
-copy16-reversed-requires c κs =
-    let at-hub-part = c .before .before .before .before .before .before .before .before .before in
-    omega (
-      arith,
-      (length-take-le (at-hub-part .hub-part .result) (at-hub-part .hub-part .last .1 .1 .1 .1 .1 .1 .0)
-          (omega arith)),
-    )
+copy16-reversed-requires c κs = simp length-take (omega arith)
 
 sub-copy16 : tie.Need-sub-copy16
 sub-copy16 c = search needs
@@ -78,16 +99,11 @@ same-length c = search needs
 
 returns-4 : tie.Need-returns-4
 returns-4 c =
-    let start = c .before .before .before .before .before .before .before .before .before .before .before .before .before .before .before .before .before .before .before .before .before .before .before .before in
-    let at-hub-part = c .before .before .before .before .before .before .before .before .before .before .before .before .before .before .before .before .before .before in
-    let at-if1 = c .before .before .before .before .before .before .before .before .before .before .before .before .before .before .before .before in
-    let at-hub-part2 = c .before .before .before .before .before .before .before .before .before .before .before .before .before .before in
-    let at-if2 = c .before .before .before .before .before .before .before .before .before .before .before .before in
-    let at-if3 = c .before .before .before .before .before .before .before .before .before .before .before in
-    let at-copy16-reversed = c .before .before .before .before .before .before .before .before in
-    both-fit _ _ (start .pre .1) _ _ (at-hub-part .hub-part .ensures)
-    (at-hub-part2 .hub-part2 .ensures) (at-if1 .if1 .left) (at-if2 .if2 .left) (at-if3 .if3 .left)
-    (at-copy16-reversed .copy16-reversed .ensures) (c .before .before .copy16 .ensures)
+    let copied = c .before .before .before .before .before .before .before .before in
+    let room = copied .before .before .before in
+    let found-there = room .before .before .before .before .before in
+    both-fit (blank (found-there .before .before)) _ (first found-there) (second (room .before)) (room .if3 .left)
+    (copied .copy16-reversed .ensures) (c .before .before .copy16 .ensures)
 
 pub write-through-spec : {M : Type 1} → statement M
 write-through-spec =
