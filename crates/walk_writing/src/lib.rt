@@ -31,7 +31,8 @@ fn write_route(
     requires { ⌜ Ready n (now starts) (now neighbours) (now full) (now low) a b answer ⌝ }
     requires { ⌜ now walk ≡ replicate (length (now walk)) none ⌝ }
     ensures { λ r. ⌜ walkReturned r (now (walk .exit)) ≡ fit (length (now (walk .entry))) answer
-        (walkNodes n (threshold n) (neighboursOf (now (starts .entry)) (now (neighbours .entry))) (now (full .entry)) (now (low .entry)) a b (answer .route)) ⌝ }
+        (walkNodes n (threshold n) (neighboursOf (now (starts .entry)) (now (neighbours .entry)))
+        (now (full .entry)) (now (low .entry)) a b (answer .route)) ⌝ }
 {
     let route = answer.route;
     match route {
@@ -50,7 +51,7 @@ fn write_route(
     }
 }
 
-// The answer of which a walk is wanted, or the refusal that comes before any step.
+// Answers the pair, or refuses where a test that comes before the walk's first step fails.
 fn judge(
     n: usize,
     starts: &[u32],
@@ -61,9 +62,12 @@ fn judge(
     a: usize,
     b: usize,
 ) -> Asking
-    ensures { λ r. ⌜ ((w : ℕ) → walking n (now (starts .entry)) (now (neighbours .entry)) (now (full .entry)) (now (low .entry)) (now (report .entry)) a b w
-        ≡ walkOf w n (threshold n) (neighboursOf (now (starts .entry)) (now (neighbours .entry))) (now (full .entry)) (now (low .entry)) a b (pairAnswer r)) ⌝ }
-    ensures { λ r. ⌜ ((x : Answer) → pairAnswer r ≡ answered x → Ready n (now (starts .entry)) (now (neighbours .entry)) (now (full .entry)) (now (low .entry)) a b x) ⌝ }
+    ensures { λ r. ⌜ ((w : ℕ)
+        → walking n (now (starts .entry)) (now (neighbours .entry)) (now (full .entry)) (now (low .entry)) (now (report .entry)) a b w
+        ≡ walkOf w n (threshold n) (neighboursOf (now (starts .entry)) (now (neighbours .entry)))
+        (now (full .entry)) (now (low .entry)) a b (pairAnswer r)) ⌝ }
+    ensures { λ r. ⌜ ((x : Answer) → pairAnswer r ≡ answered x
+        → Ready n (now (starts .entry)) (now (neighbours .entry)) (now (full .entry)) (now (low .entry)) a b x) ⌝ }
 {
     if n < 1 {
         return Asking::Refused(Refusal::NodeCount);
@@ -103,10 +107,12 @@ pub fn write_walk(
     walk: &mut [u16],
 ) -> Asking
     ensures { λ r. ⌜ walkReturned r (now (walk .exit))
-        ≡ walking n (now (starts .entry)) (now (neighbours .entry)) (now (full .entry)) (now (low .entry)) (now (report .entry)) a b (length (now (walk .entry))) ⌝ }
-    ensures { λ r. ⌜ WalkSound (linked n (neighboursOf (now (starts .entry)) (now (neighbours .entry)))) a b (walkReturned r (now (walk .exit))) ⌝ }
-    ensures { λ r. ⌜ WalkRight n (threshold n) (now (starts .entry)) (now (neighbours .entry)) (now (full .entry)) (now (low .entry)) (now (report .entry)) a b
-        (length (now (walk .entry))) (walkReturned r (now (walk .exit))) ⌝ }
+        ≡ walking n (now (starts .entry)) (now (neighbours .entry)) (now (full .entry)) (now (low .entry)) (now (report .entry)) a b
+        (length (now (walk .entry))) ⌝ }
+    ensures { λ r. ⌜ WalkSound (linked n (neighboursOf (now (starts .entry)) (now (neighbours .entry)))) a b
+        (walkReturned r (now (walk .exit))) ⌝ }
+    ensures { λ r. ⌜ WalkRight n (threshold n) (now (starts .entry)) (now (neighbours .entry)) (now (full .entry)) (now (low .entry))
+        (now (report .entry)) a b (length (now (walk .entry))) (walkReturned r (now (walk .exit))) ⌝ }
 {
     base_lists::fill16(walk, model::NONE);
     match judge(n, starts, neighbours, full, low, report, a, b) {

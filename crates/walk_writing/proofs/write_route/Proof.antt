@@ -1,10 +1,13 @@
 -- `walk_writing::write_route` meets its contract, route by route.
 -- Assumes nothing.
+use mathlib.Core.Path.{refl, _∙_}
+use mathlib.Core.List.{[], _∷_}
 use native.Mathlib.Omega.{arith}
-use Rattle.model.specs.Survey.{neighboursOf}
-use Rattle.model.specs.Threshold.{threshold}
-use Rattle.walk_writing.proofs.RouteLaws.{itself-short, itself-fits, none-given, low-given, through-given}
 use borrow.Author.Needs.{needs}
+use lib.Seq.{set-split}
+use Rattle.model.specs.Basics.{over}
+use Rattle.model.specs.Walk.{walkNodes}
+use Rattle.walk_routes.proofs.FitLaws.{short-refused, fits-given}
 use Rattle.walk_writing.proofs.write_route.Statement.{statement}
 use Rattle.walk_writing.proofs.write_route.Tie as tie
 
@@ -12,11 +15,11 @@ enum-told : tie.Need-enum-told
 enum-told c = search needs
 
 returns : tie.Need-returns
+unfolding walkNodes
 returns c =
-    let start = c .before .before .before .before .before .before .before .before in
-    itself-short _ (threshold _) (neighboursOf _ _)
-    _ _ _ _ _ _
-    (start .pre .1) (c .before .enum-told .given .1) (c .if1 .taken)
+    let itself = c .before in
+    let start = itself .before .before .before .before .before .before .before in
+    rw (itself .enum-told .given .1) (short-refused (start .pre .1) _ (_ ∷ []) (c .if1 .taken))
 
 cast-walk : tie.Need-cast-walk
 cast-walk c = search needs
@@ -38,18 +41,10 @@ cast-write-through c = search needs
 
 write-through-requires : tie.Need-write-through-requires
 write-through-requires c κs =
-    let start = c .before .before .before .before .before .before .before .before .before in
-    let at-route = c .before .before in (
-      (
-        (start .pre .0 .survey),
-        (start .pre .0 .in-full),
-        (start .pre .0 .first),
-        (start .pre .0 .last),
-        (start .pre .0 .hub)
-            _ (at-route .route .given .1),
-      ),
-      (start .pre .1),
-    )
+    let told = c .before .before in
+    let pre = told .before .before .before .before .before .before .before .pre in
+    let ready = pre .0 in
+    ((ready .survey, ready .in-full, ready .first, ready .last, ready .hub _ (told .route .given .1)), pre .1)
 
 enum-told-3 : tie.Need-enum-told-3
 enum-told-3 c = search needs
@@ -58,39 +53,36 @@ same-length : tie.Need-same-length
 same-length c = search needs
 
 returns-2 : tie.Need-returns-2
+unfolding walkNodes over
 returns-2 c =
-    let start = c .before .before .before .before .before .before .before .before in
-    itself-fits _ (threshold _) (neighboursOf _ _)
-    _ _ _ _ _ _
-    (start .pre .1) (c .before .enum-told .given .1) (c .if1 .left)
+    let itself = c .before in
+    let start = itself .before .before .before .before .before .before .before in
+    let front = set-split (start .args .walk .now) 0 _ (c .if1 .left) in
+    rw (itself .enum-told .given .1) (fits-given (start .pre .1) _ (_ ∷ []) (c .if1 .left) front)
 
 same-length-2 : tie.Need-same-length-2
 same-length-2 c = search needs
 
 returns-3 : tie.Need-returns-3
+unfolding walkNodes
 returns-3 c =
-    let start = c .before .before .before .before .before .before .before .before .before .before .before in
-    low-given _ (threshold _) (neighboursOf _ _)
-    _ _ _ _ _ (start .args .walk .now)
-    (c .before .before .before .before .enum-told2 .given .1) (c .before .before .write-low .ensures)
+    let call = c .before .before in
+    call .write-low .ensures ∙ rw (call .before .before .enum-told2 .given .1)
 
 same-length-3 : tie.Need-same-length-3
 same-length-3 c = search needs
 
 returns-4 : tie.Need-returns-4
+unfolding walkNodes
 returns-4 c =
-    let start = c .before .before .before .before .before .before .before .before .before .before .before .before in
-    let at-route = c .before .before .before .before .before in
-    through-given _ (threshold _) (neighboursOf _ _)
-    _ _ _ _ _ (start .args .walk .now)
-    _ (at-route .route .given .1) (c .before .before .write-through .ensures)
+    let call = c .before .before in
+    call .write-through .ensures ∙ rw (call .before .before .before .route .given .1)
 
 returns-5 : tie.Need-returns-5
+unfolding walkNodes over
 returns-5 c =
     let start = c .before .before .before .before .before .before .before in
-    none-given _ (threshold _) (neighboursOf _ _)
-    _ _ _ _ _ _
-    (start .pre .1) (c .enum-told3 .given .1)
+    rw (c .enum-told3 .given .1) (fits-given (start .pre .1) _ [] (omega arith) refl)
 
 pub write-route-spec : {M : Type 1} → statement M
 write-route-spec =

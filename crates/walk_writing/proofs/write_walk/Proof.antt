@@ -1,13 +1,13 @@
 -- `walk_writing::write_walk` meets its contract: the list becomes all none, then the answer that was judged says what is written.
 -- Assumes nothing.
-use native.Mathlib.Omega.{arith}
-use mathlib.Core.Path.{ap}
-use lib.ListN.{length}
-use Rattle.base_lists.proofs.Filling.{filled-own}
+use mathlib.Core.Path.{ap, _∙_}
+use borrow.Author.Needs.{needs}
+use lib.ListN.{length, length-replicate}
 use Rattle.model.specs.Answers.{pairAnswer}
 use Rattle.model.specs.Basics.{none}
-use Rattle.walk_writing.proofs.RouteLaws.{refused-written, route-written}
-use borrow.Author.Needs.{needs}
+use Rattle.model.specs.Walking.{refuseWalk, walkOf}
+use Rattle.base_lists.proofs.Filling.{filled-own}
+use Rattle.walk_writing.proofs.RouteLaws.{written}
 use Rattle.walk_writing.proofs.write_walk.Statement.{statement}
 use Rattle.walk_writing.proofs.write_walk.Tie as tie
 
@@ -25,38 +25,38 @@ enum-known-x c = search needs
 
 write-route-requires : tie.Need-write-route-requires
 write-route-requires c κs =
-    let start = c .before .before .before .before .before .before .before .before .before .before .before .before .before .before .before in
-    let at-fill16 = c .before .before .before .before .before .before .before in
-    let at-x = c .before .before in (
-      (c .before .before .before .before .judge .ensures .1) _ (ap pairAnswer (at-x .x .given .1)),
-      filled-own none
-          (length (start .args .walk .now)) (at-fill16 .fill16 .ensures),
+    let answered = c .before .before in
+    let judged = answered .before .before in
+    let filled = judged .before .before .before in
+    let start = filled .before .before .before .before .before .before .before .before in (
+      judged .judge .ensures .1 _ (ap pairAnswer (answered .x .given .1)),
+      filled-own none (length (start .args .walk .now)) (filled .fill16 .ensures),
     )
 
 same-length : tie.Need-same-length
 same-length c = search needs
 
 returns : tie.Need-returns
+unfolding walkOf refuseWalk
 returns c =
-    let start = c .before .before .before .before .before .before .before .before .before .before .before .before .before .before in
-    let at-fill16 = c .before .before .before .before .before .before in
-    refused-written _ _ _ _
-    _ _ _ _ (length (start .args .walk .now))
-    (c .before .before .before .judge .ensures .0) (ap pairAnswer (c .before .k .given .1)) (at-fill16 .fill16 .ensures)
+    let judged = c .before .before .before in
+    let filled = judged .before .before .before in
+    written (rw (judged .judge .ensures .0 _, c .before .k .given .1, filled .fill16 .ensures))
 
 same-length-2 : tie.Need-same-length-2
 same-length-2 c = search needs
 
 returns-2 : tie.Need-returns-2
+unfolding walkOf
 returns-2 c =
-    let start = c .before .before .before .before .before .before .before .before .before .before .before .before .before .before .before .before .before .before in
-    let at-fill16 = c .before .before .before .before .before .before .before .before .before .before in
-    let at-judge = c .before .before .before .before .before .before .before in
-    let at-x = c .before .before .before .before .before in
-    route-written _ _ _ _
-    _ _ _ _ (length (start .args .walk .now))
-    (at-judge .judge .ensures .0) _ (ap pairAnswer (at-x .x .given .1)) (at-fill16 .fill16 .ensures)
-    (c .before .before .write-route .ensures)
+    let call = c .before .before in
+    let answered = call .before .before .before in
+    let judged = answered .before .before in
+    let filled = judged .before .before .before in
+    written (
+    call .write-route .ensures
+    ∙ rw (judged .judge .ensures .0 _, answered .x .given .1, filled .fill16 .ensures, length-replicate)
+    )
 
 pub write-walk-spec : {M : Type 1} → statement M
 write-walk-spec =
