@@ -21,7 +21,7 @@ use Rattle.search_depths.proofs.Depths.{greatest-bounded, fewest-small}
 use Rattle.answer_two_or_four.specs.DepthVerdict.{ofDepth}
 
 -- some number is greater than k exactly where the greatest is
-pub greatest-any : (k : ℕ) (l : List ℕ) → any (λ x. ltb k x) l ≡ ltb k (greatest l)
+greatest-any : (k : ℕ) (l : List ℕ) → any (λ x. ltb k x) l ≡ ltb k (greatest l)
 unfolding greatest any
 greatest-any k [] = sym (le-ltb k 0 (omega arith))
 greatest-any k (x ∷ l) = ap (λ (b : Bool). ltb k x || b) (greatest-any k l) ∙ at (lt-or k x) (lt-or k (greatest l))
@@ -61,9 +61,10 @@ module _ (n : ℕ) (f : ℕ → ℕ → ℕ) where
 
   module _ (bounded : (h v : ℕ) → f h v ≤ none) where
     -- what the tests of all distances say, the greatest says
-    pub depth-verdict : (hs : List ℕ)
+    depth-verdict : (hs : List ℕ)
         → ofDepth (greatest (rowsOf n f hs))
-        ≡ (if any (λ h. any (λ v. eqb (f h v) none) (upTo n)) hs then Parted else if any (λ h. any (λ v. ltb 2 (f h v)) (upTo n)) hs then Long else Short)
+        ≡ (if any (λ h. any (λ v. eqb (f h v) none) (upTo n)) hs then Parted
+        else if any (λ h. any (λ v. ltb 2 (f h v)) (upTo n)) hs then Long else Short)
     unfolding ofDepth
     depth-verdict hs =
         let d = greatest (rowsOf n f hs) in
@@ -74,8 +75,9 @@ module _ (n : ℕ) (f : ℕ → ℕ → ℕ) where
         ∙ any-same _ _ hs (λ h. any-same _ _ (upTo n) (λ v. sym (is-none (f h v) (bounded h v)))) in
         let deep-is : ltb 2 d ≡ any (λ h. any (λ v. ltb 2 (f h v)) (upTo n)) hs =
         sym (greatest-any 2 (rowsOf n f hs)) ∙ sym (any-distance (λ x. ltb 2 x) hs) in
-        ap₂ (λ (a b : Bool). if a then Parted else if b then Long else Short) none-is deep-is
+        rw (none-is, deep-is)
 
-pub verdict-is : (n : ℕ) (G : Graph) → n ≤ 1024 → (hs : List ℕ) → ofDepth (greatest (rowsOf n (fewest (linked n G) n) hs)) ≡ verdictOf n G hs
+pub verdict-is : (n : ℕ) (G : Graph) → n ≤ 1024 → (hs : List ℕ)
+    → ofDepth (greatest (rowsOf n (fewest (linked n G) n) hs)) ≡ verdictOf n G hs
 unfolding verdictOf
 verdict-is n G size hs = depth-verdict n (fewest (linked n G) n) (λ h v. fewest-small (linked n G) n h v (omega arith)) hs

@@ -1,19 +1,34 @@
 -- `answer_two_or_four::find_sources` meets its contract: the smallest low node and its neighbours, or the hubs.
 -- Assumes nothing.
-use mathlib.Core.Path.{sym, ap, _∙_}
-use mathlib.Core.List.{List, _∷_}
-use Prim.Native.Nat.{ℕ, _*_}
+use mathlib.Core.Path.{ap, _∙_}
+use Prim.Native.Nat.{_+_, _≤_}
 use native.Mathlib.Omega.{arith}
-use lib.ListN.{length, length-set, length-replicate}
+use borrow.Author.Needs.{needs}
+use lib.ListN.{length, length-set}
 use Rattle.model.specs.Survey.{neighboursOf}
+use Rattle.model.specs.Hubs.{hubs}
 use Rattle.model.proofs.Acceptance.{few-neighbours}
 use Rattle.table_hubs.proofs.Greedy.{hubs-front}
-use Rattle.base_nodeset.specs.NodeSet.{member}
-use Rattle.survey_neighbours.proofs.RowLaws.{rows-of}
-use Rattle.answer_two_or_four.proofs.Sources.{sources-hubs, sources-low, two-written}
-use borrow.Author.Needs.{needs}
+use Rattle.answer_two_or_four.proofs.Sources.{Smallest, smallest-low, sources-hubs, sources-low, two-written}
 use Rattle.answer_two_or_four.proofs.find_sources.Statement.{statement}
 use Rattle.answer_two_or_four.proofs.find_sources.Tie as tie
+
+-- the smallest low node
+smallest : (c : tie.After-smallest)
+    → (let args = c .before .before .before .before .before .before .before .before .args in
+    Smallest (args .n) (args .s) (neighboursOf (args .starts .now) (args .neighbours .now)) (c .smallest .result))
+smallest c =
+    let low-nodes = c .before .before .before in
+    let start = low-nodes .before .before .before .before .before in
+    smallest-low _ _ (start .pre .0 .size) (low-nodes .low-nodes .ensures) (c .smallest .ensures) (omega arith)
+
+-- there is room for it and its neighbours in the list
+room : (c : tie.After-own)
+    → (let start = c .before .before .before .before .before .before .before .before .before .before in
+    1 + length (c .own .result .now) ≤ length (start .args .list .now))
+room c =
+    let start = c .before .before .before .before .before .before .before .before .before .before in
+    omega (arith, ap length (c .own .ensures), few-neighbours _ _ _ (start .pre .0) _ (c .before .if1 .left))
 
 slice-aggregate-low-nodes : tie.Need-slice-aggregate-low-nodes
 slice-aggregate-low-nodes c = search needs
@@ -35,26 +50,10 @@ same-length c = search needs
 
 returns : tie.Need-returns
 returns c =
-    let start = c .before .before .before .before .before .before .before .before .before .before .before .before .before in
-    let at-low-nodes = c .before .before .before .before .before .before .before .before in
-    let at-smallest = c .before .before .before .before .before in
-    let at-if1 = c .before .before .before .before in
-    let at-choose-hubs = c .before .before in (
-      (at-choose-hubs .choose-hubs .ensures .0) ∙ ap length
-          (sym (sources-hubs _ _ (neighboursOf _ _)
-          (start .pre .0 .size) (member _) (at-low-nodes .low-nodes .ensures)
-          (64 * length (at-low-nodes .low-nodes .last .1 .1 .1 .1 .0)) _
-          (omega arith)
-          (at-smallest .smallest .ensures) (at-if1 .if1 .taken))),
-      hubs-front _ _
-          (neighboursOf _ _) _ _ _
-          (at-choose-hubs .choose-hubs .ensures .0) (at-choose-hubs .choose-hubs .ensures .1) ∙ sym
-          (sources-hubs _ _ (neighboursOf _ _)
-          (start .pre .0 .size) (member _) (at-low-nodes .low-nodes .ensures)
-          (64 * length (at-low-nodes .low-nodes .last .1 .1 .1 .1 .0)) _
-          (omega arith)
-          (at-smallest .smallest .ensures) (at-if1 .if1 .taken)),
-    )
+    let call = c .before .before in
+    let no-low = call .before .before in
+    let hubs = call .choose-hubs .ensures in
+    rw (sources-hubs (smallest (no-low .before)) (no-low .if1 .taken)) (hubs .0, hubs-front _ _ _ _ _ _ (hubs .0) (hubs .1))
 
 cast-list : tie.Need-cast-list
 cast-list c = search needs
@@ -66,56 +65,22 @@ own-requires : tie.Need-own-requires
 own-requires c κs = search needs
 
 copy16-requires : tie.Need-copy16-requires
-copy16-requires c κs =
-    let start = c .before .before .before .before .before .before .before .before .before .before .before in
-    let at-smallest = c .before .before .before in
-    omega (
-      arith,
-      ap length (c .before .own .ensures),
-      few-neighbours _ _
-          _ (start .pre .0) _ (c .before .before .if1 .left),
-      length-set (start .args .list .now) 0 (at-smallest .smallest .result),
-    )
+copy16-requires c κs = simp length-set (omega (arith, room (c .before)))
 
 add-result : tie.Need-add-result
 add-result c = search needs
 
 same-length-2 : tie.Need-same-length-2
-same-length-2 c =
-    let start = c .before .before .before .before .before .before .before .before .before .before .before .before .before .before in
-    (c .before .before .copy16 .kept .1 .0) ∙ length-set (start .args .list .now) 0 _
+same-length-2 c = c .before .before .copy16 .kept .1 .0 ∙ simp length-set
 
 returns-2 : tie.Need-returns-2
 returns-2 c =
-    let start = c .before .before .before .before .before .before .before .before .before .before .before .before .before .before in
-    let at-low-nodes = c .before .before .before .before .before .before .before .before .before in
-    let at-smallest = c .before .before .before .before .before .before in
-    let at-if1 = c .before .before .before .before .before in
-    let at-own = c .before .before .before .before in (
-      omega (
-        arith,
-        ap length (at-own .own .ensures),
-        ap length
-            (sources-low _ _ (neighboursOf _ _)
-            (start .pre .0 .size) (member _) (at-low-nodes .low-nodes .ensures)
-            (64 * length (at-low-nodes .low-nodes .last .1 .1 .1 .1 .0)) _
-            (omega arith)
-            (at-smallest .smallest .ensures) (at-if1 .if1 .left)),
-      ),
-      two-written (start .args .list .now) _ _ _ _
-          (omega (
-            arith,
-            ap length (at-own .own .ensures),
-            few-neighbours _ _
-                _ (start .pre .0) _ (at-if1 .if1 .left),
-          ))
-          (c .before .before .copy16 .ensures) ∙ ap (λ (l : List ℕ). (at-smallest .smallest .result) ∷ l) (at-own .own .ensures) ∙ sym
-          (sources-low _ _ (neighboursOf _ _)
-          (start .pre .0 .size) (member _) (at-low-nodes .low-nodes .ensures)
-          (64 * length (at-low-nodes .low-nodes .last .1 .1 .1 .1 .0)) _
-          (omega arith)
-          (at-smallest .smallest .ensures) (at-if1 .if1 .left)),
-    )
+    let call = c .before .before in
+    let own = call .before .before in
+    let low = own .before in
+    let start = low .before .before .before .before .before .before .before .before .before in
+    rw (sources-low (smallest (low .before)) (low .if1 .left), ← own .own .ensures)
+    (omega arith, two-written (start .args .list .now) _ (room own) (call .copy16 .ensures))
 
 pub find-sources-spec : {M : Type 1} → statement M
 find-sources-spec =
