@@ -1,6 +1,6 @@
--- Laws of visiting: each way it can go, what it keeps, and a list's nodes in turn.
+-- Laws of visiting: one node, the set of unvisited nodes, and a list's nodes in turn.
 -- Assumes nothing.
-use mathlib.Core.Path.{_≡_, refl, sym, ap, ap₂, _∙_, subst}
+use mathlib.Core.Path.{_≡_, refl, sym, ap, _∙_}
 use mathlib.Core.Logic.{⊎-elim}
 use mathlib.Core.Bool.{Bool, true, false, not, _&&_, _||_, and-false, and-true}
 use mathlib.Core.List.{List, [], _∷_}
@@ -16,12 +16,13 @@ use Rattle.model.proofs.Tests.{picked, and-l, true-T, eq-or}
 use Rattle.model.proofs.Ascending.{getD-has}
 use Rattle.model.proofs.Loops.{drop-next}
 use Rattle.base_nodeset.specs.NodeSet.{inserted, difference}
-use Rattle.search_queue.specs.Visiting.{unreached, Progress, joined, visited, visitedAll, Unvisited}
+use Rattle.search_queue.specs.Visiting.{unreached, Progress, progress, joined, visited, visitedAll, Unvisited}
 
 -- ---- nodes without a distance
 
--- one that gets a distance is one fewer
-pub unreached-set : (l : List ℕ) (i d : ℕ) → i < length l → getD l i 0 ≡ none → (d ≡ none → ⊥) → suc (unreached (set l i d)) ≡ unreached l
+-- a node that gets a distance leaves one fewer without
+pub unreached-set : (l : List ℕ) (i d : ℕ) → i < length l → getD l i 0 ≡ none → (d ≡ none → ⊥)
+    → suc (unreached (set l i d)) ≡ unreached l
 unfolding unreached keep
 unreached-set [] i d h e f = absurd (not-suc-le-zero h)
 unreached-set (x ∷ xs) zero d h e f = rw (eq-eqb x none e, ne-eqb d none f)
@@ -33,6 +34,9 @@ unreached-set (x ∷ xs) (suc i) d h e f = at (eqb x none) (unreached-set xs i d
     at true r = ap suc r
     at false r = r
 
+pub some-unreached : (l : List ℕ) (i : ℕ) → i < length l → getD l i 0 ≡ none → 0 < unreached l
+some-unreached l i h e = omega (arith, unreached-set l i 0 h e (λ z. omega arith))
+
 pub unreached-all : (n : ℕ) → unreached (replicate n none) ≡ n
 unfolding unreached keep
 unreached-all zero = refl
@@ -40,73 +44,82 @@ unreached-all (suc n) = ap suc (unreached-all n)
 
 -- ---- one node
 
-module _ (allowed : ℕ → Bool) (d w : ℕ) (p : Progress) where
-  pub visited-new : (eqb (getD (p .row) w 0) none && allowed w) ≡ true → visited allowed d w p ≡ joined d w p
-  unfolding visited
-  visited-new e = rw e refl
+-- a node that joins the queue has no distance
+has-none : (x : ℕ) (b : Bool) → (eqb x none && b) ≡ true → x ≡ none
+has-none x b e = eqb→eq x none (and-l (eqb x none) b (true-T (eqb x none && b) e))
 
-  pub visited-not : (eqb (getD (p .row) w 0) none && allowed w) ≡ false → visited allowed d w p ≡ p
+module _ (allowed : ℕ → Bool) (d w : ℕ) (p : Progress) where
+  -- what holds both where the node joins the queue and where nothing changes
+  visited-both : (P : Progress → Type 0) → (getD (p .row) w 0 ≡ none → P (joined d w p)) → P p → P (visited allowed d w p)
   unfolding visited
-  visited-not e = rw e refl
+  visited-both P new old =
+      picked P (eqb (getD (p .row) w 0) none && allowed w) (joined d w p) p
+      (λ e. new (has-none (getD (p .row) w 0) (allowed w) e)) (λ e. old)
 
   visited-length : length (visited allowed d w p .row) ≡ length (p .row)
-  unfolding visited
-  visited-length =
-      picked (λ (q : Progress). length (q .row) ≡ length (p .row)) (eqb (getD (p .row) w 0) none && allowed w) (joined d w p) p
-      (λ e. length-set (p .row) w d) (λ e. refl)
+  visited-length = visited-both (λ (q : Progress). length (q .row) ≡ length (p .row)) (λ e. length-set (p .row) w d) refl
 
-  -- a place in the queue for each node that has a distance
-  visited-count : w < length (p .row) → (d ≡ none → ⊥) → visited allowed d w p .tail + unreached (visited allowed d w p .row) ≡ p .tail + unreached (p .row)
-  unfolding visited
+  -- the queue has a place for each node that has a distance
+  visited-count : w < length (p .row) → (d ≡ none → ⊥)
+      → visited allowed d w p .tail + unreached (visited allowed d w p .row) ≡ p .tail + unreached (p .row)
   visited-count h f =
-      let t = eqb (getD (p .row) w 0) none in
-      picked (λ (q : Progress). q .tail + unreached (q .row) ≡ p .tail + unreached (p .row)) (t && allowed w) (joined d w p) p
-      (λ e. omega (arith, unreached-set (p .row) w d h (eqb→eq (getD (p .row) w 0) none (and-l t (allowed w) (true-T (t && allowed w) e))) f))
-      (λ e. refl)
+      visited-both (λ (q : Progress). q .tail + unreached (q .row) ≡ p .tail + unreached (p .row))
+      (λ e. omega (arith, unreached-set (p .row) w d h e f)) refl
 
   visited-longer : p .tail ≤ visited allowed d w p .tail
-  unfolding visited
-  visited-longer =
-      picked (λ (q : Progress). p .tail ≤ q .tail) (eqb (getD (p .row) w 0) none && allowed w) (joined d w p) p (λ e. omega arith) (λ e. le-refl (p .tail))
+  visited-longer = visited-both (λ (q : Progress). p .tail ≤ q .tail) (λ e. omega arith) (le-refl (p .tail))
 
 -- the queue never gets shorter
-pub longer : (allowed : ℕ → Bool) (d : ℕ) (ws : List ℕ) (p q : Progress) → q ≡ visitedAll allowed d ws p → p .tail ≤ q .tail
+pub longer : (allowed : ℕ → Bool) (d : ℕ) (ws : List ℕ) (p : Progress) {q : Progress} → q ≡ visitedAll allowed d ws p → p .tail ≤ q .tail
 unfolding visitedAll
-longer allowed d ws p q e = rw e (all ws p)
+longer allowed d ws p e = rw e (all ws p)
   where
     all : (ws : List ℕ) (p : Progress) → p .tail ≤ visitedAll allowed d ws p .tail
     all [] p = le-refl (p .tail)
     all (w ∷ ws) p = le-trans (visited-longer allowed d w p) (all ws (visited allowed d w p))
 
--- ---- the unvisited nodes: once one has a distance it is unvisited no more
+-- ---- a node and the set of unvisited nodes
 
 module _ (allowed unvisited : ℕ → Bool) (row : List ℕ) (o : Unvisited allowed unvisited row) (w : ℕ) (h : w < length row) where
-  -- an unvisited node has no distance
-  pub unvisited-new : unvisited w ≡ true → getD row w 0 ≡ none
-  unvisited-new e = eqb→eq (getD row w 0) none (and-l (eqb (getD row w 0) none) (allowed w) (true-T (eqb (getD row w 0) none && allowed w) (sym (o w h) ∙ e)))
+  -- a node that is not in the set changes nothing, another one joins the queue
+  pub visit-not : (d : ℕ) {queue : List ℕ} {tail : ℕ} → unvisited w ≡ false
+      → progress row queue tail ≡ visited allowed d w (progress row queue tail)
+  unfolding visited
+  visit-not d e = sym (rw (sym (o w h) ∙ e) refl)
 
-  pub unvisited-joined : (d : ℕ) → d < none → (after : ℕ → Bool) → after ≡ difference unvisited (λ x. eqb x w) → Unvisited allowed after (set row w d)
+  pub visit-new : (d : ℕ) (queue : List ℕ) (tail : ℕ) → unvisited w ≡ true
+      → joined d w (progress row queue tail) ≡ visited allowed d w (progress row queue tail)
+  unfolding visited
+  visit-new d queue tail e = sym (rw (sym (o w h) ∙ e) refl)
+
+  -- the queue has room for it
+  pub visit-room : unvisited w ≡ true → 0 < unreached row
+  visit-room e = some-unreached row w h (has-none (getD row w 0) (allowed w) (sym (o w h) ∙ e))
+
+  -- with a distance it is no longer unvisited
+  pub unvisited-joined : (d : ℕ) → d < none → {after : ℕ → Bool} → after ≡ difference unvisited (λ x. eqb x w)
+      → Unvisited allowed after (set row w d)
   unfolding difference
-  unvisited-joined d l after e x k = ap (λ (f : ℕ → Bool). f x) e ∙ ⊎-elim same other (eq-or x w)
+  unvisited-joined d l e x k = ap (λ (f : ℕ → Bool). f x) e ∙ ⊎-elim same other (eq-or x w)
     where
       same : x ≡ w → (unvisited x && not (eqb x w)) ≡ (eqb (getD (set row w d) x 0) none && allowed x)
       same q =
-          rw (eq-eqb x w q) (and-false (unvisited x))
-          ∙ sym (ap (λ (b : Bool). b && allowed x) (ne-eqb (getD (set row w d) x 0) none (λ z. omega (arith, ap (λ (y : ℕ). getD (set row w d) y 0) q ∙ getD-set-same row w d 0 h))))
+          let now : getD (set row w d) x 0 ≡ d = rw q (getD-set-same row w d 0 h) in
+          rw (eq-eqb x w q, and-false, ne-eqb (getD (set row w d) x 0) none (λ z. omega arith)) refl
 
       other : (x ≡ w → ⊥) → (unvisited x && not (eqb x w)) ≡ (eqb (getD (set row w d) x 0) none && allowed x)
-      other q =
-          rw (ne-eqb x w q) (and-true (unvisited x)) ∙ o x (omega (arith, length-set row w d))
-          ∙ ap (λ (y : ℕ). eqb y none && allowed x) (sym (getD-set-other row w x d 0 q))
+      other q = rw (ne-eqb x w q, and-true, getD-set-other row w x d 0 q) (o x (omega (arith, length-set row w d)))
 
 -- at the start all allowed nodes but the source are unvisited
-pub unvisited-start : (allowed : ℕ → Bool) (n s : ℕ) {below others closed all unvisited : ℕ → Bool} → below ≡ (λ v. ltb v n) → others ≡ difference below allowed
-    → closed ≡ inserted others s → all ≡ (λ v. ltb v n) → unvisited ≡ difference all closed → s < n → Unvisited allowed unvisited (set (replicate n none) s 0)
+pub unvisited-start : (allowed : ℕ → Bool) (n s : ℕ) {below others closed all unvisited : ℕ → Bool}
+    → below ≡ (λ v. ltb v n) → others ≡ difference below allowed → closed ≡ inserted others s
+    → all ≡ (λ v. ltb v n) → unvisited ≡ difference all closed → s < n → Unvisited allowed unvisited (set (replicate n none) s 0)
 unfolding inserted difference
-unvisited-start allowed n s {below} {others} {closed} {all} {unvisited} eb ew ec ea eo hs x k = says ∙ ⊎-elim same other (eq-or x s)
+unvisited-start allowed n s {below} {others} {closed} {all} {unvisited} eb eo ec ea eu h x k =
+    says ∙ unvisited-joined allowed allowed (replicate n none) fresh s (rw length-replicate h) 0 (omega arith) refl x k
   where
-    within : x < n
-    within = omega (arith, length-set (replicate n none) s 0, length-replicate n none)
+    fresh : Unvisited allowed allowed (replicate n none)
+    fresh y l = sym (rw (getD-replicate n y none 0 (rw length-replicate at l)) refl)
 
     turned : (a b : Bool) → (true && not (b || true && not a)) ≡ (a && not b)
     turned true true = refl
@@ -114,29 +127,10 @@ unvisited-start allowed n s {below} {others} {closed} {all} {unvisited} eb ew ec
     turned false true = refl
     turned false false = refl
 
-    here : (f : ℕ → Bool) → f ≡ (λ v. ltb v n) → f x ≡ true
-    here f e = ap (λ (g : ℕ → Bool). g x) e ∙ lt-ltb x n within
-
-    out : closed x ≡ (eqb x s || true && not (allowed x))
-    out = ap (λ (f : ℕ → Bool). f x) ec ∙ ap (λ (f : ℕ → Bool). eqb x s || f x) ew ∙ ap (λ (b : Bool). eqb x s || b && not (allowed x)) (here below eb)
-
     says : unvisited x ≡ (allowed x && not (eqb x s))
-    says = ap (λ (f : ℕ → Bool). f x) eo ∙ ap₂ (λ (a b : Bool). a && not b) (here all ea) out ∙ turned (allowed x) (eqb x s)
-
-    same : x ≡ s → (allowed x && not (eqb x s)) ≡ (eqb (getD (set (replicate n none) s 0) x 0) none && allowed x)
-    same q =
-        rw (eq-eqb x s q) (and-false (allowed x))
-        ∙ sym (ap (λ (b : Bool). b && allowed x) (ne-eqb (getD (set (replicate n none) s 0) x 0) none
-        (λ z. omega (arith, ap (λ (y : ℕ). getD (set (replicate n none) s 0) y 0) q ∙ getD-set-same (replicate n none) s 0 0 (omega (arith, length-replicate n none))))))
-
-    other : (x ≡ s → ⊥) → (allowed x && not (eqb x s)) ≡ (eqb (getD (set (replicate n none) s 0) x 0) none && allowed x)
-    other q =
-        rw (ne-eqb x s q) (and-true (allowed x))
-        ∙ sym (ap (λ (b : Bool). b && allowed x) (eq-eqb (getD (set (replicate n none) s 0) x 0) none (getD-set-other (replicate n none) s x 0 0 q ∙ getD-replicate n x none 0 within)))
-
-pub unvisited-row : (allowed unvisited : ℕ → Bool) (n s : ℕ) (row : List ℕ) → row ≡ replicate n none → Unvisited allowed unvisited (set (replicate n none) s 0)
-    → Unvisited allowed unvisited (set row s 0)
-unvisited-row allowed unvisited n s row e o = subst (λ (r : List ℕ). Unvisited allowed unvisited (set r s 0)) (sym e) o
+    says =
+        let within : x < n = omega (arith, length-set (replicate n none) s 0, length-replicate n none) in
+        rw (eu, ec, eo, eb, ea, lt-ltb x n within) (turned (allowed x) (eqb x s))
 
 -- ---- a list's nodes: after i of them, visiting the others gives what visiting all gives from the start
 
@@ -146,23 +140,20 @@ pub record Visiting (allowed : ℕ → Bool) (d : ℕ) (ws : List ℕ) (p₀ : P
   pub count : p .tail + unreached (p .row) ≡ length (p₀ .row)
   pub rest : visitedAll allowed d (drop i ws) p ≡ visitedAll allowed d ws p₀
 
-module _ (allowed : ℕ → Bool) (d : ℕ) (ws : List ℕ) (p₀ : Progress) where
-  pub visiting-none : p₀ .tail + unreached (p₀ .row) ≡ length (p₀ .row) → Visiting allowed d ws p₀ 0 p₀
-  visiting-none e = record { within = omega arith; same = refl; count = e; rest = refl }
+module _ {allowed : ℕ → Bool} {d : ℕ} {ws : List ℕ} {p₀ : Progress} {i : ℕ} {p : Progress} (v : Visiting allowed d ws p₀ i p) where
+  module _ (below : (w : ℕ) → T (has w ws) → w < length (p₀ .row)) (h : i < length ws) where
+    pub next-below : getD ws i 0 < length (p .row)
+    next-below = omega (arith, below (getD ws i 0) (getD-has ws i h), v .same)
 
-  module _ (below : (w : ℕ) → T (has w ws) → w < length (p₀ .row)) (i : ℕ) (p : Progress) (v : Visiting allowed d ws p₀ i p) where
-    pub next-below : i < length ws → getD ws i 0 < length (p .row)
-    next-below h = omega (arith, below (getD ws i 0) (getD-has ws i h), v .same)
-
-    pub visiting-next : d < none → i < length ws → (q : Progress) → q ≡ visited allowed d (getD ws i 0) p → Visiting allowed d ws p₀ (i + 1) q
+    pub visiting-next : d < none → {q : Progress} → q ≡ visited allowed d (getD ws i 0) p → Visiting allowed d ws p₀ (i + 1) q
     unfolding visitedAll
-    visiting-next l h q e = rw e (record {
+    visiting-next l e = rw e (record {
       within = omega arith;
       same = visited-length allowed d (getD ws i 0) p ∙ v .same;
-      count = visited-count allowed d (getD ws i 0) p (next-below h) (λ z. omega arith) ∙ v .count;
+      count = visited-count allowed d (getD ws i 0) p next-below (λ z. omega arith) ∙ v .count;
       rest = sym (ap (λ (l : List ℕ). visitedAll allowed d l p) (drop-next ws i h)) ∙ v .rest;
     })
 
-  pub visiting-all : (i : ℕ) (p : Progress) → length ws ≤ i → Visiting allowed d ws p₀ i p → p ≡ visitedAll allowed d ws p₀
+  pub visiting-all : length ws ≤ i → p ≡ visitedAll allowed d ws p₀
   unfolding visitedAll
-  visiting-all i p h v = sym (ap (λ (l : List ℕ). visitedAll allowed d l p) (drop-of-length-le ws {i = i} h)) ∙ v .rest
+  visiting-all h = rw (drop-of-length-le ws {i = i} h) at (v .rest)

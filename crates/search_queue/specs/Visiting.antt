@@ -25,11 +25,11 @@ progress r q t = record { row = r; queue = q; tail = t }
 abbrev pub joined : ℕ → ℕ → Progress → Progress
 joined d w p = progress (set (p .row) w d) (set (p .queue) (p .tail) w) (p .tail + 1)
 
--- it does so if it has no distance yet and is allowed
+-- it does so only if it has no distance yet and is allowed
 unfoldable pub visited : (ℕ → Bool) → ℕ → ℕ → Progress → Progress
 visited allowed d w p = if eqb (getD (p .row) w 0) none && allowed w then joined d w p else p
 
--- each node of a list in turn
+-- the nodes of a list are visited in turn
 unfoldable pub visitedAll : (ℕ → Bool) → ℕ → List ℕ → Progress → Progress
 visitedAll allowed d [] p = p
 visitedAll allowed d (w ∷ ws) p = visitedAll allowed d ws (visited allowed d w p)

@@ -33,7 +33,7 @@ fn visit(
     tail + 1
 }
 
-// Visits each node of a list: one node's neighbours, a part of the neighbour list.
+// Visits each node of a list, in its order: the neighbours of one node, a part of the neighbour list.
 pub fn visit_all(
     nodes: &[u16],
     d: u16,
@@ -59,7 +59,7 @@ pub fn visit_all(
     end
 }
 
-// Puts the nodes that a search from a node can find into the empty set: all below n but those that are not allowed, and the source.
+// Puts the nodes that a search from `source` can find into an empty set: the allowed nodes below n but for the source.
 pub fn unvisited_nodes(n: usize, allowed: &[u64], source: usize, unvisited: &mut [u64])
     requires { ⌜ (n ≤ 1024) × (length (now allowed) ≡ 16) × (source < n) × (now unvisited ≡ replicate 16 0) ⌝ }
     ensures { λ _. ⌜ Unvisited (member (now (allowed .entry))) (member (now (unvisited .exit))) (set (replicate n none) source 0) ⌝ }
@@ -72,7 +72,7 @@ pub fn unvisited_nodes(n: usize, allowed: &[u64], source: usize, unvisited: &mut
     base_nodeset::subtract(unvisited, &closed);
 }
 
-// The next place of the queue to take a node from: its end, where no node is unvisited, since no later visit finds one.
+// The place in the queue of the next node to take: the queue's end where no node is unvisited, since no later visit would find one.
 pub fn next_place(n: usize, unvisited: &[u64], head: usize, tail: usize) -> usize
     requires { ⌜ (n ≤ 1024) × (length (now unvisited) ≡ 16) × (head < tail) ⌝ }
     ensures { λ r. ⌜ (r ≡ head + 1) ⊎ ((r ≡ tail) × ((x : ℕ) → x < n → T (member (now (unvisited .entry)) x) → ⊥)) ⌝ }

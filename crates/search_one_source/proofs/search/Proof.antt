@@ -12,7 +12,7 @@ use Rattle.model.specs.Survey.{neighboursOf}
 use Rattle.base_nodeset.specs.NodeSet.{member}
 use Rattle.survey_neighbours.proofs.RowLaws.{rows-of}
 use Rattle.search_queue.specs.Visiting.{progress, Unvisited}
-use Rattle.search_queue.proofs.Visiting.{longer, unvisited-row}
+use Rattle.search_queue.proofs.Visiting.{longer}
 use Rattle.search_one_source.proofs.Bfs.{Invariant}
 use Rattle.search_one_source.proofs.QueueTurns.{search-start, own-below, search-turn, search-next, search-end}
 use Rattle.search_one_source.proofs.search.Statement.{statement}
@@ -53,9 +53,7 @@ loop-holds c =
       search-start _ _ _ (start .pre .0 .0 .size) (start .pre .1 .0) _ refl refl _
           ((at-fill16 .fill16 .ensures) ∙ ap (λ (k : ℕ). replicate k none) (start .pre .1 .2)),
       (at-unvisited-nodes .unvisited-nodes .kept .1 .1 .1 .0),
-      unvisited-row (member _) _ (start .args .n)
-          _ _ ((at-fill16 .fill16 .ensures) ∙ ap (λ (k : ℕ). replicate k none) (start .pre .1 .2))
-          (at-unvisited-nodes .unvisited-nodes .ensures),
+      rw ((at-fill16 .fill16 .ensures) ∙ ap (λ (k : ℕ). replicate k none) (start .pre .1 .2)) (at-unvisited-nodes .unvisited-nodes .ensures),
     )
 
 mul-v : tie.Need-mul-v Inv-loop μ-loop
@@ -140,7 +138,7 @@ next-place-requires c κs =
       (start .pre .0 .0 .size),
       ((at-visit-all .visit-all .kept .1 .1 .1 .0) ∙ (at-loop .loop .inv .1)),
       omega
-          (arith, longer _ _ _ _ _ (at-visit-all .visit-all .ensures .0)),
+          (arith, longer _ _ _ _ (at-visit-all .visit-all .ensures .0)),
     )
 
 loop-less : tie.Need-loop-less Inv-loop μ-loop
@@ -148,7 +146,7 @@ loop-less c =
     ⊎-elim (λ e. omega arith)
     (λ r. omega (
       arith,
-      longer _ _ _ _ _
+      longer _ _ _ _
           (c .before .before .before .before .before .visit-all .ensures .0),
     )) (c .next-place .ensures)
 

@@ -12,8 +12,7 @@ smallest-requires : tie.Need-smallest-requires
 smallest-requires c κs = search needs
 
 returns : tie.Need-returns
-returns c =
-    inr (refl, past-smallest _ _ (omega arith) _ (c .before .smallest .ensures) (c .if1 .taken))
+returns c = inr (refl, past-smallest _ _ (omega arith) _ (c .before .smallest .ensures) (c .if1 .taken))
 
 add-result : tie.Need-add-result
 add-result c = search needs

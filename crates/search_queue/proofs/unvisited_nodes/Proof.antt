@@ -1,4 +1,4 @@
--- `search_queue::unvisited_nodes` meets its contract: what is taken out of all nodes are those not allowed, and the source.
+-- `search_queue::unvisited_nodes` meets its contract: the nodes that are not allowed, and the source, are taken out of all nodes.
 -- Assumes nothing.
 use mathlib.Core.Path.{ap}
 use native.Mathlib.Omega.{arith}
@@ -35,25 +35,22 @@ slice-aggregate-subtract-2 c = search needs
 
 subtract-requires-2 : tie.Need-subtract-requires-2
 subtract-requires-2 c κs =
-    let start = c .before .before .before .before .before .before .before .before .before .before .before .before .before .before .before .before .before in
-    omega (
-      arith,
-      ap length (start .pre .3),
-    )
+    let all = c .before .before .before .before in
+    let start = all .before .before .before .before .before .before .before .before .before .before .before .before .before in
+    omega (arith, ap length (start .pre .3))
 
 same-length : tie.Need-same-length
 same-length c = search needs
 
 returns : tie.Need-returns
 returns c =
-    let start = c .before .before .before .before .before .before .before .before .before .before .before .before .before .before .before .before .before .before .before .before in
-    let at-insert-below = c .before .before .before .before .before .before .before .before .before .before .before .before .before .before .before .before in
-    let at-subtract = c .before .before .before .before .before .before .before .before .before .before .before .before .before in
-    let at-insert = c .before .before .before .before .before .before .before .before .before .before in
-    let at-insert-below2 = c .before .before .before .before .before .before .before in
-    unvisited-start (member _) _ _ (at-insert-below .insert-below .ensures)
-    (at-subtract .subtract .ensures) (at-insert .insert .ensures) (at-insert-below2 .insert-below2 .ensures)
-    (c .before .before .subtract2 .ensures) (start .pre .2)
+    let left = c .before .before in
+    let all = left .before .before .before .before .before in
+    let closed = all .before .before .before in
+    let others = closed .before .before .before in
+    let below = others .before .before .before in
+    unvisited-start (member _) _ _ (below .insert-below .ensures) (others .subtract .ensures) (closed .insert .ensures)
+    (all .insert-below2 .ensures) (left .subtract2 .ensures) (below .before .before .before .before .pre .2)
 
 pub unvisited-nodes-spec : {M : Type 1} → statement M
 unvisited-nodes-spec =

@@ -1,9 +1,12 @@
--- `search_queue::visit` meets its contract: each way out is a case of `visited`. The queue has room, since a node without a distance is left.
+-- `search_queue::visit` meets its contract: each way out is a case of `visited`, and the queue has room as long as a node has no distance.
 -- Assumes nothing.
-use mathlib.Core.Path.{sym, _∙_}
+use mathlib.Core.Path.{_≡_, sym, _∙_}
+use mathlib.Core.Bool.{true}
+use Prim.Native.Nat.{_<_}
 use native.Mathlib.Omega.{arith}
 use borrow.Author.Tests.{not-true, not-false}
-use Rattle.search_queue.proofs.Visiting.{unreached-set, visited-new, visited-not, unvisited-new, unvisited-joined}
+use Rattle.search_queue.specs.Visiting.{unreached}
+use Rattle.search_queue.proofs.Visiting.{visit-not, visit-new, visit-room, unvisited-joined}
 use Rattle.base_nodeset.specs.NodeSet.{member}
 use borrow.Author.Needs.{needs}
 use Rattle.search_queue.proofs.visit.Statement.{statement}
@@ -17,14 +20,24 @@ same-length c = search needs
 
 returns : tie.Need-returns
 returns c =
-    let start = c .before .before .before .before .before .before in (
-      sym (visited-not _ _ _ _ (sym ((start .pre .1 .1) _ (start .pre .0 .0)) ∙
-          (sym (c .before .contains .ensures) ∙ not-true _ (c .if1 .taken)))),
-      (start .pre .1 .1),
-    )
+    let start = c .before .before .before .before .before .before in
+    let missed = sym (c .before .contains .ensures) ∙ not-true _ (c .if1 .taken) in
+    (visit-not _ _ _ (start .pre .1 .1) _ (start .pre .0 .0) _ missed, start .pre .1 .1)
 
 remove-requires : tie.Need-remove-requires
 remove-requires c κs = search needs
+
+-- once w is found in the set of unvisited nodes
+module _ (c : tie.Else1) where
+  abbrev start : tie.Start
+  start = c .before .before .before .before .before .before
+
+  is-unvisited : member (start .args .unvisited .now) (start .args .w) ≡ true
+  is-unvisited = sym (c .before .contains .ensures) ∙ not-false _ (c .if1 .left)
+
+  -- so the queue has room
+  room : 0 < unreached (start .args .row .now)
+  room = visit-room _ _ _ (start .pre .1 .1) _ (start .pre .0 .0) is-unvisited
 
 mul-row : tie.Need-mul-row
 mul-row c = search needs
@@ -39,16 +52,7 @@ mul-queue : tie.Need-mul-queue
 mul-queue c = search needs
 
 element-write-queue : tie.Need-element-write-queue
-element-write-queue c =
-    let start = c .before .before .before .before .before .before .before .before .before .before in
-    omega (
-      arith,
-      unreached-set (start .args .row .now) _ 0 (start .pre .0 .0)
-          (unvisited-new (member _) (member _) (start .args .row .now)
-          (start .pre .1 .1) _ (start .pre .0 .0)
-          (sym (c .before .before .before .before .before .contains .ensures) ∙ not-false _ (c .before .before .before .before .if1 .left)))
-          (λ e. omega arith),
-    )
+element-write-queue c = omega (arith, room (c .before .before .before .before))
 
 add-result : tie.Need-add-result
 add-result c = search needs
@@ -61,13 +65,11 @@ same-length-3 c = search needs
 
 returns-2 : tie.Need-returns-2
 returns-2 c =
-    let start = c .before .before .before .before .before .before .before .before .before .before in (
-      sym (visited-new _ _ _ _ (sym ((start .pre .1 .1) _ (start .pre .0 .0)) ∙
-          (sym (c .before .before .before .before .before .contains .ensures) ∙ not-false _
-          (c .before .before .before .before .if1 .left)))),
-      unvisited-joined (member _)
-          (member _) (start .args .row .now) (start .pre .1 .1) _ (start .pre .0 .0)
-          _ (start .pre .0 .2) _ (c .before .before .remove .ensures),
+    let found = c .before .before .before .before in
+    let start = start found in (
+      visit-new _ _ _ (start .pre .1 .1) _ (start .pre .0 .0) _ _ _ (is-unvisited found),
+      unvisited-joined (member _) _ (start .args .row .now) (start .pre .1 .1) _ (start .pre .0 .0) _ (start .pre .0 .2)
+          (c .before .before .remove .ensures),
     )
 
 pub visit-spec : {M : Type 1} → statement M

@@ -1,18 +1,21 @@
 -- `search_queue::visit_all` meets its contract: after i nodes, visiting the others gives what visiting all gives from the start.
 -- Assumes nothing.
-use mathlib.Core.Path.{_≡_, sym, _∙_}
+use mathlib.Core.Path.{_≡_}
 use Prim.Native.Nat.{_-_}
 use native.Mathlib.Omega.{arith}
 use lib.ListN.{length}
 use Rattle.base_nodeset.specs.NodeSet.{member}
 use Rattle.search_queue.specs.Visiting.{progress, Unvisited}
-use Rattle.search_queue.proofs.Visiting.{Visiting, visiting-none, next-below, visiting-next, visiting-all}
+use Rattle.search_queue.proofs.Visiting.{Visiting, next-below, visiting-next, visiting-all}
 use borrow.Author.Needs.{needs}
 use Rattle.search_queue.proofs.visit_all.Statement.{statement}
 use Rattle.search_queue.proofs.visit_all.Tie as tie
 
 abbrev Inv-loop : tie.InvT-loop
-Inv-loop nodes d allowed unvisited₀ row₀ queue₀ tail end₀ i₀ unvisited row queue end i = Visiting (member allowed) d nodes (progress row₀ queue₀ tail) i (progress row queue end) × (length unvisited ≡ 16) × Unvisited (member allowed) (member unvisited) row
+Inv-loop nodes d allowed unvisited₀ row₀ queue₀ tail end₀ i₀ unvisited row queue end i =
+    Visiting (member allowed) d nodes (progress row₀ queue₀ tail) i (progress row queue end)
+    × (length unvisited ≡ 16)
+    × Unvisited (member allowed) (member unvisited) row
 
 abbrev μ-loop : tie.MeasureT-loop
 μ-loop nodes d allowed unvisited₀ row₀ queue₀ tail end₀ i₀ unvisited row queue end i = length nodes - i
@@ -27,20 +30,15 @@ shared-slice-read-visit : tie.Need-shared-slice-read-visit Inv-loop μ-loop
 shared-slice-read-visit c = search needs
 
 cast-visit : tie.Need-cast-visit Inv-loop μ-loop
-cast-visit c = omega (arith, (c .shared-slice-known3 .given) (c .before .before .loop .i))
+cast-visit c = omega (arith, c .shared-slice-known3 .given (c .before .before .loop .i))
 
 visit-requires : tie.Need-visit-requires Inv-loop μ-loop
 visit-requires c κs =
-    let start = c .before .before .before .before .before .before .before .before .before .before in
-    let at-loop = c .before .before .before .before .before in (
-      (
-        next-below _ _ _ _ (start .pre .0 .0) _ _ (at-loop .loop .inv .0)
-            (c .before .before .before .before .loop-test .taken),
-        omega arith,
-        (start .pre .0 .1),
-        (at-loop .loop .inv .0 .count) ∙ sym (at-loop .loop .inv .0 .same),
-      ),
-      ((at-loop .loop .inv .1), (at-loop .loop .inv .2)),
+    let turn = c .before .before .before .before in
+    let pre = turn .before .before .before .before .before .before .pre in
+    let inv = turn .before .loop .inv in (
+      (next-below (inv .0) (pre .0 .0) (turn .loop-test .taken), omega arith, pre .0 .1, search needs),
+      (inv .1, inv .2),
     )
 
 add-i : tie.Need-add-i Inv-loop μ-loop
@@ -51,14 +49,13 @@ loop-less c = search needs
 
 loop-again : tie.Need-loop-again Inv-loop μ-loop
 loop-again c =
-    let start = c .before .before .before .before .before .before .before .before .before .before .before .before .before .before .before in
-    let at-loop = c .before .before .before .before .before .before .before .before .before .before in
-    let at-loop-test = c .before .before .before .before .before .before .before .before .before in
-    let at-visit = c .before .before .before .before in (
-      visiting-next _ _ _ _ (start .pre .0 .0) _ _ (at-loop .loop .inv .0) (start .pre .0 .1)
-          (at-loop-test .loop-test .taken) _ (at-visit .visit .ensures .0),
-      (at-visit .visit .kept .1 .1 .1 .0) ∙ (at-loop .loop .inv .1),
-      (at-visit .visit .ensures .1),
+    let visit = c .before .before .before .before .visit in
+    let turn = c .before .before .before .before .before .before .before .before .before in
+    let pre = turn .before .before .before .before .before .before .pre in
+    let inv = turn .before .loop .inv in (
+      visiting-next (inv .0) (pre .0 .0) (turn .loop-test .taken) (pre .0 .1) (visit .ensures .0),
+      search needs,
+      visit .ensures .1,
     )
 
 same-length : tie.Need-same-length Inv-loop μ-loop
@@ -68,9 +65,7 @@ same-length-2 : tie.Need-same-length-2 Inv-loop μ-loop
 same-length-2 c = search needs
 
 returns : tie.Need-returns Inv-loop μ-loop
-returns c =
-    let at-loop = c .before in
-    (visiting-all _ _ _ _ _ _ (c .loop-test .left) (at-loop .loop .inv .0), (at-loop .loop .inv .2))
+returns c = let inv = c .before .loop .inv in (visiting-all (inv .0) (c .loop-test .left), inv .2)
 
 pub visit-all-spec : {M : Type 1} → statement M
 visit-all-spec =
