@@ -2,127 +2,131 @@
 -- Assumes nothing.
 use mathlib.Core.Path.{_≡_, refl, sym, ap, _∙_, subst}
 use mathlib.Core.Logic.{⊎-elim}
-use mathlib.Core.Bool.{Bool, true, false, _&&_, _||_, and-true, and-false, or-comm}
+use mathlib.Core.Bool.{Bool, true, false, _&&_, _||_, and-true, and-false, or-comm, and-or-distrib-left, and-or-distrib-right}
 use mathlib.Core.List.{List}
 use Prim.Native.Nat.{ℕ, _+_, _*_, _≤_, _<_}
 use native.Mathlib.Omega.{arith}
 use borrow.Author.Tests.{lt-ltb, le-ltb, eq-eqb, ne-eqb}
-use lib.Dec.{T, eqb, ltb}
+use lib.Dec.{eqb, ltb}
 use lib.ListN.{length, getD, drop, replicate, drop-of-length-le}
 use Rattle.model.specs.Basics.{has}
 use Rattle.model.specs.Graph.{Edges, between, linked}
 use Rattle.model.specs.Survey.{Graph, IsGraph}
 use Rattle.model.proofs.Acceptance.{linked-is, linked-has, linked-of}
 use Rattle.model.proofs.Loops.{drop-next}
-use Rattle.model.proofs.Tests.{and-l, and-r, and-i, true-T, same-test, eq-or, ltb-next}
+use Rattle.model.proofs.Tests.{and-l, and-r, and-i, true-T, same-test, eq-or, ltb-next, or-turned}
 use Rattle.base_nodeset.specs.NodeSet.{Nodes, member, inserted}
 use Rattle.base_nodeset.specs.Matrix.{edgesIn}
 use Rattle.base_nodeset.proofs.Matrix.{same-edges, edge-with, edges-none}
 
--- a test at x is the test at w where x is w
-at-one : (p : Nodes) (x w : ℕ) (b : Bool) → p w ≡ b → (eqb x w && p x) ≡ (eqb x w && b)
-at-one p x w b e = ⊎-elim (λ q. ap (λ (c : Bool). eqb x w && c) (ap p q ∙ e)) (λ d. rw (ne-eqb x w d) refl) (eq-or x w)
+-- ---- a matrix and one row more
 
-pub link-not : (E : Edges) (p : Nodes) (v w : ℕ) → p w ≡ false → E ≡ (λ u x. (eqb u v && (eqb x w && p x)) || E u x)
-link-not E p v w e = same-edges E (λ u x. (eqb u v && (eqb x w && p x)) || E u x) (λ u x.
-    sym (rw (at-one p x w false e, and-false (eqb x w), and-false (eqb u v)) refl))
+-- the links of E, and those from v of F
+abbrev withRow : Edges → ℕ → Edges → Edges
+withRow E v F u x = (eqb u v && F u x) || E u x
+
+-- where u is v, tests that agree at v agree
+at-one : (p q : Nodes) (v : ℕ) → p v ≡ q v → (u : ℕ) → (eqb u v && p u) ≡ (eqb u v && q u)
+at-one p q v e u = ⊎-elim
+    (λ s. ap (λ (b : Bool). eqb u v && b) (subst (λ (y : ℕ). p y ≡ q y) (sym s) e))
+    (λ d. rw (ne-eqb u v d) refl)
+    (eq-or u v)
+
+row-same : (E F H : Edges) (v : ℕ) → ((x : ℕ) → F v x ≡ H v x) → withRow E v F ≡ withRow E v H
+row-same E F H v h = same-edges (withRow E v F) (withRow E v H) (λ u x.
+    ap (λ (b : Bool). b || E u x) (at-one (λ y. F y x) (λ y. H y x) v (h x) u))
+
+row-empty : (E F : Edges) (v : ℕ) → ((x : ℕ) → F v x ≡ false) → E ≡ withRow E v F
+row-empty E F v h =
+    same-edges E (withRow E v (λ u x. false)) (λ u x. sym (ap (λ (b : Bool). b || E u x) (and-false (eqb u v))))
+    ∙ sym (row-same E F (λ u x. false) v h)
+
+-- ---- the link v-w, if w is allowed
+
+-- the link from every node to w, if w passes the test
+abbrev linkTo : ℕ → Nodes → Edges
+linkTo w p u x = eqb x w && p x
+
+pub link-not : {E : Edges} (p : Nodes) (v w : ℕ) → p w ≡ false → E ≡ withRow E v (linkTo w p)
+link-not {E} p v w e = row-empty E (linkTo w p) v (λ x. at-one p (λ y. false) w e x ∙ and-false (eqb x w))
 
 pub link-put : (ws ws′ : List ℕ) (p : Nodes) (v w : ℕ) → w < 1024 → p w ≡ true → member ws′ ≡ inserted (member ws) (1024 * v + w)
-    → edgesIn ws′ ≡ (λ u x. (eqb u v && (eqb x w && p x)) || edgesIn ws u x)
+    → edgesIn ws′ ≡ withRow (edgesIn ws) v (linkTo w p)
 link-put ws ws′ p v w h t e =
     edge-with ws ws′ v w h e
-    ∙ same-edges (λ u x. (eqb u v && eqb x w) || edgesIn ws u x) (λ u x. (eqb u v && (eqb x w && p x)) || edgesIn ws u x) (λ u x.
-    ap (λ (b : Bool). (eqb u v && b) || edgesIn ws u x) (sym (at-one p x w true t ∙ and-true (eqb x w))))
+    ∙ row-same (edgesIn ws) (λ u x. eqb x w) (linkTo w p) v (λ x. sym (at-one p (λ y. true) w t x ∙ and-true (eqb x w)))
 
--- ---- the links of a list, one more at a time: those that are in the matrix, and those to be put into it
+-- ---- the links from v to the allowed nodes of a list, one more at a time
 
+-- the links from every node to those nodes of a list that pass the test
+abbrev linksTo : List ℕ → Nodes → Edges
+linksTo l p u x = has x l && p x
+
+-- the links in the matrix, and those to the rest of the list, are those at the start and those to the whole list
 pub record Linking (v : ℕ) (list : List ℕ) (p : Nodes) (E₀ : Edges) (ws : List ℕ) (i : ℕ) : Type 0 where
   pub within : i ≤ length list
   pub long : length ws ≡ 16384
-  pub says : (u x : ℕ) → ((eqb u v && (has x (drop i list) && p x)) || edgesIn ws u x) ≡ ((eqb u v && (has x list && p x)) || E₀ u x)
+  pub says : withRow (edgesIn ws) v (linksTo (drop i list) p) ≡ withRow E₀ v (linksTo list p)
 
-module _ (v : ℕ) (list : List ℕ) (p : Nodes) (ws₀ : List ℕ) where
-  pub linking-none : length ws₀ ≡ 16384 → Linking v list p (edgesIn ws₀) ws₀ 0
-  linking-none l = record { within = omega arith; long = l; says = λ u x. refl }
-
-  module _ (ws : List ℕ) (i : ℕ) (h : Linking v list p (edgesIn ws₀) ws i) where
-    pub linking-more : (ws′ : List ℕ) → i < length list → length ws′ ≡ length ws
-        → edgesIn ws′ ≡ (λ u x. (eqb u v && (eqb x (getD list i 0) && p x)) || edgesIn ws u x) → Linking v list p (edgesIn ws₀) ws′ (i + 1)
-    unfolding has
-    linking-more ws′ l k e = record {
-      within = omega arith;
-      long = k ∙ h .long;
-      says = λ u x.
-          ap (λ (F : Edges). (eqb u v && (has x (drop (i + 1) list) && p x)) || F u x) e
-          ∙ spread (eqb u v) (eqb x (getD list i 0)) (has x (drop (i + 1) list)) (p x) (edgesIn ws u x)
-          ∙ ap (λ (r : List ℕ). (eqb u v && (has x r && p x)) || edgesIn ws u x) (sym (drop-next list i l)) ∙ h .says u x;
-    }
-      where
-        spread : (e q r t s : Bool) → ((e && (r && t)) || ((e && (q && t)) || s)) ≡ ((e && ((q || r) && t)) || s)
-        spread false q r t s = refl
-        spread true true true true s = refl
-        spread true true true false s = refl
-        spread true true false true s = refl
-        spread true true false false s = refl
-        spread true false true true s = refl
-        spread true false true false s = refl
-        spread true false false t s = refl
-
-    pub linking-all : length list ≤ i → edgesIn ws ≡ (λ u x. (eqb u v && (has x list && p x)) || edgesIn ws₀ u x)
-    unfolding has
-    linking-all l = same-edges (edgesIn ws) (λ u x. (eqb u v && (has x list && p x)) || edgesIn ws₀ u x) (λ u x.
-        sym (rw (drop-of-length-le list l, and-false (eqb u v)) refl) ∙ h .says u x)
-
--- ---- the links of one node, and of the nodes below v
-
-module _ (n : ℕ) (G : Graph) (g : IsGraph n G) (p : Nodes) (v : ℕ) where
-  -- a test of u and x where u is v
-  at-node : (F H : Edges) → ((x : ℕ) → F v x ≡ H v x) → (u x : ℕ) → (eqb u v && F u x) ≡ (eqb u v && H u x)
-  at-node F H h u x =
-      ⊎-elim (λ q. ap (λ (b : Bool). eqb u v && b) (ap (λ (y : ℕ). F y x) q ∙ h x ∙ ap (λ (y : ℕ). H y x) (sym q))) (λ d. rw (ne-eqb u v d) refl) (eq-or u v)
-
-  pub node-not : (E : Edges) → p v ≡ false → E ≡ (λ u x. (eqb u v && between p (linked n G) u x) || E u x)
-  node-not E e = same-edges E (λ u x. (eqb u v && between p (linked n G) u x) || E u x) (λ u x.
-      sym (ap (λ (b : Bool). b || E u x) (
-      at-node (between p (linked n G)) (λ a b. false) (λ y. rw e refl) u x ∙ and-false (eqb u v))))
-
-  pub node-put : (E E′ : Edges) (own : List ℕ) → v < n → p v ≡ true → own ≡ G v → E′ ≡ (λ u x. (eqb u v && (has x own && p x)) || E u x)
-      → E′ ≡ (λ u x. (eqb u v && between p (linked n G) u x) || E u x)
-  node-put E E′ own h t o e =
-      e ∙ same-edges (λ u x. (eqb u v && (has x own && p x)) || E u x) (λ u x. (eqb u v && between p (linked n G) u x) || E u x) (λ u x.
-      ap (λ (b : Bool). b || E u x) (at-node (λ a b. has b own && p b) (between p (linked n G)) (λ y. here y) u x))
+module _ {v : ℕ} {list : List ℕ} {p : Nodes} {E₀ : Edges} {ws : List ℕ} {i : ℕ} (h : Linking v list p E₀ ws i) where
+  pub linking-more : {ws′ : List ℕ} → i < length list → length ws′ ≡ length ws
+      → edgesIn ws′ ≡ withRow (edgesIn ws) v (linkTo (getD list i 0) p) → Linking v list p E₀ ws′ (i + 1)
+  unfolding has
+  linking-more {ws′} l k e = record { within = omega arith; long = k ∙ h .long; says = more ∙ h .says }
     where
-      here : (y : ℕ) → (has y own && p y) ≡ between p (linked n G) v y
-      here y =
-          same-test (has y own && p y) (between p (linked n G) v y)
-          (λ q. and-i (p v && p y) (linked n G v y) (and-i (p v) (p y) (true-T (p v) t) (and-r (has y own) (p y) q))
-          (linked-of n G g v y h (subst (λ (l : List ℕ). T (has y l)) o (and-l (has y own) (p y) q))))
-          (λ q. and-i (has y own) (p y) (subst (λ (l : List ℕ). T (has y l)) (sym o) (linked-has n G v y (and-r (p v && p y) (linked n G v y) q)))
-          (and-r (p v) (p y) (and-l (p v && p y) (linked n G v y) q)))
+      spread : (e q r t s : Bool) → ((e && (r && t)) || ((e && (q && t)) || s)) ≡ ((e && ((q || r) && t)) || s)
+      spread e q r t s =
+          rw (and-or-distrib-right q r t, and-or-distrib-left e (q && t) (r && t)) (or-turned (e && (r && t)) (e && (q && t)) s)
 
-  -- what the matrix holds after the nodes below v
-  pub rows-next : (E E′ : Edges) → E ≡ (λ u x. ltb u v && between p (linked n G) u x) → E′ ≡ (λ u x. (eqb u v && between p (linked n G) u x) || E u x)
-      → E′ ≡ (λ u x. ltb u (v + 1) && between p (linked n G) u x)
-  rows-next E E′ e f =
-      f ∙ same-edges (λ u x. (eqb u v && between p (linked n G) u x) || E u x) (λ u x. ltb u (v + 1) && between p (linked n G) u x) (λ u x.
-      ap (λ (F : Edges). (eqb u v && between p (linked n G) u x) || F u x) e
-      ∙ ⊎-elim (λ q. at u (between p (linked n G) u x) q) (λ d. other u (between p (linked n G) u x) d) (eq-or u v))
-    where
-      at : (u : ℕ) (b : Bool) → u ≡ v → ((eqb u v && b) || (ltb u v && b)) ≡ (ltb u (v + 1) && b)
-      at u b q = rw (eq-eqb u v q, le-ltb u v (omega arith), lt-ltb u (v + 1) (omega arith)) (or-comm b false)
+      more : withRow (edgesIn ws′) v (linksTo (drop (i + 1) list) p) ≡ withRow (edgesIn ws) v (linksTo (drop i list) p)
+      more = rw (e, drop-next list i l) (same-edges _ _ (λ u x.
+          spread (eqb u v) (eqb x (getD list i 0)) (has x (drop (i + 1) list)) (p x) (edgesIn ws u x)))
 
-      other : (u : ℕ) (b : Bool) → (u ≡ v → ⊥) → ((eqb u v && b) || (ltb u v && b)) ≡ (ltb u (v + 1) && b)
-      other u b d = rw (ne-eqb u v d, ltb-next u v d) refl
+  pub linking-all : length list ≤ i → edgesIn ws ≡ withRow E₀ v (linksTo list p)
+  unfolding has
+  linking-all l = row-empty (edgesIn ws) (linksTo (drop i list) p) v (λ x. rw (drop-of-length-le list l) refl) ∙ h .says
 
-pub rows-none : (F : Edges) (ws : List ℕ) → ws ≡ replicate 16384 0 → edgesIn ws ≡ (λ u x. ltb u 0 && F u x)
+-- ---- the rows below v
+
+abbrev pub rowsBelow : ℕ → Edges → Edges
+rowsBelow v F u x = ltb u v && F u x
+
+pub rows-none : (F : Edges) (ws : List ℕ) → ws ≡ replicate 16384 0 → edgesIn ws ≡ rowsBelow 0 F
 rows-none F ws e =
     ap edgesIn e ∙ edges-none
-    ∙ same-edges (λ u x. false) (λ u x. ltb u 0 && F u x) (λ u x. sym (rw (le-ltb u 0 (omega arith)) refl))
+    ∙ same-edges (λ u x. false) (rowsBelow 0 F) (λ u x. sym (rw (le-ltb u 0 (omega arith)) refl))
 
-pub rows-all : (n v : ℕ) (G : Graph) (p : Nodes) (E : Edges) → v ≡ n → E ≡ (λ u x. ltb u v && between p (linked n G) u x) → E ≡ between p (linked n G)
-rows-all n v G p E q e =
-    e ∙ same-edges (λ u x. ltb u v && between p (linked n G) u x) (between p (linked n G)) (λ u x.
-    same-test (ltb u v && between p (linked n G) u x) (between p (linked n G) u x)
-    (λ t. and-r (ltb u v) (between p (linked n G) u x) t)
-    (λ t. let l = linked-is n G u x (and-r (p u && p x) (linked n G u x) t) in
-    and-i (ltb u v) (between p (linked n G) u x) (true-T (ltb u v) (lt-ltb u v (omega (arith, l .first)))) t))
+pub rows-next : (F : Edges) {E E′ : Edges} (v : ℕ) → E ≡ rowsBelow v F → E′ ≡ withRow E v F → E′ ≡ rowsBelow (v + 1) F
+rows-next F v e f = f ∙ rw e (same-edges (withRow (rowsBelow v F) v F) (rowsBelow (v + 1) F) (λ u x.
+    ⊎-elim (at u (F u x)) (other u (F u x)) (eq-or u v)))
+  where
+    at : (u : ℕ) (b : Bool) → u ≡ v → ((eqb u v && b) || (ltb u v && b)) ≡ (ltb u (v + 1) && b)
+    at u b q = rw (eq-eqb u v q, le-ltb u v (omega arith), lt-ltb u (v + 1) (omega arith)) (or-comm b false)
+
+    other : (u : ℕ) (b : Bool) → (u ≡ v → ⊥) → ((eqb u v && b) || (ltb u v && b)) ≡ (ltb u (v + 1) && b)
+    other u b d = rw (ne-eqb u v d, ltb-next u v d) refl
+
+-- ---- the links of allowed nodes: one node's, and all
+
+module _ (n : ℕ) (G : Graph) (p : Nodes) where
+  abbrev links : Edges
+  links = between p (linked n G)
+
+  pub node-not : (v : ℕ) {E : Edges} → p v ≡ false → E ≡ withRow E v links
+  node-not v {E} e = row-empty E links v (λ x. rw e refl)
+
+  pub node-put : IsGraph n G → (v : ℕ) (E : Edges) {E′ : Edges} {own : List ℕ} → v < n → p v ≡ true → own ≡ G v
+      → E′ ≡ withRow E v (linksTo own p) → E′ ≡ withRow E v links
+  node-put g v E {E′} {own} h t o e = e ∙ row-same E (linksTo own p) links v here
+    where
+      here : (x : ℕ) → (has x own && p x) ≡ between p (linked n G) v x
+      here x = rw (o, t) (same-test (has x (G v) && p x) (p x && linked n G v x)
+          (λ q. and-i (p x) (linked n G v x) (and-r (has x (G v)) (p x) q) (linked-of n G g v x h (and-l (has x (G v)) (p x) q)))
+          (λ q. and-i (has x (G v)) (p x) (linked-has n G v x (and-r (p x) (linked n G v x) q)) (and-l (p x) (linked n G v x) q)))
+
+  -- each of them is in a row below n
+  pub rows-all : (v : ℕ) {E : Edges} → v ≡ n → E ≡ rowsBelow v links → E ≡ links
+  rows-all v q e = e ∙ same-edges (rowsBelow v links) links (λ u x. same-test (ltb u v && links u x) (links u x)
+      (and-r (ltb u v) (links u x))
+      (λ t. let l = linked-is n G u x (and-r (p u && p x) (linked n G u x) t) in
+      and-i (ltb u v) (links u x) (true-T (ltb u v) (lt-ltb u v (omega (arith, l .first)))) t))

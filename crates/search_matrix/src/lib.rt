@@ -13,7 +13,8 @@ ghost use Rattle.base_nodeset.specs.Matrix.{edgesIn};
 // Puts the link v-w into the matrix, if w is allowed.
 fn link(v: usize, w: usize, allowed: &[u64], rows: &mut [u64])
     requires { ⌜ (v < 1024) × (w < 1024) × (length (now allowed) ≡ 16) × (length (now rows) ≡ 16384) ⌝ }
-    ensures { λ _. ⌜ edgesIn (now (rows .exit)) ≡ (λ u x. (eqb u v && (eqb x w && member (now (allowed .entry)) x)) || edgesIn (now (rows .entry)) u x) ⌝ }
+    ensures { λ _. ⌜ edgesIn (now (rows .exit))
+        ≡ (λ u x. (eqb u v && (eqb x w && member (now (allowed .entry)) x)) || edgesIn (now (rows .entry)) u x) ⌝ }
 {
     if !base_nodeset::contains(allowed, w) {
         return;
@@ -24,7 +25,8 @@ fn link(v: usize, w: usize, allowed: &[u64], rows: &mut [u64])
 // Puts the links from v to the allowed nodes of a list into the matrix.
 fn link_list(v: usize, list: &[u16], allowed: &[u64], rows: &mut [u64])
     requires { ⌜ (v < 1024) × (length (now allowed) ≡ 16) × (length (now rows) ≡ 16384) × ((x : ℕ) → T (has x (now list)) → x < 1024) ⌝ }
-    ensures { λ _. ⌜ edgesIn (now (rows .exit)) ≡ (λ u x. (eqb u v && (has x (now (list .entry)) && member (now (allowed .entry)) x)) || edgesIn (now (rows .entry)) u x) ⌝ }
+    ensures { λ _. ⌜ edgesIn (now (rows .exit))
+        ≡ (λ u x. (eqb u v && (has x (now (list .entry)) && member (now (allowed .entry)) x)) || edgesIn (now (rows .entry)) u x) ⌝ }
 {
     let mut i = 0;
     while i < list.len() {
@@ -43,7 +45,10 @@ fn link_node(
     rows: &mut [u64],
 )
     requires { ⌜ Accepted n (now starts) (now neighbours) × (length (now allowed) ≡ 16) × (v < n) × (length (now rows) ≡ 16384) ⌝ }
-    ensures { λ _. ⌜ edgesIn (now (rows .exit)) ≡ (λ u x. (eqb u v && between (member (now (allowed .entry))) (linked n (neighboursOf (now (starts .entry)) (now (neighbours .entry)))) u x) || edgesIn (now (rows .entry)) u x) ⌝ }
+    ensures { λ _. ⌜ edgesIn (now (rows .exit))
+        ≡ (λ u x.
+        (eqb u v && between (member (now (allowed .entry))) (linked n (neighboursOf (now (starts .entry)) (now (neighbours .entry)))) u x)
+        || edgesIn (now (rows .entry)) u x) ⌝ }
 {
     if !base_nodeset::contains(allowed, v) {
         return;
@@ -52,10 +57,11 @@ fn link_node(
     link_list(v, own, allowed, rows);
 }
 
-// The links between allowed nodes, put into the empty matrix: node v's neighbours are the words 16 * v to 16 * v + 15.
+// Puts the links between allowed nodes into an empty matrix: node v's neighbours are the words 16 * v to 16 * v + 15.
 pub fn link_rows(n: usize, starts: &[u32], neighbours: &[u16], allowed: &[u64], rows: &mut [u64])
     requires { ⌜ Accepted n (now starts) (now neighbours) × (length (now allowed) ≡ 16) × (now rows ≡ replicate 16384 0) ⌝ }
-    ensures { λ _. ⌜ edgesIn (now (rows .exit)) ≡ between (member (now (allowed .entry))) (linked n (neighboursOf (now (starts .entry)) (now (neighbours .entry)))) ⌝ }
+    ensures { λ _. ⌜ edgesIn (now (rows .exit))
+        ≡ between (member (now (allowed .entry))) (linked n (neighboursOf (now (starts .entry)) (now (neighbours .entry)))) ⌝ }
 {
     let mut v = 0;
     while v < n {

@@ -1,9 +1,7 @@
 -- `search_matrix::link` meets its contract: a node that is not allowed adds no link.
 -- Assumes nothing.
-use native.Mathlib.Omega.{arith}
 use mathlib.Core.Path.{sym, _∙_}
 use borrow.Author.Tests.{not-true, not-false}
-use Rattle.base_nodeset.specs.Matrix.{edgesIn}
 use Rattle.base_nodeset.specs.NodeSet.{member}
 use Rattle.search_matrix.proofs.LinkPutting.{link-not, link-put}
 use borrow.Author.Needs.{needs}
@@ -14,9 +12,7 @@ contains-requires : tie.Need-contains-requires
 contains-requires c κs = search needs
 
 returns : tie.Need-returns
-returns c =
-    link-not (edgesIn _) (member _) _ _
-    (sym (c .before .contains .ensures) ∙ not-true _ (c .if1 .taken))
+returns c = link-not (member _) _ _ (sym (c .before .contains .ensures) ∙ not-true _ (c .if1 .taken))
 
 mul-insert : tie.Need-mul-insert
 mul-insert c = search needs
@@ -32,10 +28,10 @@ same-length c = search needs
 
 returns-2 : tie.Need-returns-2
 returns-2 c =
-    let start = c .before .before .before .before .before .before .before .before in
-    link-put _ _ (member _) _ _ (start .pre .1)
-    (sym (c .before .before .before .before .before .contains .ensures) ∙ not-false _ (c .before .before .before .before .if1 .left))
-    (c .before .before .insert .ensures)
+    let insert = c .before .before .insert in
+    let found = c .before .before .before .before in
+    let start = found .before .before .before .before in
+    link-put _ _ (member _) _ _ (start .pre .1) (sym (found .before .contains .ensures) ∙ not-false _ (found .if1 .left)) (insert .ensures)
 
 pub link-spec : {M : Type 1} → statement M
 link-spec =

@@ -1,13 +1,12 @@
--- `search_matrix::link_list` meets its contract: the links that are in the matrix and those to the rest of the list are all of them.
+-- `search_matrix::link_list` meets its contract: the links in the matrix and those to the rest of the list are all of them.
 -- Assumes nothing.
-use mathlib.Core.Path.{sym, _∙_}
 use Prim.Native.Nat.{_-_}
 use native.Mathlib.Omega.{arith}
 use lib.ListN.{length}
 use Rattle.model.proofs.Ascending.{getD-has}
 use Rattle.base_nodeset.specs.NodeSet.{member}
 use Rattle.base_nodeset.specs.Matrix.{edgesIn}
-use Rattle.search_matrix.proofs.LinkPutting.{Linking, linking-none, linking-more, linking-all}
+use Rattle.search_matrix.proofs.LinkPutting.{Linking, linking-more, linking-all}
 use borrow.Author.Needs.{needs}
 use Rattle.search_matrix.proofs.link_list.Statement.{statement}
 use Rattle.search_matrix.proofs.link_list.Tie as tie
@@ -28,17 +27,13 @@ shared-slice-read-link : tie.Need-shared-slice-read-link Inv-loop μ-loop
 shared-slice-read-link c = search needs
 
 cast-link : tie.Need-cast-link Inv-loop μ-loop
-cast-link c = omega (arith, (c .shared-slice-known3 .given) (c .before .before .loop .i))
+cast-link c = omega (arith, c .shared-slice-known3 .given (c .before .before .loop .i))
 
 link-requires : tie.Need-link-requires Inv-loop μ-loop
 link-requires c κs =
-    let start = c .before .before .before .before .before .before .before in
-    let at-loop = c .before .before .before in (
-      (start .pre .0),
-      (start .pre .3) _ (getD-has _ _ (c .before .before .loop-test .taken)),
-      (start .pre .1),
-      (at-loop .loop .inv) .long,
-    )
+    let turn = c .before .before in
+    let pre = turn .before .before .before .before .before .pre in
+    (pre .0, pre .3 _ (getD-has _ _ (turn .loop-test .taken)), pre .1, turn .before .loop .inv .long)
 
 add-i : tie.Need-add-i Inv-loop μ-loop
 add-i c = search needs
@@ -48,19 +43,15 @@ loop-less c = search needs
 
 loop-again : tie.Need-loop-again Inv-loop μ-loop
 loop-again c =
-    let at-loop = c .before .before .before .before .before .before in
-    let at-link = c .before .before in
-    linking-more _ _ (member _) _ _ _
-    (at-loop .loop .inv) _ (c .before .before .before .before .before .loop-test .taken) (at-link .link .kept .1 .1 .1 .0)
-    (at-link .link .ensures)
+    let link = c .before .before .link in
+    let turn = c .before .before .before .before .before in
+    linking-more (turn .before .loop .inv) (turn .loop-test .taken) (search needs) (link .ensures)
 
 same-length : tie.Need-same-length Inv-loop μ-loop
 same-length c = search needs
 
 returns : tie.Need-returns Inv-loop μ-loop
-returns c =
-    linking-all _ _ (member _) _ _ _
-    (c .before .loop .inv) (c .loop-test .left)
+returns c = linking-all (c .before .loop .inv) (c .loop-test .left)
 
 pub link-list-spec : {M : Type 1} → statement M
 link-list-spec =
