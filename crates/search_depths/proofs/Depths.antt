@@ -11,73 +11,83 @@ use lib.Seq.{take-at}
 use Rattle.model.specs.Basics.{none, upTo, gather}
 use Rattle.model.specs.Graph.{Edges, between, fewest, linked}
 use Rattle.model.specs.Survey.{Graph}
+use Rattle.model.specs.Tables.{rowsOf}
 use Rattle.model.proofs.Entries.{length-row}
 use Rattle.model.proofs.TableLaws.{all-allowed}
 use Rattle.model.proofs.Lists.{first-most}
 use Rattle.model.proofs.Loops.{drop-next}
-use Rattle.model.specs.Tables.{rowsOf}
 use Rattle.search_depths.specs.Depth.{greatest}
 
 -- ---- the greatest number
 
-pub greatest-append : (k l : List ℕ) → greatest (k ++ l) ≡ max (greatest k) (greatest l)
+greatest-append : (k l : List ℕ) → greatest (k ++ l) ≡ max (greatest k) (greatest l)
 unfolding greatest
 greatest-append [] l = omega arith
 greatest-append (x ∷ k) l = omega (arith, greatest-append k l)
 
 -- ---- the distances of all searches
 
-module _ (n : ℕ) (f : ℕ → ℕ → ℕ) where
-  module _ (bounded : (h v : ℕ) → f h v ≤ none) where
-    pub greatest-bounded : (hs : List ℕ) → greatest (rowsOf n f hs) ≤ none
-    unfolding rowsOf gather greatest
-    greatest-bounded [] = omega arith
-    greatest-bounded (h ∷ hs) = omega (arith, greatest-append (map (f h) (upTo n)) (rowsOf n f hs), row (upTo n), greatest-bounded hs)
-      where
-        row : (l : List ℕ) → greatest (map (f h) l) ≤ none
-        row [] = omega arith
-        row (x ∷ l) = omega (arith, bounded h x, row l)
+module _ (n : ℕ) (f : ℕ → ℕ → ℕ) (bounded : (h v : ℕ) → f h v ≤ none) where
+  pub greatest-bounded : (hs : List ℕ) → greatest (rowsOf n f hs) ≤ none
+  unfolding rowsOf gather greatest
+  greatest-bounded [] = omega arith
+  greatest-bounded (h ∷ hs) = omega (arith, greatest-append (map (f h) (upTo n)) (rowsOf n f hs), row (upTo n), greatest-bounded hs)
+    where
+      row : (l : List ℕ) → greatest (map (f h) l) ≤ none
+      row [] = omega arith
+      row (x ∷ l) = omega (arith, bounded h x, row l)
 
--- a distance is not above none
+-- no distance is above none
 pub fewest-small : (E : Edges) (n a b : ℕ) → n ≤ none → fewest E n a b ≤ none
 unfolding fewest
 fewest-small E n a b h = first-most _ none n h
 
 -- ---- loops: the greatest so far, and that of what is left, are the greatest of all
 
-pub row-turn : (row : List ℕ) (i most : ℕ) → i < length row → max most (greatest (drop i row)) ≡ greatest row
-    → max (max most (getD row i 0)) (greatest (drop (i + 1) row)) ≡ greatest row
-unfolding greatest
-row-turn row i most h e = omega (arith, e, ap greatest (drop-next row i h))
+pub record RowMost (row : List ℕ) (i most : ℕ) : Type 0 where
+  pub within : i ≤ length row
+  pub all : max most (greatest (drop i row)) ≡ greatest row
 
-pub row-end : (row : List ℕ) (i most : ℕ) → length row ≤ i → max most (greatest (drop i row)) ≡ greatest row → most ≡ greatest row
-unfolding greatest
-row-end row i most h e = omega (arith, e, ap greatest (drop-of-length-le row h))
+module _ {row : List ℕ} {i most : ℕ} (m : RowMost row i most) where
+  pub row-turn : i < length row → {most′ : ℕ} → most′ ≡ max most (getD row i 0) → RowMost row (i + 1) most′
+  unfolding greatest
+  row-turn h e = record { within = omega arith; all = omega (arith, ap greatest (drop-next row i h)) }
 
-module _ (n : ℕ) (f : ℕ → ℕ → ℕ) (hs : List ℕ) where
-  pub search-turn : (i most : ℕ) → i < length hs → max most (greatest (rowsOf n f (drop i hs))) ≡ greatest (rowsOf n f hs)
-      → max (max most (greatest (map (f (getD hs i 0)) (upTo n)))) (greatest (rowsOf n f (drop (i + 1) hs))) ≡ greatest (rowsOf n f hs)
+  pub row-end : length row ≤ i → most ≡ greatest row
+  unfolding greatest
+  row-end h = omega (arith, ap greatest (drop-of-length-le row h))
+
+-- the distances of all nodes from each source
+abbrev rows : ℕ → Graph → List ℕ → List ℕ
+rows n G hs = rowsOf n (fewest (linked n G) n) hs
+
+pub record SearchMost (n : ℕ) (G : Graph) (hs : List ℕ) (i most : ℕ) : Type 0 where
+  pub within : i ≤ length hs
+  pub all : max most (greatest (rows n G (drop i hs))) ≡ greatest (rows n G hs)
+
+module _ {n : ℕ} {G : Graph} {hs : List ℕ} {i most : ℕ} (m : SearchMost n G hs i most) where
+  pub search-turn : i < length hs → {deep most′ : ℕ} → deep ≡ greatest (map (fewest (linked n G) n (getD hs i 0)) (upTo n))
+      → most′ ≡ max most deep → SearchMost n G hs (i + 1) most′
   unfolding rowsOf gather
-  search-turn i most h e =
-      let row : List ℕ = map (f (getD hs i 0)) (upTo n) in
-      let next : rowsOf n f (drop i hs) ≡ row ++ rowsOf n f (drop (i + 1) hs) = ap (rowsOf n f) (drop-next hs i h) in
-      omega (arith, e, ap greatest next ∙ greatest-append row (rowsOf n f (drop (i + 1) hs)))
+  search-turn h e f =
+      let row : List ℕ = map (fewest (linked n G) n (getD hs i 0)) (upTo n) in
+      let next : rows n G (drop i hs) ≡ row ++ rows n G (drop (i + 1) hs) = ap (rows n G) (drop-next hs i h) in
+      record { within = omega arith; all = omega (arith, ap greatest next ∙ greatest-append row (rows n G (drop (i + 1) hs))) }
 
-  pub search-end : (i most : ℕ) → length hs ≤ i → max most (greatest (rowsOf n f (drop i hs))) ≡ greatest (rowsOf n f hs) → most ≡ greatest (rowsOf n f hs)
+  pub search-end : length hs ≤ i → most ≡ greatest (rows n G hs)
   unfolding rowsOf gather greatest
-  search-end i most h e = omega (arith, e, ap (λ (l : List ℕ). greatest (rowsOf n f l)) (drop-of-length-le hs h))
+  search-end h = omega (arith, ap (λ (l : List ℕ). greatest (rows n G l)) (drop-of-length-le hs h))
 
--- a node is missed: no other search says more
-pub search-none : (n : ℕ) (G : Graph) (hs : List ℕ) (i most : ℕ) → n ≤ 1024 → most ≡ none
-    → max most (greatest (rowsOf n (fewest (linked n G) n) (drop i hs))) ≡ greatest (rowsOf n (fewest (linked n G) n) hs)
-    → none ≡ greatest (rowsOf n (fewest (linked n G) n) hs)
-search-none n G hs i most size e h =
-    omega (arith, h, greatest-bounded n (fewest (linked n G) n) (λ a b. fewest-small (linked n G) n a b (omega arith)) (drop i hs))
+  -- once a node is missed, no other search finds a greater distance
+  pub search-none : n ≤ 1024 → most ≡ none → none ≡ greatest (rows n G hs)
+  search-none size e =
+      omega (arith, greatest-bounded n (fewest (linked n G) n) (λ a b. fewest-small (linked n G) n a b (omega arith)) (drop i hs))
 
--- what a search leaves in the front of a row
-pub row-searched : (n : ℕ) (G : Graph) (p : ℕ → Bool) → p ≡ (λ v. ltb v n) → (h : ℕ) (row part : List ℕ)
+-- ---- a search fills the front of the row
+
+pub row-searched : (n : ℕ) (G : Graph) {p : ℕ → Bool} → p ≡ (λ v. ltb v n) → (h : ℕ) (row : List ℕ) {part : List ℕ}
     → part ≡ map (fewest (between p (linked n G)) n h) (upTo n) → take n (part ++ drop n row) ≡ map (fewest (linked n G) n h) (upTo n)
-row-searched n G p e h row part q =
+row-searched n G {p} e h row {part} q =
     take-at part (drop n row) n (ap length q ∙ length-row (fewest (between p (linked n G)) n h) n)
     ∙ q
     ∙ ap (λ (E : Edges). map (fewest E n h) (upTo n)) (all-allowed p n G e)

@@ -31,11 +31,12 @@ fn row_depth(row: &[u16]) -> u16
     most
 }
 
-// The greatest distance from one of the sources to any node; none, and no further search, where a search misses a node.
+// The greatest distance from a source to a node. Once a search misses a node the answer is none, and no other source is searched.
 pub fn search_depth(n: usize, starts: &[u32], neighbours: &[u16], sources: &[u16]) -> u16
     requires { ⌜ Accepted n (now starts) (now neighbours) ⌝ }
     requires { ⌜ ((h : ℕ) → T (has h (now sources)) → h < n) ⌝ }
-    ensures { λ r. ⌜ r ≡ greatest (rowsOf n (fewest (linked n (neighboursOf (now (starts .entry)) (now (neighbours .entry)))) n) (now (sources .entry))) ⌝ }
+    ensures { λ r. ⌜ r ≡ greatest (rowsOf n (fewest (linked n (neighboursOf (now (starts .entry)) (now (neighbours .entry)))) n)
+        (now (sources .entry))) ⌝ }
 {
     let mut all = [0u64; 16];
     base_nodeset::insert_below(&mut all, n);

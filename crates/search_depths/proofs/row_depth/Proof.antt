@@ -1,17 +1,15 @@
 -- `search_depths::row_depth` meets its contract: the greatest so far, and that of what is left, are the greatest of all.
 -- Assumes nothing.
-use mathlib.Core.Path.{_≡_, sym, subst}
-use Prim.Native.Nat.{ℕ, _+_, _-_, _≤_, max}
-use native.Mathlib.Omega.{arith}
-use lib.ListN.{length, drop}
+use Prim.Native.Nat.{_-_}
+use lib.ListN.{length}
 use Rattle.search_depths.specs.Depth.{greatest}
-use Rattle.search_depths.proofs.Depths.{row-turn, row-end}
+use Rattle.search_depths.proofs.Depths.{RowMost, row-turn, row-end}
 use borrow.Author.Needs.{needs}
 use Rattle.search_depths.proofs.row_depth.Statement.{statement}
 use Rattle.search_depths.proofs.row_depth.Tie as tie
 
 abbrev Inv-loop : tie.InvT-loop
-Inv-loop row most₀ i₀ most i = (i ≤ length row) × (max most (greatest (drop i row)) ≡ greatest row)
+Inv-loop row most₀ i₀ most i = RowMost row i most
 
 abbrev μ-loop : tie.MeasureT-loop
 μ-loop row most₀ i₀ most i = length row - i
@@ -36,20 +34,11 @@ loop-less c = search needs
 
 loop-again : tie.Need-loop-again Inv-loop μ-loop
 loop-again c =
-    let start = c .before .before .before .before .before in
-    let at-loop = c .before .before .before in (
-      omega arith,
-      subst (λ (m : ℕ). max m (greatest (drop ((at-loop .loop .i) + 1) (start .args .row .now))) ≡ greatest
-          (start .args .row .now)) (sym (c .greater .ensures))
-          (row-turn _ _ _ (c .before .before .loop-test .taken)
-          (at-loop .loop .inv .1)),
-    )
+    let turn = c .before .before in
+    row-turn (turn .before .loop .inv) (turn .loop-test .taken) (c .greater .ensures)
 
 returns : tie.Need-returns Inv-loop μ-loop
-returns c =
-    let at-loop = c .before in
-    row-end _ _ _ (c .loop-test .left)
-    (at-loop .loop .inv .1)
+returns c = row-end (c .before .loop .inv) (c .loop-test .left)
 
 pub row-depth-spec : {M : Type 1} → statement M
 row-depth-spec =
