@@ -20,14 +20,18 @@ use Rattle.model.proofs.Loops.{below-next}
 use Rattle.model.proofs.Entries.{getD-row, length-row}
 use Rattle.model.proofs.Chains.{snoc, fewest-of, fewest-missing}
 use Rattle.search_queue.specs.Visiting.{Progress, unreached, joined, visited, visitedAll}
-use Rattle.search_queue.proofs.Visiting.{unreached-set}
+use Rattle.search_queue.proofs.Visiting.{unreached-set, some-unreached}
+
+-- the distance of a node
+abbrev pub away : Progress → ℕ → ℕ
+away p v = getD (p .row) v 0
 
 -- the node at index i of the queue, and its distance
 abbrev pub at : Progress → ℕ → ℕ
 at p i = getD (p .queue) i 0
 
 abbrev pub dist : Progress → ℕ → ℕ
-dist p i = getD (p .row) (at p i) 0
+dist p i = away p (at p i)
 
 -- a node is in the queue; and with a distance of at most d
 abbrev pub Queued : Progress → ℕ → Type 0
@@ -47,7 +51,7 @@ pub record Invariant (E : Edges) (s n : ℕ) (p : Progress) (head : ℕ) : Type 
   pub some : 0 < p .tail
   pub source : at p 0 ≡ s
   pub node : (i : ℕ) → i < p .tail → at p i < n
-  pub queued : (v : ℕ) → v < n → (getD (p .row) v 0 ≡ none → ⊥) → Queued p v
+  pub queued : (v : ℕ) → v < n → (away p v ≡ none → ⊥) → Queued p v
   -- the distances: small, each that of a chain, never falling along the queue, and at most one above that of a node not yet taken
   pub small : (i : ℕ) → i < p .tail → dist p i ≤ i
   pub chain : (i : ℕ) → i < p .tail → Chain E (dist p i) s (at p i)
@@ -56,7 +60,7 @@ pub record Invariant (E : Edges) (s n : ℕ) (p : Progress) (head : ℕ) : Type 
   -- each link of a node that was taken leads to a node of the queue, at most one further
   pub taken : (i w : ℕ) → i < head → i < p .tail → T (E (at p i) w) → Within p (dist p i + 1) w
 
--- q goes on from p: what was in the queue is there still, with its distance
+-- q goes on from p: the nodes of the queue are still there, with their distances
 pub record Grown (p q : Progress) : Type 0 where
   pub longer : p .tail ≤ q .tail
   pub same-at : (i : ℕ) → i < p .tail → at q i ≡ at p i
@@ -78,85 +82,90 @@ queued-grown g r = (r .0, le-trans (r .1) (g .longer), g .same-at (r .0) (r .1) 
 -- ---- a node without a distance, linked to the node at the head, joins the queue
 
 module _ {E : Edges} {s n : ℕ} {p : Progress} {head : ℕ} (S : Invariant E s n p head) (l : head < p .tail) (w : ℕ) (hw : w < n)
-    (new : getD (p .row) w 0 ≡ none) (t : T (E (at p head) w)) where
-  p′ : Progress
-  p′ = joined (dist p head + 1) w p
+    (new : away p w ≡ none) (t : T (E (at p head) w)) where
+  abbrev d : ℕ
+  d = dist p head + 1
+
+  abbrev p′ : Progress
+  p′ = joined d w p
+
+  in-row : w < length (p .row)
+  in-row = rw (S .row-length) hw
 
   room : p .tail < 1024
-  room = omega (arith, S .few, S .count, unreached-set (p .row) w 0 (rw (S .row-length) hw) new (λ e. omega arith))
+  room = omega (arith, S .few, S .count, some-unreached (p .row) w in-row new)
 
   other : (i : ℕ) → i < p .tail → at p i ≡ w → ⊥
-  other i h e = omega (arith, S .small i h, room, ap (λ (x : ℕ). getD (p .row) x 0) e ∙ new)
+  other i h e = omega (arith, S .small i h, room, ap (away p) e ∙ new)
 
+  -- the nodes that were in the queue, and their distances
   old-at : (i : ℕ) → i < p .tail → at p′ i ≡ at p i
-  unfolding p′
   old-at i h = getD-set-other (p .queue) (p .tail) i w 0 (λ e. omega arith)
 
   old-dist : (i : ℕ) → i < p .tail → dist p′ i ≡ dist p i
-  unfolding p′
-  old-dist i h = ap (λ (x : ℕ). getD (p′ .row) x 0) (old-at i h) ∙ getD-set-other (p .row) w (at p i) (dist p head + 1) 0 (other i h)
+  old-dist i h = ap (away p′) (old-at i h) ∙ getD-set-other (p .row) w (at p i) d 0 (other i h)
 
+  -- the node that joins it, with the greatest distance
   new-at : at p′ (p .tail) ≡ w
-  unfolding p′
   new-at = getD-set-same (p .queue) (p .tail) w 0 (omega (arith, S .queue-length, room))
 
-  new-dist : dist p′ (p .tail) ≡ dist p head + 1
-  unfolding p′
-  new-dist = ap (λ (x : ℕ). getD (p′ .row) x 0) new-at ∙ getD-set-same (p .row) w (dist p head + 1) 0 (rw (S .row-length) hw)
+  new-dist : dist p′ (p .tail) ≡ d
+  new-dist = ap (away p′) new-at ∙ getD-set-same (p .row) w d 0 in-row
 
-  join-grown : Grown p (joined (dist p head + 1) w p)
-  unfolding p′
+  new-greatest : (i : ℕ) → i < p .tail + 1 → dist p′ i ≤ dist p′ (p .tail)
+  new-greatest = below-next (λ (i : ℕ). dist p′ i ≤ dist p′ (p .tail)) (p .tail)
+      (λ i h. omega (arith, old-dist i h, new-dist, S .near head i (le-refl head) l h))
+      (le-refl (dist p′ (p .tail)))
+
+  join-grown : Grown p p′
   join-grown = record { longer = omega arith; same-at = old-at; same-dist = old-dist }
 
-  join-queued : Queued (joined (dist p head + 1) w p) w
-  unfolding p′
+  join-queued : Queued p′ w
   join-queued = (p .tail, omega arith, new-at)
 
   join-sorted : (i j : ℕ) → i ≤ j → j < p .tail + 1 → dist p′ i ≤ dist p′ j
   join-sorted i j h k =
       below-next (λ (y : ℕ). i ≤ y → dist p′ i ≤ dist p′ y) (p .tail)
       (λ y b a. omega (arith, old-dist i (omega arith), old-dist y b, S .sorted i y a b))
-      (λ a. below-next (λ (x : ℕ). dist p′ x ≤ dist p′ (p .tail)) (p .tail)
-      (λ x b. omega (arith, old-dist x b, new-dist, S .near head x (le-refl head) l b)) (le-refl (dist p′ (p .tail))) i (omega arith))
+      (λ a. new-greatest i (omega arith))
       j k h
 
   join-near : (i j : ℕ) → head ≤ i → i < p .tail + 1 → j < p .tail + 1 → dist p′ j ≤ dist p′ i + 1
   join-near i j h k m =
       below-next (λ (x : ℕ). head ≤ x → dist p′ j ≤ dist p′ x + 1) (p .tail)
-      (λ x a hx. below-next (λ (y : ℕ). dist p′ y ≤ dist p′ x + 1) (p .tail)
-      (λ y b. omega (arith, old-dist x a, old-dist y b, S .near x y hx a b))
-      (omega (arith, old-dist x a, new-dist, S .sorted head x hx a)) j m)
-      (λ hx. below-next (λ (y : ℕ). dist p′ y ≤ dist p′ (p .tail) + 1) (p .tail)
-      (λ y b. omega (arith, old-dist y b, new-dist, S .near head y (le-refl head) l b))
-      (omega arith) j m)
+      (λ x a g. below-next (λ (y : ℕ). dist p′ y ≤ dist p′ x + 1) (p .tail)
+      (λ y b. omega (arith, old-dist x a, old-dist y b, S .near x y g a b))
+      (omega (arith, old-dist x a, new-dist, S .sorted head x g a))
+      j m)
+      (λ g. omega (arith, new-greatest j m))
       i k h
 
-  join-all : (v : ℕ) → v < n → (getD (p′ .row) v 0 ≡ none → ⊥) → Queued p′ v
-  unfolding p′
+  join-all : (v : ℕ) → v < n → (away p′ v ≡ none → ⊥) → Queued p′ v
   join-all v h f = go (eq-or v w)
     where
       go : (v ≡ w) ⊎ (v ≡ w → ⊥) → Queued p′ v
       go (inl e) = (p .tail, omega arith, new-at ∙ sym e)
-      go (inr k) = queued-grown join-grown (S .queued v h (λ e. f (getD-set-other (p .row) w v (dist p head + 1) 0 k ∙ e)))
+      go (inr k) = queued-grown join-grown (S .queued v h (λ e. f (getD-set-other (p .row) w v d 0 k ∙ e)))
 
-  join-taken : (i x : ℕ) → i < head → T (E (at p′ i) x) → (j : ℕ) × (j < p .tail + 1) × (at p′ j ≡ x) × (dist p′ j ≤ dist p′ i + 1)
+  join-taken : (i x : ℕ) → i < head → T (E (at p′ i) x) → Within p′ (dist p′ i + 1) x
   join-taken i x h u =
       let a : i < p .tail = omega arith in
       let r = S .taken i x h a (rw (old-at i a) at u) in
       (r .0, omega (arith, r .1), old-at (r .0) (r .1) ∙ r .2, omega (arith, old-dist (r .0) (r .1), old-dist i a, r .3))
 
-  join : Invariant E s n (joined (dist p head + 1) w p) head
-  unfolding p′
+  join : Invariant E s n p′ head
   join = record {
     few = S .few;
-    row-length = length-set (p .row) w (dist p head + 1) ∙ S .row-length;
+    row-length = length-set (p .row) w d ∙ S .row-length;
     queue-length = length-set (p .queue) (p .tail) w ∙ S .queue-length;
-    count = omega (arith, S .count, unreached-set (p .row) w (dist p head + 1) (rw (S .row-length) hw) new (λ e. omega (arith, S .small head l, room)));
+    count = omega (arith, S .count, unreached-set (p .row) w d in-row new (λ e. omega (arith, S .small head l, room)));
     some = omega arith;
     source = old-at 0 (S .some) ∙ S .source;
     node = below-next (λ (i : ℕ). at p′ i < n) (p .tail) (λ i h. rw (old-at i h) (S .node i h)) (rw new-at hw);
     queued = join-all;
-    small = below-next (λ (i : ℕ). dist p′ i ≤ i) (p .tail) (λ i h. rw (old-dist i h) (S .small i h)) (omega (arith, new-dist, S .small head l));
+    small =
+        below-next (λ (i : ℕ). dist p′ i ≤ i) (p .tail) (λ i h. rw (old-dist i h) (S .small i h))
+        (omega (arith, new-dist, S .small head l));
     chain =
         below-next (λ (i : ℕ). Chain E (dist p′ i) s (at p′ i)) (p .tail)
         (λ i h. subst₂ (λ (k x : ℕ). Chain E k s x) (sym (old-dist i h)) (sym (old-at i h)) (S .chain i h))
@@ -173,22 +182,23 @@ pub record Kept (E : Edges) (s n : ℕ) (allowed : ℕ → Bool) (p : Progress) 
   pub grown : Grown p q
   pub found : (w : ℕ) → T (has w ws) → T (allowed w) → Queued q w
 
-module _ {E : Edges} {s n : ℕ} {head : ℕ} (allowed : ℕ → Bool) where
-  one : (p : Progress) (d w : ℕ) → Invariant E s n p head → head < p .tail → d ≡ dist p head + 1 → w < n → (T (allowed w) → T (E (at p head) w))
-      → Kept E s n allowed p head (w ∷ []) (visited allowed d w p)
+module _ {E : Edges} {s n head : ℕ} (allowed : ℕ → Bool) where
+  one : (p : Progress) (d w : ℕ) → Invariant E s n p head → head < p .tail → d ≡ dist p head + 1 → w < n
+      → (T (allowed w) → T (E (at p head) w)) → Kept E s n allowed p head (w ∷ []) (visited allowed d w p)
   unfolding visited
-  one p d w S l e hw ok = go (eqb (getD (p .row) w 0) none) (allowed w) refl refl ok
+  one p d w S l e hw ok = go (eqb (away p w) none) (allowed w) refl refl ok
     where
       only : (q : Progress) → (T (allowed w) → Queued q w) → (x : ℕ) → T (has x (w ∷ [])) → T (allowed x) → Queued q x
       only q f x m = subst (λ (y : ℕ). T (allowed y) → Queued q y) (sym (of-single x w m)) f
 
-      go : (a b : Bool) → eqb (getD (p .row) w 0) none ≡ a → allowed w ≡ b → (T b → T (E (at p head) w))
+      go : (a b : Bool) → eqb (away p w) none ≡ a → allowed w ≡ b → (T b → T (E (at p head) w))
           → Kept E s n allowed p head (w ∷ []) (if a && b then joined d w p else p)
       go true true g h ok =
-          let new = eqb-true (getD (p .row) w 0) none g in
-          rw e (record { inv = join S l w hw new (ok tt); grown = join-grown S l w hw new (ok tt); found = only (joined (dist p head + 1) w p) (λ u. join-queued S l w hw new (ok tt)) })
+          let new = eqb-true (away p w) none g in
+          let queued = only (joined (dist p head + 1) w p) (λ u. join-queued S l w hw new (ok tt)) in
+          rw e (record { inv = join S l w hw new (ok tt); grown = join-grown S l w hw new (ok tt); found = queued })
       go true false g h ok = record { inv = S; grown = grown-refl p; found = only p (λ u. absurd (subst T h u)) }
-      go false b g h ok = record { inv = S; grown = grown-refl p; found = only p (λ u. S .queued w hw (eqb-false (getD (p .row) w 0) none g)) }
+      go false b g h ok = record { inv = S; grown = grown-refl p; found = only p (λ u. S .queued w hw (eqb-false (away p w) none g)) }
 
   pub all-keep : (ws : List ℕ) (p : Progress) (d : ℕ) → Invariant E s n p head → head < p .tail → d ≡ dist p head + 1
       → ((w : ℕ) → T (has w ws) → (w < n) × (T (allowed w) → T (E (at p head) w)))
@@ -198,19 +208,20 @@ module _ {E : Edges} {s n : ℕ} {head : ℕ} (allowed : ℕ → Bool) where
   all-keep (w ∷ ws) p d S l e ok =
       let o = ok w (has-head w ws) in
       let a = one p d w S l e (o .0) (o .1) in
-      let b = all-keep ws (visited allowed d w p) d (a .inv) (omega (arith, a .grown .longer)) (e ∙ ap (λ (x : ℕ). x + 1) (sym (a .grown .same-dist head l)))
+      let b = all-keep ws (visited allowed d w p) d (a .inv) (omega (arith, a .grown .longer)) (omega (arith, a .grown .same-dist head l))
       (λ x h. (ok x (has-tail x w ws h) .0, λ u. rw (a .grown .same-at head l) (ok x (has-tail x w ws h) .1 u))) in
       record { inv = b .inv; grown = grown-trans (a .grown) (b .grown); found = λ x h u. go x a b (of-cons x w ws h) u }
     where
-      go : {q r : Progress} (x : ℕ) → Kept E s n allowed p head (w ∷ []) q → Kept E s n allowed q head ws r → (x ≡ w) ⊎ T (has x ws) → T (allowed x) → Queued r x
+      go : {q r : Progress} (x : ℕ) → Kept E s n allowed p head (w ∷ []) q → Kept E s n allowed q head ws r
+          → (x ≡ w) ⊎ T (has x ws) → T (allowed x) → Queued r x
       go x a b (inl e) u = queued-grown (b .grown) (a .found x (subst (λ (y : ℕ). T (has y (w ∷ []))) (sym e) (has-head w [])) u)
       go x a b (inr m) u = b .found x m u
 
--- ---- the head moves on, once each link of its node leads to a node of the queue
+-- ---- the head moves on, once each link of the nodes that it passes leads to a node of the queue
 
-pub advance : {E : Edges} {s n : ℕ} {p : Progress} {head : ℕ} → Invariant E s n p head → head < p .tail
-    → ((w : ℕ) → T (E (at p head) w) → Queued p w) → Invariant E s n p (head + 1)
-advance {E} {s} {n} {p} {head} S l all = record {
+pub advance : {E : Edges} {s n : ℕ} {p : Progress} {head : ℕ} → Invariant E s n p head → (head′ : ℕ) → head ≤ head′
+    → ((i w : ℕ) → head ≤ i → i < head′ → i < p .tail → T (E (at p i) w) → Queued p w) → Invariant E s n p head′
+advance {head = head} S head′ l all = record {
   few = S .few;
   row-length = S .row-length;
   queue-length = S .queue-length;
@@ -223,31 +234,10 @@ advance {E} {s} {n} {p} {head} S l all = record {
   chain = S .chain;
   sorted = S .sorted;
   near = λ i j h. S .near i j (omega arith);
-  taken = λ i w h. below-next (λ (i : ℕ). i < p .tail → T (E (at p i) w) → Within p (dist p i + 1) w) head
-      (λ i a. S .taken i w a)
-      (λ k t. let r = all w t in (r .0, r .1, r .2, S .near head (r .0) (le-refl head) k (r .1)))
-      i h;
-}
-
--- the head moves to the queue's end, once the links of all its nodes lead to nodes of the queue
-
-pub finish : {E : Edges} {s n : ℕ} {p : Progress} {head : ℕ} → Invariant E s n p head
-    → ((i w : ℕ) → i < p .tail → T (E (at p i) w) → Queued p w) → Invariant E s n p (p .tail)
-finish {E} {s} {n} {p} {head} S all = record {
-  few = S .few;
-  row-length = S .row-length;
-  queue-length = S .queue-length;
-  count = S .count;
-  some = S .some;
-  source = S .source;
-  node = S .node;
-  queued = S .queued;
-  small = S .small;
-  chain = S .chain;
-  sorted = S .sorted;
-  near = λ i j h k. absurd (omega arith);
-  taken = λ i w h k t.
-      ⊎-elim (λ b. S .taken i w b k t) (λ b. let r = all i w k t in (r .0, r .1, r .2, S .near i (r .0) b k (r .1))) (lt-or i head);
+  taken = λ i w h k t. ⊎-elim
+      (λ b. S .taken i w b k t)
+      (λ b. let r = all i w b h k t in (r .0, r .1, r .2, S .near i (r .0) b k (r .1)))
+      (lt-or i head);
 }
 
 -- ---- the end: every node of the queue was taken
@@ -264,23 +254,25 @@ module _ {E : Edges} {s n : ℕ} {p : Progress} {head : ℕ} (S : Invariant E s 
   from-source : {k v : ℕ} → Chain E k s v → Within p k v
   from-source r = let z = along r 0 (S .some) (S .source) in (z .0, z .1, z .2, omega (arith, z .3, S .small 0 (S .some)))
 
-  unreached-apart : (v : ℕ) → getD (p .row) v 0 ≡ none → Unjoined E s v
+  unreached-apart : (v : ℕ) → away p v ≡ none → Unjoined E s v
   unreached-apart v e k r =
       let z = from-source r in
-      omega (arith, S .few, S .count, S .small (z .0) (z .1), z .1, ap (λ (x : ℕ). getD (p .row) x 0) (z .2) ∙ e)
+      omega (arith, S .few, S .count, S .small (z .0) (z .1), z .1, ap (away p) (z .2) ∙ e)
 
-  reached-fewest : (v : ℕ) → Queued p v → Fewest E s v (getD (p .row) v 0)
+  reached-fewest : (v : ℕ) → Queued p v → Fewest E s v (away p v)
   reached-fewest v r =
-      let e : dist p (r .0) ≡ getD (p .row) v 0 = ap (λ (x : ℕ). getD (p .row) x 0) (r .2) in (
+      let e : dist p (r .0) ≡ away p v = ap (away p) (r .2) in (
         subst₂ (λ (d x : ℕ). Chain E d s x) e (r .2) (S .chain (r .0) (r .1)),
-        λ k c. let z = from-source c in omega (arith, z .3, ap (λ (x : ℕ). getD (p .row) x 0) (z .2)),
+        λ k c. let z = from-source c in omega (arith, z .3, ap (away p) (z .2)),
       )
 
   pub distances : ((u v : ℕ) → u < n → T (E u v) → v < n) → s < n → p .row ≡ map (fewest E n s) (upTo n)
   distances ends hs =
       ext-getD 0 (p .row) (map (fewest E n s) (upTo n)) (S .row-length ∙ sym (length-row (fewest E n s) n))
-      (λ v h. let b : v < n = omega (arith, S .row-length) in go v b (eq-or (getD (p .row) v 0) none) ∙ sym (getD-row (fewest E n s) n v 0 b))
+      (λ v h.
+      let b : v < n = omega (arith, S .row-length) in
+      go v b (eq-or (away p v) none) ∙ sym (getD-row (fewest E n s) n v 0 b))
     where
-      go : (v : ℕ) → v < n → (getD (p .row) v 0 ≡ none) ⊎ (getD (p .row) v 0 ≡ none → ⊥) → getD (p .row) v 0 ≡ fewest E n s v
+      go : (v : ℕ) → v < n → (away p v ≡ none) ⊎ (away p v ≡ none → ⊥) → away p v ≡ fewest E n s v
       go v b (inl e) = e ∙ sym (fewest-missing E n s ends hs v (unreached-apart v e))
-      go v b (inr f) = sym (fewest-of E n s ends hs v (getD (p .row) v 0) (reached-fewest v (S .queued v b f)))
+      go v b (inr f) = sym (fewest-of E n s ends hs v (away p v) (reached-fewest v (S .queued v b f)))

@@ -11,7 +11,7 @@ ghost use Rattle.model.specs.Graph.{between, fewest, linked};
 ghost use Rattle.model.specs.Survey.{neighboursOf, Accepted};
 ghost use Rattle.base_nodeset.specs.NodeSet.{member};
 
-// Breadth-first search from a node through allowed nodes only, into a row: the fewest links to each node, or none.
+// Breadth-first search from `source` through allowed nodes only. The row gets the fewest links to each node, or none.
 pub fn search(
     n: usize,
     starts: &[u32],
@@ -22,7 +22,8 @@ pub fn search(
 )
     requires { ⌜ Accepted n (now starts) (now neighbours) × (length (now allowed) ≡ 16) ⌝ }
     requires { ⌜ (source < n) × T (member (now allowed) source) × (length (now row) ≡ n) ⌝ }
-    ensures { λ _. ⌜ now (row .exit) ≡ map (fewest (between (member (now (allowed .entry))) (linked n (neighboursOf (now (starts .entry)) (now (neighbours .entry))))) n source) (upTo n) ⌝ }
+    ensures { λ _. ⌜ now (row .exit) ≡ map (fewest (between (member (now (allowed .entry)))
+        (linked n (neighboursOf (now (starts .entry)) (now (neighbours .entry))))) n source) (upTo n) ⌝ }
 {
     base_lists::fill16(row, NONE);
     row[source] = 0;
@@ -41,7 +42,7 @@ pub fn search(
     }
 }
 
-// The same into row `source` of a table of n rows of n entries: a part of the table that starts in its middle.
+// The same into row `source` of a table of n rows of n entries each.
 pub fn search_row(
     n: usize,
     starts: &[u32],
@@ -52,7 +53,8 @@ pub fn search_row(
 )
     requires { ⌜ Accepted n (now starts) (now neighbours) × (length (now allowed) ≡ 16) ⌝ }
     requires { ⌜ (source < n) × T (member (now allowed) source) × (n * n ≤ length (now table)) ⌝ }
-    ensures { λ _. ⌜ now (table .exit) ≡ written (now (table .entry)) (source * n) (map (fewest (between (member (now (allowed .entry))) (linked n (neighboursOf (now (starts .entry)) (now (neighbours .entry))))) n source) (upTo n)) ⌝ }
+    ensures { λ _. ⌜ now (table .exit) ≡ written (now (table .entry)) (source * n) (map (fewest (between (member (now (allowed .entry)))
+        (linked n (neighboursOf (now (starts .entry)) (now (neighbours .entry))))) n source) (upTo n)) ⌝ }
 {
     let a = source * n;
     let e = a + n;

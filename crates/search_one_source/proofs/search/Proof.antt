@@ -1,25 +1,25 @@
--- `search_one_source::search` meets its contract. The loop's invariant is that of breadth-first search; each turn takes one node, so n - head falls.
+-- `search_one_source::search` meets its contract. The loop's invariant is that of breadth-first search. Each turn takes a node from the
+-- queue, so n - head falls.
 -- Assumes nothing.
-use mathlib.Core.Path.{_≡_, refl, sym, ap, _∙_}
+use mathlib.Core.Path.{refl, ap, _∙_}
 use mathlib.Core.Logic.{⊎-elim}
-use Prim.Native.Nat.{ℕ, _+_, _-_}
+use Prim.Native.Nat.{ℕ, _-_, _≤_, _<_}
 use native.Mathlib.Omega.{arith}
-use lib.ListN.{length, replicate}
+use lib.ListN.{getD, replicate}
 use borrow.Author.Needs.{needs}
 use Rattle.model.specs.Basics.{none}
-use Rattle.model.specs.Graph.{between, linked}
 use Rattle.model.specs.Survey.{neighboursOf}
 use Rattle.base_nodeset.specs.NodeSet.{member}
 use Rattle.survey_neighbours.proofs.RowLaws.{rows-of}
-use Rattle.search_queue.specs.Visiting.{progress, Unvisited}
+use Rattle.search_queue.specs.Visiting.{progress}
 use Rattle.search_queue.proofs.Visiting.{longer}
-use Rattle.search_one_source.proofs.Bfs.{Invariant}
-use Rattle.search_one_source.proofs.QueueTurns.{search-start, own-below, search-turn, search-next, search-end}
+use Rattle.search_one_source.proofs.QueueTurns.{Searching, search-start, own-below, search-turn, search-end}
 use Rattle.search_one_source.proofs.search.Statement.{statement}
 use Rattle.search_one_source.proofs.search.Tie as tie
 
 abbrev Inv-loop : tie.InvT-loop
-Inv-loop n starts neighbours allowed source row₀ unvisited₀ queue₀ head₀ tail₀ row unvisited queue head tail = Invariant (between (member allowed) (linked n (neighboursOf starts neighbours))) source n (progress row queue tail) head × (length unvisited ≡ 16) × Unvisited (member allowed) (member unvisited) row
+Inv-loop n starts neighbours allowed source row₀ unvisited₀ queue₀ head₀ tail₀ row unvisited queue head tail =
+    Searching n (neighboursOf starts neighbours) (member allowed) source (progress row queue tail) unvisited head
 
 abbrev μ-loop : tie.MeasureT-loop
 μ-loop n starts neighbours allowed source row₀ unvisited₀ queue₀ head₀ tail₀ row unvisited queue head tail = n - head
@@ -47,14 +47,25 @@ array-write-queue c = search needs
 
 loop-holds : tie.Need-loop-holds Inv-loop μ-loop
 loop-holds c =
-    let start = c .before .before .before .before .before .before .before .before .before .before .before in
-    let at-fill16 = c .before .before .before .before .before in
-    let at-unvisited-nodes = c .before in (
-      search-start _ _ _ (start .pre .0 .0 .size) (start .pre .1 .0) _ refl refl _
-          ((at-fill16 .fill16 .ensures) ∙ ap (λ (k : ℕ). replicate k none) (start .pre .1 .2)),
-      (at-unvisited-nodes .unvisited-nodes .kept .1 .1 .1 .0),
-      rw ((at-fill16 .fill16 .ensures) ∙ ap (λ (k : ℕ). replicate k none) (start .pre .1 .2)) (at-unvisited-nodes .unvisited-nodes .ensures),
-    )
+    let unvisited-nodes = c .before .unvisited-nodes in
+    let fill16 = c .before .before .before .before .before in
+    let pre = fill16 .before .before .before .before .before .before .pre in
+    let filled = fill16 .fill16 .ensures ∙ ap (λ (k : ℕ). replicate k none) (pre .1 .2) in
+    search-start (pre .0 .0 .size) (pre .1 .0) refl refl filled (search needs) (unvisited-nodes .ensures)
+
+-- the node that a turn takes from the queue, and its distance
+module _ (c : tie.In-loop Inv-loop μ-loop) where
+  abbrev start : tie.Start Inv-loop μ-loop
+  start = c .before .before .before .before .before .before .before .before .before .before .before .before .before
+
+  abbrev v : ℕ
+  v = getD (c .before .loop .queue) (c .before .loop .head) 0
+
+  v-below : v < start .args .n
+  v-below = c .before .loop .inv .bfs .node _ (c .loop-test .taken)
+
+  near : getD (c .before .loop .row) v 0 ≤ c .before .loop .head
+  near = c .before .loop .inv .bfs .small _ (c .loop-test .taken)
 
 mul-v : tie.Need-mul-v Inv-loop μ-loop
 mul-v c = search needs
@@ -63,109 +74,60 @@ array-read-v : tie.Need-array-read-v Inv-loop μ-loop
 array-read-v c = search needs
 
 cast-v : tie.Need-cast-v Inv-loop μ-loop
-cast-v c =
-    let at-loop = c .before in
-    omega (
-      arith,
-      ((at-loop .loop .inv .0 .node) _ (c .loop-test .taken)),
-    )
+cast-v c = omega (arith, v-below c)
 
 mul-d : tie.Need-mul-d Inv-loop μ-loop
-mul-d c =
-    let at-loop = c .before in
-    omega (
-      arith,
-      ((at-loop .loop .inv .0 .node) _ (c .loop-test .taken)),
-    )
+mul-d c = omega (arith, v-below c)
 
 slice-read-d : tie.Need-slice-read-d Inv-loop μ-loop
-slice-read-d c =
-    let at-loop = c .before .before in
-    omega (
-      arith,
-      ((at-loop .loop .inv .0 .node) _ (c .before .loop-test .taken)),
-    )
+slice-read-d c = omega (arith, v-below (c .before))
 
 add-d : tie.Need-add-d Inv-loop μ-loop
-add-d c =
-    let at-loop = c .before .before in
-    let at-loop-test = c .before in
-    omega (
-      arith,
-      (at-loop .loop .inv .0 .small) _ (at-loop-test .loop-test .taken),
-    )
+add-d c = omega (arith, near (c .before))
 
 own-requires : tie.Need-own-requires Inv-loop μ-loop
-own-requires c κs =
-    let start = c .before .before .before .before .before .before .before .before .before .before .before .before .before .before in
-    let at-loop = c .before .before in
-    (rows-of (start .pre .0 .0), ((at-loop .loop .inv .0 .node) _ (c .before .loop-test .taken)))
+own-requires c κs = (rows-of (start (c .before) .pre .0 .0), v-below (c .before))
 
 slice-aggregate-visit-all : tie.Need-slice-aggregate-visit-all Inv-loop μ-loop
 slice-aggregate-visit-all c = search needs
 
 visit-all-requires : tie.Need-visit-all-requires Inv-loop μ-loop
 visit-all-requires c κs =
-    let start = c .before .before .before .before .before .before .before .before .before .before .before .before .before .before .before .before .before .before in
-    let at-loop = c .before .before .before .before .before .before in
-    let at-loop-test = c .before .before .before .before .before in (
-      (
-        own-below (member _) _
-            (neighboursOf _ _) _ _ _ (at-loop .loop .inv .0)
-            (at-loop-test .loop-test .taken) (start .pre .0 .0 .lists .graph) _ (c .before .before .before .own .ensures),
-        omega (
-          arith,
-          (at-loop .loop .inv .0 .small) _ (at-loop-test .loop-test .taken),
-        ),
-      ),
-      (
-        (
-          omega arith,
-          (at-loop .loop .inv .0 .count) ∙ sym (at-loop .loop .inv .0 .row-length),
-        ),
-        ((at-loop .loop .inv .1), (at-loop .loop .inv .2)),
-      ),
-    )
+    let own = c .before .before .before .own in
+    let turn = c .before .before .before .before .before in
+    let S = turn .before .loop .inv in
+    let below = own-below S (turn .loop-test .taken) (start turn .pre .0 .0 .lists .graph) (own .ensures) in
+    ((below, omega (arith, near turn)), ((omega arith, search needs), (S .words, S .unvisited)))
+
+-- once the neighbours are visited
+module _ (c : tie.After-visit-all Inv-loop μ-loop) where
+  abbrev turn : tie.In-loop Inv-loop μ-loop
+  turn = c .before .before .before .before .before .before
+
+  queue-longer : turn .before .loop .tail ≤ c .visit-all .result
+  queue-longer = longer _ _ _ _ (c .visit-all .ensures .0)
 
 slice-aggregate-next-place : tie.Need-slice-aggregate-next-place Inv-loop μ-loop
 slice-aggregate-next-place c = search needs
 
 next-place-requires : tie.Need-next-place-requires Inv-loop μ-loop
 next-place-requires c κs =
-    let start = c .before .before .before .before .before .before .before .before .before .before .before .before .before .before .before .before .before .before .before .before .before .before .before in
-    let at-loop = c .before .before .before .before .before .before .before .before .before .before .before in
-    let at-visit-all = c .before .before .before .before in (
-      (start .pre .0 .0 .size),
-      ((at-visit-all .visit-all .kept .1 .1 .1 .0) ∙ (at-loop .loop .inv .1)),
-      omega
-          (arith, longer _ _ _ _ (at-visit-all .visit-all .ensures .0)),
-    )
+    let visited = c .before .before .before .before in
+    (start (turn visited) .pre .0 .0 .size, search needs, omega (arith, queue-longer visited))
 
 loop-less : tie.Need-loop-less Inv-loop μ-loop
 loop-less c =
-    ⊎-elim (λ e. omega arith)
-    (λ r. omega (
-      arith,
-      longer _ _ _ _
-          (c .before .before .before .before .before .visit-all .ensures .0),
-    )) (c .next-place .ensures)
+    let longer = queue-longer (c .before .before .before .before .before) in
+    ⊎-elim (λ e. omega arith) (λ r. omega arith) (c .next-place .ensures)
 
 loop-again : tie.Need-loop-again Inv-loop μ-loop
 loop-again c =
-    let start = c .before .before .before .before .before .before .before .before .before .before .before .before .before .before .before .before .before .before .before .before .before .before .before .before in
-    let at-loop = c .before .before .before .before .before .before .before .before .before .before .before .before in
-    let at-loop-test = c .before .before .before .before .before .before .before .before .before .before .before in
-    let at-own = c .before .before .before .before .before .before .before .before .before in
-    let at-visit-all = c .before .before .before .before .before in (
-      search-next (member _) _
-          (neighboursOf _ _) _ _ (_ + 1)
-          (search-turn (member _) _
-          (neighboursOf _ _) _ _ _ (at-loop .loop .inv .0)
-          (at-loop-test .loop-test .taken) (start .pre .0 .0 .lists .graph) _ (at-own .own .ensures) (start .pre .1 .1) _
-          (at-visit-all .visit-all .ensures .0)) _ _ refl _ (at-visit-all .visit-all .ensures .1) (c .next-place .ensures),
-      ((at-visit-all .visit-all .kept .1 .1 .1 .0) ∙ (at-loop .loop .inv .1)),
-      (at-visit-all .visit-all .ensures .1),
-    )
+    let visited = c .before .before .before .before .before in
+    let own = visited .before .before .before .before .own in
+    let turn = turn visited in
+    let pre = start turn .pre in
+    search-turn (turn .before .loop .inv) (turn .loop-test .taken) (pre .0 .0 .lists .graph) (own .ensures) (pre .1 .1)
+    (visited .visit-all .ensures .0) (search needs) (visited .visit-all .ensures .1) (c .next-place .ensures)
 
 same-length : tie.Need-same-length Inv-loop μ-loop
 same-length c = search needs
@@ -173,9 +135,7 @@ same-length c = search needs
 returns : tie.Need-returns Inv-loop μ-loop
 returns c =
     let start = c .before .before .before .before .before .before .before .before .before .before .before .before .before in
-    search-end (member _) _
-    (neighboursOf _ _) _ _ _ (c .before .loop .inv .0) (c .loop-test .left)
-    (start .pre .1 .0)
+    search-end (c .before .loop .inv) (c .loop-test .left) (start .pre .1 .0)
 
 pub search-spec : {M : Type 1} → statement M
 search-spec =

@@ -1,17 +1,18 @@
 -- `search_one_source::search_row` meets its contract: the part that is lent is the row.
 -- Assumes nothing.
-use mathlib.Core.Path.{_∙_}
+use mathlib.Core.Path.{ap, _∙_}
 use Prim.Native.Nat.{_+_, _*_, _≤_}
 use native.Mathlib.Omega.{arith}
 use lib.ListN.{length}
+use Rattle.model.proofs.Entries.{length-row}
 use Rattle.base_lists.proofs.TableRows.{row-ends, mid-length, row-put}
 use borrow.Author.Needs.{needs}
 use Rattle.search_one_source.proofs.search_row.Statement.{statement}
 use Rattle.search_one_source.proofs.search_row.Tie as tie
 
 -- the row ends within the table
-fits : (s : tie.Start) → s .args .source * s .args .n + s .args .n ≤ length (s .args .table .now)
-fits s = row-ends (s .args .n) (s .args .source) (s .args .table .now) (s .pre .1 .0) (s .pre .1 .2)
+fits : (c : tie.Start) → c .args .source * c .args .n + c .args .n ≤ length (c .args .table .now)
+fits c = row-ends _ _ (c .args .table .now) (c .pre .1 .0) (c .pre .1 .2)
 
 mul-a : tie.Need-mul-a
 mul-a c = omega (arith, fits (c .before .before .before .before))
@@ -32,18 +33,15 @@ part-search-end : tie.Need-part-search-end
 part-search-end c = omega (arith, fits (c .before .before .before .before))
 
 search-requires : tie.Need-search-requires
-search-requires c κs = let s = c .before .before .before .before .before
-    in (s .pre .0, (omega arith, s .pre .1 .1, mid-length _ (s .args .n) _ (omega (arith, fits s))))
+search-requires c κs =
+    let start = c .before .before .before .before .before in
+    (start .pre .0, (start .pre .1 .0, start .pre .1 .1, mid-length _ (start .args .n) _ (omega (arith, fits start))))
 
 same-length : tie.Need-same-length
 same-length c = search needs
 
 returns : tie.Need-returns
-returns c =
-    let s = c .before .before .before .before .before .before .before .before in
-    let r = c .before .before .search in
-    row-put _ _ _ _ _
-    (r .kept .1 .1 .1 .1 .1 .0 ∙ mid-length _ (s .args .n) _ (omega (arith, fits s))) (r .ensures)
+returns c = let search = c .before .before .search in row-put _ _ _ _ _ (ap length (search .ensures) ∙ length-row _ _) (search .ensures)
 
 pub search-row-spec : {M : Type 1} → statement M
 search-row-spec =
