@@ -22,7 +22,7 @@ use Rattle.search_by_words.specs.Marks.{marked}
 
 -- ---- a row in which the nodes of a list are marked
 
-pub marked-append : (d : ℕ) (k l row : List ℕ) → marked d (k ++ l) row ≡ marked d l (marked d k row)
+marked-append : (d : ℕ) (k l row : List ℕ) → marked d (k ++ l) row ≡ marked d l (marked d k row)
 unfolding marked
 marked-append d [] l row = refl
 marked-append d (v ∷ k) l row = marked-append d k l (set row v d)
@@ -53,99 +53,99 @@ marked-in d (v ∷ l) row x h t = at (passes (has x l)) (marked-in d l (set row 
 
 -- ---- the bits of a word: those marked, and those that are left
 
+-- the nodes that are linked from one of a list
+abbrev pub nextTo : Edges → List ℕ → Nodes
+nextTo E l x = any (λ v. E v x) l
+
+abbrev bits : (base word : ℕ) → List ℕ
+bits base word = membersFrom 64 base word
+
 pub record Marking (E : Edges) (base word d : ℕ) (row₀ f₀ row f : List ℕ) (left : ℕ) : Type 0 where
   pub small : left < 2 ^ 64
   pub same : length row ≡ length row₀
   pub long : length f ≡ 16
-  pub inside : (v : ℕ) → T (has v (membersFrom 64 base left)) → v < length row₀
-  pub marks : marked d (membersFrom 64 base left) row ≡ marked d (membersFrom 64 base word) row₀
-  pub finds : (x : ℕ) → (any (λ v. E v x) (membersFrom 64 base left) || member f x) ≡ (any (λ v. E v x) (membersFrom 64 base word) || member f₀ x)
+  pub inside : (v : ℕ) → T (has v (bits base left)) → v < length row₀
+  pub marks : marked d (bits base left) row ≡ marked d (bits base word) row₀
+  pub finds : (x : ℕ) → (nextTo E (bits base left) x || member f x) ≡ (nextTo E (bits base word) x || member f₀ x)
 
-module _ (E : Edges) (base word d : ℕ) (row₀ f₀ : List ℕ) where
-  pub marking-none : word < 2 ^ 64 → length f₀ ≡ 16 → ((v : ℕ) → T (has v (membersFrom 64 base word)) → v < length row₀) → Marking E base word d row₀ f₀ row₀ f₀ word
-  marking-none h l i = record { small = h; same = refl; long = l; inside = i; marks = refl; finds = λ x. refl }
+module _ {E : Edges} {base word d : ℕ} {row₀ f₀ row f : List ℕ} {left : ℕ} (m : Marking E base word d row₀ f₀ row f left) where
+  -- no bit is left
+  pub marking-all : left ≡ 0
+      → (row ≡ marked d (bits base word) row₀) × (member f ≡ (λ x. nextTo E (bits base word) x || member f₀ x))
+  unfolding marked any
+  marking-all e =
+      let none : bits base left ≡ [] = rw e (bits-none 64 base) in
+      (rw none at (m .marks), fun-ext (λ x. rw none at (m .finds x)))
 
-  module _ (row f : List ℕ) (left : ℕ) (m : Marking E base word d row₀ f₀ row f left) where
-    pub marking-row : left ≡ 0 → row ≡ marked d (membersFrom 64 base word) row₀
-    unfolding marked
-    marking-row e = ap (λ (l : List ℕ). marked d l row) (sym (ap (membersFrom 64 base) e ∙ bits-none 64 base)) ∙ m .marks
+  -- the lowest bit that is left, and its node
+  module _ (p : 0 < left) where
+    pub low : Lowest 64 base left
+    low = lowest 64 base left p (m .small)
 
-    pub marking-found : left ≡ 0 → member f ≡ (λ x. any (λ v. E v x) (membersFrom 64 base word) || member f₀ x)
-    unfolding any
-    marking-found e = fun-ext (λ x. ap (λ (l : List ℕ). any (λ v. E v x) l || member f x) (sym (ap (membersFrom 64 base) e ∙ bits-none 64 base)) ∙ m .finds x)
+    abbrev first : ℕ
+    first = base + trailingZeros 64 left
 
-    module _ (p : 0 < left) where
-      pub low : Lowest 64 base left
-      low = lowest 64 base left p (m .small)
+    abbrev rest : ℕ
+    rest = left - 2 ^ trailingZeros 64 left
 
-      -- the node of the lowest bit
-      abbrev first : ℕ
-      first = base + trailingZeros 64 left
+    pub first-inside : first < length row
+    first-inside = rw (m .same) (m .inside first (rw (low .first) (has-head first (bits base rest))))
 
-      pub first-inside : base + trailingZeros 64 left < length row
-      first-inside = rw (m .same) (m .inside first (subst (λ (l : List ℕ). T (has first l)) (sym (low .first)) (has-head first (membersFrom 64 base (left - 2 ^ trailingZeros 64 left)))))
-
-      pub marking-more : (f′ : List ℕ) → length f′ ≡ length f → member f′ ≡ (λ x. E (base + trailingZeros 64 left) x || member f x)
-          → Marking E base word d row₀ f₀ (set row (base + trailingZeros 64 left) d) f′ (left - 2 ^ trailingZeros 64 left)
-      unfolding marked any
-      marking-more f′ k e =
-          let rest = membersFrom 64 base (left - 2 ^ trailingZeros 64 left) in
-          record {
-            small = omega (arith, m .small);
-            same = length-set row first d ∙ m .same;
-            long = k ∙ m .long;
-            inside = λ v t. m .inside v (subst (λ (l : List ℕ). T (has v l)) (sym (low .first)) (has-tail v first rest t));
-            marks = ap (λ (l : List ℕ). marked d l row) (sym (low .first)) ∙ m .marks;
-            finds = λ x.
-                ap (λ (q : Nodes). any (λ v. E v x) rest || q x) e
-                ∙ or-turned (any (λ v. E v x) rest) (E first x) (member f x)
-                ∙ ap (λ (l : List ℕ). any (λ v. E v x) l || member f x) (sym (low .first)) ∙ m .finds x;
-          }
+    pub marking-more : {f′ : List ℕ} → length f′ ≡ length f → member f′ ≡ (λ x. E first x || member f x)
+        → Marking E base word d row₀ f₀ (set row first d) f′ rest
+    unfolding marked any
+    marking-more k e = record {
+      small = omega (arith, m .small);
+      same = length-set row first d ∙ m .same;
+      long = k ∙ m .long;
+      inside = λ v t. m .inside v (rw (low .first) (has-tail v first (bits base rest) t));
+      marks = rw (low .first) at (m .marks);
+      finds = λ x. rw e (or-turned (nextTo E (bits base rest) x) (E first x) (member f x)) ∙ (rw (low .first) at (m .finds x));
+    }
 
 -- ---- the words of a layer
+
+-- the nodes of the first w words
+abbrev below : List ℕ → ℕ → List ℕ
+below layer w = keep (member layer) (upTo (64 * w))
 
 pub record Marked (E : Edges) (layer : List ℕ) (d : ℕ) (row₀ f₀ row f : List ℕ) (w : ℕ) : Type 0 where
   pub within : w ≤ 16
   pub long : length f ≡ 16
-  pub marks : row ≡ marked d (keep (member layer) (upTo (64 * w))) row₀
-  pub finds : member f ≡ (λ x. any (λ v. E v x) (keep (member layer) (upTo (64 * w))) || member f₀ x)
+  pub marks : row ≡ marked d (below layer w) row₀
+  pub finds : member f ≡ (λ x. nextTo E (below layer w) x || member f₀ x)
 
-module _ (E : Edges) (layer : List ℕ) (d : ℕ) (row₀ f₀ : List ℕ) where
-  pub marked-none : length f₀ ≡ 16 → Marked E layer d row₀ f₀ row₀ f₀ 0
-  unfolding upTo from keep marked any
-  marked-none l = record { within = omega arith; long = l; marks = refl; finds = refl }
+pub marked-none : {E : Edges} {layer : List ℕ} {d : ℕ} {row₀ f₀ : List ℕ} → length f₀ ≡ 16 → Marked E layer d row₀ f₀ row₀ f₀ 0
+unfolding upTo from keep marked any
+marked-none l = record { within = omega arith; long = l; marks = refl; finds = refl }
 
-  module _ (row f : List ℕ) (w : ℕ) (m : Marked E layer d row₀ f₀ row f w) where
-    pub marked-same : length row ≡ length row₀
-    marked-same = ap length (m .marks) ∙ marked-length d (keep (member layer) (upTo (64 * w))) row₀
+module _ {E : Edges} {layer : List ℕ} {d : ℕ} {row₀ f₀ row f : List ℕ} {w : ℕ} (m : Marked E layer d row₀ f₀ row f w) where
+  pub marked-same : length row ≡ length row₀
+  marked-same = ap length (m .marks) ∙ marked-length d (below layer w) row₀
 
-    more : keep (member layer) (upTo (64 * (w + 1))) ≡ keep (member layer) (upTo (64 * w)) ++ membersFrom 64 (64 * w) (getD layer w 0)
-    more = next-word (member layer) w (getD layer w 0) (λ k q. word-bit layer w k q)
+  -- the nodes of word w
+  abbrev new : List ℕ
+  new = bits (64 * w) (getD layer w 0)
 
-    pub word-inside : ((v : ℕ) → T (member layer v) → v < length row₀) → (v : ℕ) → T (has v (membersFrom 64 (64 * w) (getD layer w 0))) → v < length row
-    word-inside h v t =
-        let s = subst (λ (l : List ℕ). T (has v l)) (sym more) (has-later v (keep (member layer) (upTo (64 * w))) (membersFrom 64 (64 * w) (getD layer w 0)) t) in
-        rw marked-same (h v (of-keep (member layer) (upTo (64 * (w + 1))) v s .1))
+  more : below layer (w + 1) ≡ below layer w ++ new
+  more = next-word (member layer) w (getD layer w 0) (λ k q. word-bit layer w k q)
 
-    pub marked-more : w < 16 → (row′ f′ : List ℕ) → length f′ ≡ length f → row′ ≡ marked d (membersFrom 64 (64 * w) (getD layer w 0)) row
-        → member f′ ≡ (λ x. any (λ v. E v x) (membersFrom 64 (64 * w) (getD layer w 0)) || member f x) → Marked E layer d row₀ f₀ row′ f′ (w + 1)
-    marked-more h row′ f′ k r e =
-        let old = keep (member layer) (upTo (64 * w)) in
-        let new = membersFrom 64 (64 * w) (getD layer w 0) in
-        record {
-          within = omega arith;
-          long = k ∙ m .long;
-          marks = r ∙ ap (marked d new) (m .marks) ∙ sym (ap (λ (l : List ℕ). marked d l row₀) more ∙ marked-append d old new row₀);
-          finds = e ∙ fun-ext (λ x.
-              ap (λ (q : Nodes). any (λ v. E v x) new || q x) (m .finds)
-              ∙ or-turned (any (λ v. E v x) new) (any (λ v. E v x) old) (member f₀ x)
-              ∙ ap (λ (b : Bool). b || member f₀ x) (sym (ap (any (λ v. E v x)) more ∙ any-append (λ v. E v x) old new)));
-        }
+  pub word-inside : ((v : ℕ) → T (member layer v) → v < length row₀) → (v : ℕ) → T (has v new) → v < length row
+  word-inside h v t =
+      let here : T (has v (below layer (w + 1))) = rw more (has-later v (below layer w) new t) in
+      rw marked-same (h v (of-keep (member layer) (upTo (64 * (w + 1))) v here .1))
 
-    pub marked-row : 16 ≤ w → row ≡ marked d (keep (member layer) (upTo 1024)) row₀
-    marked-row h = let e : 64 * w ≡ 1024 = omega (arith, m .within) in m .marks ∙ ap (λ (n : ℕ). marked d (keep (member layer) (upTo n)) row₀) e
+  pub marked-more : w < 16 → {row′ f′ : List ℕ} → length f′ ≡ length f → row′ ≡ marked d new row
+      → member f′ ≡ (λ x. nextTo E new x || member f x) → Marked E layer d row₀ f₀ row′ f′ (w + 1)
+  marked-more h k r e = record {
+    within = omega arith;
+    long = k ∙ m .long;
+    marks = r ∙ rw (m .marks, more) (sym (marked-append d (below layer w) new row₀));
+    finds = e ∙ rw (m .finds, more) (fun-ext (λ x.
+        or-turned (nextTo E new x) (nextTo E (below layer w) x) (member f₀ x)
+        ∙ ap (λ (b : Bool). b || member f₀ x) (sym (any-append (λ v. E v x) (below layer w) new))));
+  }
 
-    pub marked-found : 16 ≤ w → member f ≡ (λ x. any (λ v. E v x) (keep (member layer) (upTo 1024)) || member f₀ x)
-    marked-found h =
-        let e : 64 * w ≡ 1024 = omega (arith, m .within) in
-        m .finds ∙ ap {B = Nodes} (λ (n : ℕ) (x : ℕ). any (λ v. E v x) (keep (member layer) (upTo n)) || member f₀ x) e
+  pub marked-all : 16 ≤ w → (row ≡ marked d (keep (member layer) (upTo 1024)) row₀)
+      × (member f ≡ (λ x. nextTo E (keep (member layer) (upTo 1024)) x || member f₀ x))
+  marked-all h = let e : 64 * w ≡ 1024 = omega (arith, m .within) in (rw e at (m .marks), rw e at (m .finds))

@@ -29,7 +29,8 @@ fn mark_word(word: u64, base: usize, d: u16, rows: &[u64], row: &mut [u16], foun
     requires { ⌜ (base ≤ 960) × (length (now rows) ≡ 16384) × (length (now found) ≡ 16) ⌝ }
     requires { ⌜ ((v : ℕ) → T (has v (membersFrom 64 base word)) → v < length (now row)) ⌝ }
     ensures { λ _. ⌜ now (row .exit) ≡ marked d (membersFrom 64 base word) (now (row .entry)) ⌝ }
-    ensures { λ _. ⌜ member (now (found .exit)) ≡ (λ x. any (λ v. edgesIn (now (rows .entry)) v x) (membersFrom 64 base word) || member (now (found .entry)) x) ⌝ }
+    ensures { λ _. ⌜ member (now (found .exit))
+        ≡ (λ x. any (λ v. edgesIn (now (rows .entry)) v x) (membersFrom 64 base word) || member (now (found .entry)) x) ⌝ }
 {
     let mut left = word;
     while left != 0 {
@@ -46,7 +47,9 @@ fn mark_layer(layer: &[u64], d: u16, rows: &[u64], row: &mut [u16], found: &mut 
     requires { ⌜ (length (now layer) ≡ 16) × (length (now rows) ≡ 16384) × (length (now found) ≡ 16) ⌝ }
     requires { ⌜ ((v : ℕ) → T (member (now layer) v) → v < length (now row)) ⌝ }
     ensures { λ _. ⌜ now (row .exit) ≡ marked d (keep (member (now (layer .entry))) (upTo 1024)) (now (row .entry)) ⌝ }
-    ensures { λ _. ⌜ member (now (found .exit)) ≡ (λ x. any (λ v. edgesIn (now (rows .entry)) v x) (keep (member (now (layer .entry))) (upTo 1024)) || member (now (found .entry)) x) ⌝ }
+    ensures { λ _. ⌜ member (now (found .exit))
+        ≡ (λ x. any (λ v. edgesIn (now (rows .entry)) v x) (keep (member (now (layer .entry))) (upTo 1024))
+        || member (now (found .entry)) x) ⌝ }
 {
     let mut w = 0;
     while w < 16 {
@@ -55,7 +58,7 @@ fn mark_layer(layer: &[u64], d: u16, rows: &[u64], row: &mut [u16], found: &mut 
     }
 }
 
-// Breadth-first search from a node over the links of a matrix, layer by layer, into a row: the fewest links to each node, or none.
+// Breadth-first search from `source` over the links of a matrix, layer by layer. The row gets the fewest links to each node, or none.
 pub fn search(n: usize, rows: &[u64], source: usize, row: &mut [u16])
     requires { ⌜ (n ≤ 1024) × (length (now rows) ≡ 16384) × (source < n) × (length (now row) ≡ n) ⌝ }
     ensures { λ _. ⌜ now (row .exit) ≡ map (fewest (edgesIn (now (rows .entry))) n source) (upTo n) ⌝ }

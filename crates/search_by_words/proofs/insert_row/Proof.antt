@@ -1,10 +1,8 @@
 -- `search_by_words::insert_row` meets its contract: the first i words of the set have the node's neighbours.
 -- Assumes nothing.
 use borrow.Author.Needs.{needs}
-use mathlib.Core.Path.{sym, _∙_}
 use Prim.Native.Nat.{_-_}
-use native.Mathlib.Omega.{arith}
-use Rattle.search_by_words.proofs.RowJoining.{Joining, joining-none, joining-more, joining-all}
+use Rattle.search_by_words.proofs.RowJoining.{Joining, joining-more, joining-all}
 use Rattle.search_by_words.proofs.insert_row.Statement.{statement}
 use Rattle.search_by_words.proofs.insert_row.Tie as tie
 
@@ -48,13 +46,13 @@ loop-less : tie.Need-loop-less Inv-loop μ-loop
 loop-less c = search needs
 
 loop-again : tie.Need-loop-again Inv-loop μ-loop
-loop-again c = joining-more _ _ _ _ _ (c .before .before .before .loop .inv) (c .before .before .loop-test .taken)
+loop-again c = let turn = c .before .before in joining-more (turn .before .loop .inv) (turn .loop-test .taken)
 
 same-length : tie.Need-same-length Inv-loop μ-loop
 same-length c = search needs
 
 returns : tie.Need-returns Inv-loop μ-loop
-returns c = joining-all _ _ _ _ _ (c .before .loop .inv) (c .loop-test .left) (c .before .before .pre .2)
+returns c = joining-all (c .before .loop .inv) (c .loop-test .left)
 
 pub insert-row-spec : {M : Type 1} → statement M
 insert-row-spec =

@@ -1,11 +1,10 @@
 -- `search_by_words::mark_layer` meets its contract: the nodes of the first w words are marked.
 -- Assumes nothing.
 use borrow.Author.Needs.{needs}
-use mathlib.Core.Path.{sym, _∙_}
 use Prim.Native.Nat.{_-_}
 use native.Mathlib.Omega.{arith}
 use Rattle.base_nodeset.specs.Matrix.{edgesIn}
-use Rattle.search_by_words.proofs.Marks.{Marked, marked-none, marked-same, word-inside, marked-more, marked-row, marked-found}
+use Rattle.search_by_words.proofs.Marks.{Marked, marked-none, marked-same, word-inside, marked-more, marked-all}
 use Rattle.search_by_words.proofs.mark_layer.Statement.{statement}
 use Rattle.search_by_words.proofs.mark_layer.Tie as tie
 
@@ -16,10 +15,7 @@ abbrev μ-loop : tie.MeasureT-loop
 μ-loop layer d rows row₀ found₀ w₀ row found w = 16 - w
 
 loop-holds : tie.Need-loop-holds Inv-loop μ-loop
-loop-holds c =
-    let start = c .before .before .before .before in
-    marked-none (edgesIn _) _ _ _
-    _ (start .pre .0 .2)
+loop-holds c = marked-none (c .before .before .before .before .pre .0 .2)
 
 mul-mark-word : tie.Need-mul-mark-word Inv-loop μ-loop
 mul-mark-word c = search needs
@@ -32,13 +28,9 @@ mul-mark-word-2 c = search needs
 
 mark-word-requires : tie.Need-mark-word-requires Inv-loop μ-loop
 mark-word-requires c κs =
-    let start = c .before .before .before .before .before .before .before .before .before in
-    let at-loop = c .before .before .before .before in (
-      (omega arith, (start .pre .0 .1), (at-loop .loop .inv) .long),
-      word-inside
-          (edgesIn _) _ _ _ _ _ _
-          _ (at-loop .loop .inv) (start .pre .1),
-    )
+    let inv = c .before .before .before .before .loop .inv in
+    let pre = c .before .before .before .before .before .before .before .before .before .pre in
+    ((omega arith, pre .0 .1, inv .long), word-inside inv (pre .1))
 
 add-w : tie.Need-add-w Inv-loop μ-loop
 add-w c = search needs
@@ -48,30 +40,18 @@ loop-less c = search needs
 
 loop-again : tie.Need-loop-again Inv-loop μ-loop
 loop-again c =
-    let at-loop = c .before .before .before .before .before .before .before .before .before in
-    let at-loop-test = c .before .before .before .before .before .before .before .before in
-    let at-mark-word = c .before .before .before .before in
-    marked-more (edgesIn _) _ _ _
-    _ _ _ _ (at-loop .loop .inv) (at-loop-test .loop-test .taken) _ _
-    (at-mark-word .mark-word .kept .1 .1 .1 .1 .1 .0) (at-mark-word .mark-word .ensures .0) (at-mark-word .mark-word .ensures .1)
+    let mark-word = c .before .before .before .before .mark-word in
+    let turn = c .before .before .before .before .before .before .before .before in
+    marked-more (turn .before .loop .inv) (turn .loop-test .taken) (search needs) (mark-word .ensures .0) (mark-word .ensures .1)
 
 same-length : tie.Need-same-length Inv-loop μ-loop
-same-length c =
-    marked-same (edgesIn _) _ _ _
-    _ _ _ _ (c .before .loop .inv)
+same-length c = marked-same (c .before .loop .inv)
 
 same-length-2 : tie.Need-same-length-2 Inv-loop μ-loop
 same-length-2 c = search needs
 
 returns : tie.Need-returns Inv-loop μ-loop
-returns c =
-    let at-loop = c .before in (
-      marked-row (edgesIn _) _ _ _
-          _ _ _ _ (at-loop .loop .inv) (c .loop-test .left),
-      marked-found (edgesIn _)
-          _ _ _ _ _ _ _ (at-loop .loop .inv)
-          (c .loop-test .left),
-    )
+returns c = marked-all (c .before .loop .inv) (c .loop-test .left)
 
 pub mark-layer-spec : {M : Type 1} → statement M
 mark-layer-spec =

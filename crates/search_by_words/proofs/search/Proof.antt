@@ -1,20 +1,20 @@
--- `search_by_words::search` meets its contract. Each turn of the loop is one layer; an empty one changes nothing, nor do those after it.
+-- `search_by_words::search` meets its contract. Each turn of the loop marks one layer; after an empty layer nothing changes any more.
 -- Assumes nothing.
-use mathlib.Core.Path.{_≡_, refl, sym, ap, _∙_}
-use Prim.Native.Nat.{ℕ, _-_, _≤_}
+use mathlib.Core.Path.{ap, _∙_}
+use Prim.Native.Nat.{ℕ, _-_}
 use native.Mathlib.Omega.{arith}
-use lib.ListN.{length, replicate, length-replicate}
+use lib.ListN.{replicate}
 use Rattle.model.specs.Basics.{none}
-use Rattle.base_nodeset.specs.NodeSet.{member}
 use Rattle.base_nodeset.proofs.Words.{past-smallest}
 use Rattle.base_nodeset.specs.Matrix.{edgesIn}
-use Rattle.search_by_words.proofs.LayerTurns.{Turn, turn-start, turn-more, front-inside, turn-empty, turn-end}
+use Rattle.search_by_words.proofs.LayerTurns.{Searching, turn-start, turn-next, front-inside, turn-empty, turn-end}
 use borrow.Author.Needs.{needs}
 use Rattle.search_by_words.proofs.search.Statement.{statement}
 use Rattle.search_by_words.proofs.search.Tie as tie
 
 abbrev Inv-loop : tie.InvT-loop
-Inv-loop n rows source row₀ layer₀ unvisited₀ found₀ k₀ row layer unvisited found k = Turn (edgesIn rows) n source k row (member layer) (member unvisited) (member found) × (k ≤ n) × (length layer ≡ 16) × (length unvisited ≡ 16) × (length found ≡ 16)
+Inv-loop n rows source row₀ layer₀ unvisited₀ found₀ k₀ row layer unvisited found k =
+    Searching (edgesIn rows) n source k row layer unvisited found
 
 abbrev μ-loop : tie.MeasureT-loop
 μ-loop n rows source row₀ layer₀ unvisited₀ found₀ k₀ row layer unvisited found k = n - k
@@ -42,20 +42,19 @@ remove-requires c κs = search needs
 
 loop-holds : tie.Need-loop-holds Inv-loop μ-loop
 loop-holds c =
-    let start = c .before .before .before .before .before .before .before .before .before .before .before .before .before .before .before in
-    let at-fill16 = c .before .before .before .before .before .before .before .before .before .before .before in
-    let at-insert = c .before .before .before .before .before .before .before in
-    let at-insert-below = c .before .before .before .before in
-    let at-remove = c .before in (
-      turn-start (edgesIn _) _ _ _ _ _ _
-          ((at-fill16 .fill16 .ensures) ∙ ap (λ (m : ℕ). replicate m none) (start .pre .3)) (at-insert .insert .ensures)
-          (at-insert-below .insert-below .ensures) (at-remove .remove .ensures),
-      omega arith,
-      (at-insert .insert .kept .0) ∙ length-replicate
-          {A = ℕ} 16 0,
-      (at-remove .remove .kept .0) ∙ (at-insert-below .insert-below .kept .0) ∙ length-replicate {A = ℕ} 16 0,
-      length-replicate {A = ℕ} 16 0,
-    )
+    let left = c .before in
+    let all = left .before .before .before in
+    let first = all .before .before .before in
+    let fill16 = first .before .before .before .before in
+    let pre = fill16 .before .before .before .before .pre in
+    let filled = fill16 .fill16 .ensures ∙ ap (λ (m : ℕ). replicate m none) (pre .3) in
+    record {
+      turn = turn-start (pre .0) (pre .2) filled (first .insert .ensures) (all .insert-below .ensures) (left .remove .ensures);
+      within = omega arith;
+      layer-words = search needs;
+      unvisited-words = search needs;
+      found-words = search needs;
+    }
 
 slice-aggregate-smallest : tie.Need-slice-aggregate-smallest Inv-loop μ-loop
 slice-aggregate-smallest c = search needs
@@ -68,12 +67,9 @@ same-length c = search needs
 
 returns : tie.Need-returns Inv-loop μ-loop
 returns c =
-    let start = c .before .before .before .before .before .before .before .before .before .before .before .before .before .before .before .before .before .before .before .before in
-    let at-loop = c .before .before .before .before in
-    turn-empty (edgesIn _) _ _ (start .pre .2) (start .pre .0) _
-    _ _ _ _ (at-loop .loop .inv .1) (at-loop .loop .inv .0)
-    (past-smallest _ _ (omega arith) _
-    (c .before .smallest .ensures) (c .if1 .taken))
+    let smallest = c .before .smallest in
+    let inv = c .before .before .before .before .loop .inv in
+    turn-empty (inv .within) (inv .turn) (past-smallest _ _ (omega arith) _ (smallest .ensures) (c .if1 .taken))
 
 slice-aggregate-mark-layer : tie.Need-slice-aggregate-mark-layer Inv-loop μ-loop
 slice-aggregate-mark-layer c = search needs
@@ -86,12 +82,8 @@ slice-aggregate-mark-layer-2 c = search needs
 
 mark-layer-requires : tie.Need-mark-layer-requires Inv-loop μ-loop
 mark-layer-requires c κs =
-    let start = c .before .before .before .before .before .before .before .before .before .before .before .before .before .before .before .before .before .before .before .before .before .before .before in
-    let at-loop = c .before .before .before .before .before .before .before in (
-      ((at-loop .loop .inv .2), (start .pre .1), (at-loop .loop .inv .4)),
-      front-inside (edgesIn _) _
-          _ (start .pre .2) (start .pre .0) _ _ _ _ _ (at-loop .loop .inv .0),
-    )
+    let inv = c .before .before .before .before .before .before .before .loop .inv in
+    ((inv .layer-words, search needs, inv .found-words), front-inside (inv .turn))
 
 slice-aggregate-write-intersection : tie.Need-slice-aggregate-write-intersection Inv-loop μ-loop
 slice-aggregate-write-intersection c = search needs
@@ -115,41 +107,32 @@ subtract-requires : tie.Need-subtract-requires Inv-loop μ-loop
 subtract-requires c κs = search needs
 
 add-k : tie.Need-add-k Inv-loop μ-loop
-add-k c =
-    let start = c .before .before .before .before .before .before .before .before .before .before .before .before .before .before .before .before .before .before .before .before .before .before .before .before .before .before .before .before .before .before .before .before .before .before .before .before in
-    let at-loop-test = c .before .before .before .before .before .before .before .before .before .before .before .before .before .before .before .before .before .before .before in
-    omega arith
+add-k c = omega arith
 
 loop-less : tie.Need-loop-less Inv-loop μ-loop
 loop-less c = search needs
 
 loop-again : tie.Need-loop-again Inv-loop μ-loop
 loop-again c =
-    let start = c .before .before .before .before .before .before .before .before .before .before .before .before .before .before .before .before .before .before .before .before .before .before .before .before .before .before .before .before .before .before .before .before .before .before .before .before in
-    let at-loop = c .before .before .before .before .before .before .before .before .before .before .before .before .before .before .before .before .before .before .before .before in
-    let at-loop-test = c .before .before .before .before .before .before .before .before .before .before .before .before .before .before .before .before .before .before .before in
-    let at-mark-layer = c .before .before .before .before .before .before .before .before .before .before .before .before in
-    let at-write-intersection = c .before .before .before .before .before in
-    let at-subtract = c .before in (
-      turn-more (edgesIn _) _ _ (start .pre .2) (start .pre .0) _
-          _ _ _ _ _ _ _ _ (at-loop .loop .inv .0) (at-mark-layer .mark-layer .ensures .0) (at-mark-layer .mark-layer .ensures .1)
-          (at-write-intersection .write-intersection .ensures) (at-subtract .subtract .ensures),
-      omega arith,
-      (at-write-intersection .write-intersection .kept .1 .1 .0) ∙ (at-loop .loop .inv .2),
-      (at-subtract .subtract .kept .0) ∙ (at-loop .loop .inv .3),
-      (at-mark-layer .mark-layer .kept .1 .1 .1 .1 .0) ∙
-          (at-loop .loop .inv .4),
-    )
+    let subtract = c .before .subtract in
+    let next = c .before .before .before .before .before in
+    let marked = next .before .before .before .before .before .before .before in
+    let inv = marked .before .before .before .before .before .before .before .before .loop .inv in
+    record {
+      turn =
+          turn-next (inv .turn) (marked .mark-layer .ensures .0) (marked .mark-layer .ensures .1)
+          (next .write-intersection .ensures) (subtract .ensures);
+      within = omega arith;
+      layer-words = search needs;
+      unvisited-words = search needs;
+      found-words = search needs;
+    }
 
 same-length-2 : tie.Need-same-length-2 Inv-loop μ-loop
 same-length-2 c = search needs
 
 returns-2 : tie.Need-returns-2 Inv-loop μ-loop
-returns-2 c =
-    let start = c .before .before .before .before .before .before .before .before .before .before .before .before .before .before .before .before .before in
-    let at-loop = c .before in
-    turn-end (edgesIn _) _ _ (start .pre .2) (start .pre .0) _ _
-    _ _ _ (omega arith) (at-loop .loop .inv .0)
+returns-2 c = turn-end (omega arith) (c .before .loop .inv .turn)
 
 pub search-spec : {M : Type 1} → statement M
 search-spec =
