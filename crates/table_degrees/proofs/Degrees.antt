@@ -1,7 +1,7 @@
 -- The high nodes, one node more at a time, and the low ones.
 -- Assumes nothing.
-use mathlib.Core.Path.{_≡_, refl, sym, ap, ap₂, _∙_, fun-ext}
-use mathlib.Core.Logic.{⊎-elim}
+use mathlib.Core.Path.{_≡_, refl, ap, ap₂, _∙_, fun-ext}
+use mathlib.Core.Logic.{_⊎_, inl, inr}
 use mathlib.Core.Bool.{Bool, true, false, not, _&&_, _||_, and-false}
 use mathlib.Core.List.{List}
 use Prim.Native.Nat.{ℕ, _+_, _≤_, _<_}
@@ -20,48 +20,51 @@ pub record HighBelow (s : ℕ) (G : Graph) (ws : List ℕ) (v : ℕ) : Type 0 wh
   pub long : length ws ≡ 16
   pub says : member ws ≡ (λ x. ltb x v && isHigh s G x)
 
-module _ (s : ℕ) (G : Graph) (ws : List ℕ) where
-  pub high-none : ws ≡ replicate 16 0 → HighBelow s G ws 0
-  unfolding emptySet
-  high-none e = record {
-    long = ap length e;
-    says = ap member e ∙ empty-words 16 ∙ fun-ext (λ x. sym (ap (λ (t : Bool). t && isHigh s G x) (le-ltb x 0 (omega arith))));
+-- no node is below 0
+pub high-none : {s : ℕ} {G : Graph} {ws : List ℕ} → ws ≡ replicate 16 0 → HighBelow s G ws 0
+unfolding emptySet
+high-none e = record {
+  long = ap length e;
+  says = ap member e ∙ empty-words 16 ∙ fun-ext (λ x. rw (le-ltb x 0 (omega arith)));
+}
+
+module _ {s : ℕ} {G : Graph} {ws : List ℕ} {v : ℕ} (h : HighBelow s G ws v) where
+  -- v is high, and is put into the set
+  pub high-with : {ws′ : List ℕ} → s ≤ length (G v) → length ws′ ≡ length ws → member ws′ ≡ inserted (member ws) v
+      → HighBelow s G ws′ (v + 1)
+  unfolding inserted isHigh
+  high-with l k e = record {
+    long = k ∙ h .long;
+    says = e ∙ fun-ext (λ x. ap (λ (p : Nodes). eqb x v || p x) (h .says) ∙ at x (eq-or x v));
   }
+    where
+      at : (x : ℕ) → (x ≡ v) ⊎ (x ≡ v → ⊥) → (eqb x v || (ltb x v && isHigh s G x)) ≡ (ltb x (v + 1) && isHigh s G x)
+      at x (inl q) =
+          let high : isHigh s G x ≡ true = ap (isHigh s G) q ∙ le-leb s (length (G v)) l in
+          rw (eq-eqb x v q, lt-ltb x (v + 1) (omega arith), high)
+      at x (inr d) = rw (ne-eqb x v d, ltb-next x v d)
 
-  module _ (v : ℕ) (h : HighBelow s G ws v) where
-    pub high-with : (ws′ : List ℕ) → s ≤ length (G v) → length ws′ ≡ length ws → member ws′ ≡ inserted (member ws) v → HighBelow s G ws′ (v + 1)
-    unfolding inserted isHigh
-    high-with ws′ l k e = record {
-      long = k ∙ h .long;
-      says = e ∙ fun-ext (λ x. ap (λ (p : Nodes). eqb x v || p x) (h .says) ∙ ⊎-elim (λ q. at x q) (λ d. ap₂ (λ (a b : Bool). a || (b && isHigh s G x)) (ne-eqb x v d) (ltb-next x v d)) (eq-or x v));
-    }
-      where
-        at : (x : ℕ) → x ≡ v → (eqb x v || (ltb x v && isHigh s G x)) ≡ (ltb x (v + 1) && isHigh s G x)
-        at x q =
-            ap (λ (t : Bool). t || (ltb x v && isHigh s G x)) (eq-eqb x v q)
-            ∙ sym (ap₂ _&&_ (lt-ltb x (v + 1) (omega arith)) (ap (isHigh s G) q ∙ le-leb s (length (G v)) l))
+  -- v is low
+  pub high-without : length (G v) < s → HighBelow s G ws (v + 1)
+  unfolding isHigh
+  high-without l = record { long = h .long; says = h .says ∙ fun-ext (λ x. at x (eq-or x v)) }
+    where
+      at : (x : ℕ) → (x ≡ v) ⊎ (x ≡ v → ⊥) → (ltb x v && isHigh s G x) ≡ (ltb x (v + 1) && isHigh s G x)
+      at x (inl q) =
+          let low : isHigh s G x ≡ false = ap (isHigh s G) q ∙ lt-leb s (length (G v)) l in
+          rw (low, and-false (ltb x v), and-false (ltb x (v + 1)))
+      at x (inr d) = rw (ltb-next x v d)
 
-    pub high-without : length (G v) < s → HighBelow s G ws (v + 1)
-    unfolding isHigh
-    high-without l = record {
-      long = h .long;
-      says = h .says ∙ fun-ext (λ x. ⊎-elim (λ q. at x q) (λ d. ap (λ (t : Bool). t && isHigh s G x) (ltb-next x v d)) (eq-or x v));
-    }
-      where
-        at : (x : ℕ) → x ≡ v → (ltb x v && isHigh s G x) ≡ (ltb x (v + 1) && isHigh s G x)
-        at x q =
-            let low : isHigh s G x ≡ false = ap (isHigh s G) q ∙ lt-leb s (length (G v)) l in
-            rw (low, and-false (ltb x v), and-false (ltb x (v + 1))) refl
-
-    pub high-all : (n : ℕ) → v ≡ n → member ws ≡ (λ x. ltb x n && isHigh s G x)
-    high-all n e = h .says ∙ ap {B = Nodes} (λ (k : ℕ) (x : ℕ). ltb x k && isHigh s G x) e
+  -- every node is below n
+  pub high-all : {n : ℕ} → v ≡ n → member ws ≡ (λ x. ltb x n && isHigh s G x)
+  high-all e = rw e at (h .says)
 
 -- the nodes below n that are not high are the low ones
-pub low-set : (n s : ℕ) (G : Graph) (all high low : ℕ → Bool) → all ≡ (λ v. ltb v n) → high ≡ (λ v. ltb v n && isHigh s G v) → low ≡ difference all high
-    → low ≡ (λ v. ltb v n && isLow s G v)
+pub low-set : (n s : ℕ) (G : Graph) {all high low : Nodes} → all ≡ (λ v. ltb v n) → high ≡ (λ v. ltb v n && isHigh s G v)
+    → low ≡ difference all high → low ≡ (λ v. ltb v n && isLow s G v)
 unfolding difference isLow
-low-set n s G all high low a h l =
-    l ∙ ap₂ (λ (f g : ℕ → Bool). λ v. f v && not (g v)) a h ∙ fun-ext (λ v. at (ltb v n) (isHigh s G v))
+low-set n s G a h l =
+    l ∙ ap₂ (λ (f g : Nodes). λ v. f v && not (g v)) a h ∙ fun-ext (λ v. at (ltb v n) (isHigh s G v))
   where
     at : (x y : Bool) → (x && not (x && y)) ≡ (x && not y)
     at true y = refl
@@ -69,4 +72,4 @@ low-set n s G all high low a h l =
 
 -- below n, the set's members are the low nodes
 pub low-are : (n s : ℕ) (G : Graph) (p : ℕ → Bool) → p ≡ (λ v. ltb v n && isLow s G v) → (v : ℕ) → v < n → p v ≡ isLow s G v
-low-are n s G p e v h = ap (λ (f : ℕ → Bool). f v) e ∙ rw (lt-ltb v n h) refl
+low-are n s G p e v h = ap (λ (f : Nodes). f v) e ∙ rw (lt-ltb v n h)

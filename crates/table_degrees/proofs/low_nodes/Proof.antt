@@ -1,10 +1,7 @@
 -- `table_degrees::low_nodes` meets its contract: all nodes, without the high ones.
 -- Assumes nothing.
-use native.Mathlib.Omega.{arith}
-use mathlib.Core.Path.{refl, sym, ap, _∙_}
-use Prim.Native.Nat.{ℕ}
-use lib.ListN.{length, length-replicate}
-use Rattle.model.specs.Survey.{neighboursOf}
+use mathlib.Core.Path.{sym, ap, _∙_}
+use lib.ListN.{length}
 use Rattle.table_degrees.proofs.Degrees.{low-set}
 use borrow.Author.Needs.{needs}
 use Rattle.table_degrees.proofs.low_nodes.Statement.{statement}
@@ -22,22 +19,22 @@ insert-below-requires c κs = search needs
 slice-aggregate-subtract : tie.Need-slice-aggregate-subtract
 slice-aggregate-subtract c = search needs
 
+-- both sets have 16 words
 subtract-requires : tie.Need-subtract-requires
 subtract-requires c κs =
+    let all = c .before .before .before .before .insert-below in
+    let high = c .before .before .before .before .before .before .before .high-nodes in
     let start = c .before .before .before .before .before .before .before .before .before .before .before .before in
-    let at-high-nodes = c .before .before .before .before .before .before .before in
-    (c .before .before .before .before .insert-below .kept .0) ∙ ap length (start .pre .1) ∙ length-replicate {A = ℕ} 16 0 ∙ sym
-    ((at-high-nodes .high-nodes .kept .1 .1 .1 .1 .0) ∙ length-replicate {A = ℕ} 16 0)
+    all .kept .0 ∙ ap length (start .pre .1) ∙ sym (high .kept .1 .1 .1 .1 .0)
 
 same-length : tie.Need-same-length
 same-length c = search needs
 
 returns : tie.Need-returns
 returns c =
-    let at-high-nodes = c .before .before .before .before .before .before .before .before .before .before in
-    let at-insert-below = c .before .before .before .before .before .before .before in
-    low-set _ _ (neighboursOf _ _) _ _ _
-    (at-insert-below .insert-below .ensures) (at-high-nodes .high-nodes .ensures) (c .before .before .subtract .ensures)
+    let all = c .before .before .before .before .before .before .before .insert-below in
+    let high = c .before .before .before .before .before .before .before .before .before .before .high-nodes in
+    low-set _ _ _ (all .ensures) (high .ensures) (c .before .before .subtract .ensures)
 
 pub low-nodes-spec : {M : Type 1} → statement M
 low-nodes-spec =
