@@ -20,7 +20,7 @@ use Rattle.model.proofs.Covering.{best-is, best-of, best-gains, hubs-length}
 use Rattle.model.proofs.Lists.{has-head, of-keep, of-upTo, keep-split, length-pos}
 use Rattle.model.proofs.Loops.{below-next}
 use Rattle.base_nodeset.specs.NodeSet.{member, difference}
-use Rattle.table_hubs.proofs.Sets.{some-left, none-left, high-kept, covered-kept}
+use Rattle.table_hubs.proofs.Sets.{uncovered, some-left, none-left, high-kept, covered-kept}
 
 -- ---- the best node
 
@@ -32,16 +32,7 @@ pub record Leading (n : ℕ) (f : ℕ → ℕ) (node most v : ℕ) : Type 0 wher
   pub greatest : (w : ℕ) → w < v → f w ≤ most
   pub ties : (w : ℕ) → w < node → f w < most
 
-pub leading-none : (n : ℕ) (f : ℕ → ℕ) → 1 ≤ n → Leading n f 0 0 0
-leading-none n f h = record {
-  within = omega arith;
-  below = h;
-  holds = omega arith;
-  greatest = λ w l. absurd (omega arith);
-  ties = λ w l. absurd (omega arith);
-}
-
-module _ (n : ℕ) (f : ℕ → ℕ) (node most v : ℕ) (h : v < n) (l : Leading n f node most v) where
+module _ {n : ℕ} {f : ℕ → ℕ} {node most v : ℕ} (l : Leading n f node most v) (h : v < n) where
   pub leading-taken : most < f v → Leading n f v (f v) (v + 1)
   leading-taken p = record {
     within = omega arith;
@@ -60,8 +51,8 @@ module _ (n : ℕ) (f : ℕ → ℕ) (node most v : ℕ) (h : v < n) (l : Leadin
     ties = l .ties;
   }
 
-pub leading-best : (n : ℕ) (G : Graph) (U : List ℕ) (node most v : ℕ) → Leading n (gain G U) node most v → n ≤ v → node ≡ best n G U
-leading-best n G U node most v l h =
+pub leading-best : {n node most v : ℕ} (G : Graph) (U : List ℕ) → Leading n (gain G U) node most v → n ≤ v → node ≡ best n G U
+leading-best {n} {node} G U l h =
     sym (best-of n G U node (record {
       below = l .below;
       most = λ w q. omega (arith, l .greatest w (omega arith), l .holds);
@@ -92,7 +83,8 @@ module _ (n : ℕ) (G : Graph) where
   fewer : (U : List ℕ) → 0 < length U → ((u : ℕ) → T (has u U) → u < n) → length (left U) < length U
   unfolding gain
   fewer [] p b = absurd (omega arith)
-  fewer (u ∷ U) p b = omega (arith, keep-split (λ x. has x (closed G (best n G (u ∷ U)))) (u ∷ U), best-gains n G u U (b u (has-head u U)))
+  fewer (u ∷ U) p b =
+      omega (arith, keep-split (λ x. has x (closed G (best n G (u ∷ U)))) (u ∷ U), best-gains n G u U (b u (has-head u U)))
 
 -- the hubs chosen so far are written, and the greedy choice for the uncovered nodes gives the others
 pub record Choosing (n s : ℕ) (G : Graph) (list₀ list us : List ℕ) (count : ℕ) : Type 0 where
@@ -100,104 +92,115 @@ pub record Choosing (n s : ℕ) (G : Graph) (list₀ list us : List ℕ) (count 
   pub entries : n ≤ length list₀
   pub long : length us ≡ 16
   pub turns : ℕ
-  pub enough : length (keep (member us) (upTo n)) ≤ turns
-  pub written : Left list₀ list 0 count (hubs n s G) (greedy n G turns (keep (member us) (upTo n)))
+  pub enough : length (uncovered n us) ≤ turns
+  pub written : Left list₀ list 0 count (hubs n s G) (greedy n G turns (uncovered n us))
 
-pub choosing-none : (n s : ℕ) (G : Graph) (list us : List ℕ) → n ≤ 1024 → n ≤ length list → length us ≡ 16
+pub choosing-none : {n s : ℕ} {G : Graph} {list us : List ℕ} → n ≤ 1024 → n ≤ length list → length us ≡ 16
     → member us ≡ (λ x. ltb x n && isHigh s G x) → Choosing n s G list list us 0
 unfolding hubs
-choosing-none n s G list us size entries long e =
+choosing-none {n} {s} {G} {list} {us} size entries long e =
     let U = keep (isHigh s G) (upTo n) in
-    let k = high-kept n s G us e in
+    let high : uncovered n us ≡ U = high-kept n s G e in
     record {
       size = size;
       entries = entries;
       long = long;
       turns = length U;
-      enough = omega (arith, ap length k);
-      written = subst (λ (l : List ℕ). Left list list 0 0 (hubs n s G) (greedy n G (length U) l)) (sym k) (left-all list 0 (hubs n s G));
+      enough = omega (arith, ap length high);
+      written = rw high (left-all list 0 (hubs n s G));
     }
 
 module _ {n s : ℕ} {G : Graph} {list₀ list us : List ℕ} {count : ℕ} (c : Choosing n s G list₀ list us count) where
-  fits : 0 + length (hubs n s G) ≤ length list₀
+  abbrev hs : List ℕ
+  hs = hubs n s G
+
+  abbrev W : List ℕ
+  W = uncovered n us
+
+  fits : 0 + length hs ≤ length list₀
   fits = omega (arith, hubs-length n G s, c .entries)
 
   -- those written and those left are at most n
-  counted : count + length (greedy n G (c .turns) (keep (member us) (upTo n))) ≤ n
+  counted : count + length (greedy n G (c .turns) W) ≤ n
   counted =
       let w = c .written in
-      omega (arith, w .wrote .ends, ap length (w .all), length-append (w .done) (greedy n G (c .turns) (keep (member us) (upTo n))), hubs-length n G s)
+      omega (arith, w .wrote .ends, simp length-append at (ap length (w .all)), hubs-length n G s)
 
   choosing-long : length list ≡ length list₀
-  choosing-long = left-length list₀ 0 (hubs n s G) fits list count (greedy n G (c .turns) (keep (member us) (upTo n))) (c .written)
+  choosing-long = left-length list₀ 0 hs fits list count (greedy n G (c .turns) W) (c .written)
 
   -- the rest of the first n entries can be lent
   pub choosing-part : (count ≤ n) × (n ≤ length list)
   choosing-part = (omega (arith, counted), omega (arith, choosing-long, c .entries))
 
-  pub choosing-same : (t : List ℕ) → length t ≡ length (midOf count (n - count) list) → length (putMid count (n - count) list t) ≡ length list₀
+  pub choosing-same : (t : List ℕ) → length t ≡ length (midOf count (n - count) list)
+      → length (putMid count (n - count) list t) ≡ length list₀
   choosing-same t e = same-len-mid count (n - count) list t e ∙ choosing-long
 
-  module _ {r : ℕ} (e : r ≡ firstOf (member us) (64 * length us) (upTo (64 * length us))) where
-    -- some node is uncovered: the best node is written
-    module _ (h : r < n) where
-      some : 0 < length (keep (member us) (upTo n))
-      some = length-pos r (keep (member us) (upTo n)) (some-left n us (c .long) (c .size) r e h)
+  -- where the smallest member is below n, some node is uncovered
+  pub choosing-some : {r : ℕ} → r ≡ firstOf (member us) (64 * length us) (upTo (64 * length us)) → r < n → 0 < length (uncovered n us)
+  choosing-some {r} e h = length-pos r W (some-left n us (c .long) (c .size) e h)
 
-      next : greedy n G (c .turns) (keep (member us) (upTo n)) ≡ best n G (keep (member us) (upTo n)) ∷ greedy n G (c .turns - 1) (left n G (keep (member us) (upTo n)))
-      next = greedy-more n G (c .turns) (keep (member us) (upTo n)) some (c .enough)
+  -- then the best node is written
+  module _ (some : 0 < length (uncovered n us)) where
+    next : greedy n G (c .turns) W ≡ best n G W ∷ greedy n G (c .turns - 1) (left n G W)
+    next = greedy-more n G (c .turns) W some (c .enough)
 
-      pub choosing-room : (count < n) × (count < length list)
-      choosing-room = let l : count < n = omega (arith, counted, ap length next) in (l, omega (arith, choosing-part .1))
+    pub choosing-room : (count < n) × (count < length list)
+    choosing-room = let l : count < n = omega (arith, counted, ap length next) in (l, omega (arith, choosing-part .1))
 
-      pub choosing-node : best n G (keep (member us) (upTo n)) < n
-      choosing-node = best-is n G (keep (member us) (upTo n)) (omega arith) .below
+    pub choosing-node : {hub : ℕ} → hub ≡ best n G (uncovered n us) → hub < n
+    choosing-node q = omega (arith, q, best-is n G W (omega (arith, choosing-room .0)) .below)
 
-      chosen : (us′ : List ℕ) → length us′ ≡ length us → member us′ ≡ difference (member us) (λ x. has x (closed G (best n G (keep (member us) (upTo n)))))
-          → Choosing n s G list₀ (set list count (best n G (keep (member us) (upTo n)))) us′ (count + 1)
-      chosen us′ l m =
-          let W = keep (member us) (upTo n) in
-          let hub = best n G W in
-          let k : keep (member us′) (upTo n) ≡ left n G W = covered-kept n us us′ (λ x. has x (closed G hub)) m in
-          let less = fewer n G W some (λ u q. of-upTo n u (of-keep (member us) (upTo n) u q .0)) in
-          record {
-            size = c .size;
-            entries = c .entries;
-            long = l ∙ c .long;
-            turns = c .turns - 1;
-            enough = omega (arith, ap length k, less, c .enough);
-            written = left-more list₀ 0 (hubs n s G) fits list count (hub ∷ []) (greedy n G (c .turns - 1) (keep (member us′) (upTo n)))
-                (subst (Left list₀ list 0 count (hubs n s G)) (next ∙ ap (λ (l : List ℕ). hub ∷ greedy n G (c .turns - 1) l) (sym k)) (c .written))
-                (set list count hub) (count + 1) (wrote-one list count hub (omega (arith, choosing-room .1)));
-          }
+    chosen : (us′ : List ℕ) → length us′ ≡ length us → member us′ ≡ difference (member us) (λ x. has x (closed G (best n G W)))
+        → Choosing n s G list₀ (set list count (best n G W)) us′ (count + 1)
+    chosen us′ l m =
+        let hub = best n G W in
+        let k : uncovered n us′ ≡ left n G W = covered-kept n (member us) (λ x. has x (closed G hub)) m in
+        let less = fewer n G W some (λ u q. of-upTo n u (of-keep (member us) (upTo n) u q .0)) in
+        let rest = greedy n G (c .turns - 1) (uncovered n us′) in
+        let others : greedy n G (c .turns) W ≡ hub ∷ rest = next ∙ ap (λ (U : List ℕ). hub ∷ greedy n G (c .turns - 1) U) (sym k) in
+        record {
+          size = c .size;
+          entries = c .entries;
+          long = l ∙ c .long;
+          turns = c .turns - 1;
+          enough = omega (arith, ap length k, less, c .enough);
+          written = left-more list₀ 0 hs fits list count (hub ∷ []) rest (subst (Left list₀ list 0 count hs) others (c .written))
+              (set list count hub) (count + 1) (wrote-one list count hub (omega (arith, choosing-room .1)));
+        }
 
-      pub choosing-more : {hub : ℕ} {us′ : List ℕ} → hub ≡ best n G (keep (member us) (upTo n)) → length us′ ≡ length us
-          → member us′ ≡ difference (member us) (λ x. has x (closed G hub)) → Choosing n s G list₀ (set list count hub) us′ (count + 1)
-      choosing-more {us′ = us′} q l m =
-          subst (λ (v : ℕ). Choosing n s G list₀ (set list count v) us′ (count + 1)) (sym q)
-          (chosen us′ l (m ∙ ap (λ (v : ℕ). difference (member us) (λ x. has x (closed G v))) q))
+    pub choosing-more : {hub : ℕ} {us′ : List ℕ} → hub ≡ best n G (uncovered n us) → length us′ ≡ length us
+        → member us′ ≡ difference (member us) (λ x. has x (closed G hub)) → Choosing n s G list₀ (set list count hub) us′ (count + 1)
+    choosing-more {us′ = us′} q l m =
+        subst (λ (v : ℕ). Choosing n s G list₀ (set list count v) us′ (count + 1)) (sym q)
+        (chosen us′ l (m ∙ ap (λ (v : ℕ). difference (member us) (λ x. has x (closed G v))) q))
 
-    -- no node is uncovered: the hubs are written, and none behind them
-    module _ (h : n ≤ r) where
-      whole : Wrote list₀ list 0 count (hubs n s G)
-      whole =
-          left-none list₀ 0 (hubs n s G) fits list count
-          (subst (Left list₀ list 0 count (hubs n s G)) (ap (greedy n G (c .turns)) (none-left n us (c .long) (c .size) r e h) ∙ greedy-none n G (c .turns)) (c .written))
+  -- where it is not, the hubs are written, and none behind them
+  module _ {r : ℕ} (e : r ≡ firstOf (member us) (64 * length us) (upTo (64 * length us))) (h : n ≤ r) where
+    whole : Wrote list₀ list 0 count hs
+    whole =
+        let no-more : greedy n G (c .turns) W ≡ [] =
+        ap (greedy n G (c .turns)) (none-left n us (c .long) (c .size) e h) ∙ greedy-none n G (c .turns) in
+        left-none list₀ 0 hs fits list count (subst (Left list₀ list 0 count hs) no-more (c .written))
 
-      pub choosing-all : (t : List ℕ) → t ≡ replicate (length (midOf count (n - count) list)) none
-          → (count ≡ length (hubs n s G)) × (putMid count (n - count) list t ≡ over (hubList n s G) list₀)
-      unfolding hubList
-      choosing-all t q =
-          let k : count ≡ length (hubs n s G) = wrote-over (hubs n s G) whole .1 in
-          let f : length (midOf count (n - count) list) ≡ n - count = mid-len count n list (choosing-part .1) in
-          let l : length t ≡ n - count = ap length q ∙ length-replicate (length (midOf count (n - count) list)) none ∙ f in
-          let w = wrote-then (omega (arith, choosing-part .0, c .entries)) whole (wrote-part list count n t (choosing-part .0) l) in (
-            k,
-            wrote-over (hubs n s G ++ t) w .0 ∙ ap (λ (b : List ℕ). over (hubs n s G ++ b) list₀) (q ∙ ap (λ (j : ℕ). replicate j none) (f ∙ ap (λ (j : ℕ). n - j) k)),
-          )
+    pub choosing-all : {t : List ℕ} → t ≡ replicate (length (midOf count (n - count) list)) none
+        → (count ≡ length (hubs n s G)) × (putMid count (n - count) list t ≡ over (hubList n s G) list₀)
+    unfolding hubList
+    choosing-all {t} q =
+        let k : count ≡ length hs = wrote-over hs whole .1 in
+        let f : length (midOf count (n - count) list) ≡ n - count = mid-len count n list (choosing-part .1) in
+        let nones : t ≡ replicate (n - count) none = q ∙ ap (λ (j : ℕ). replicate j none) f in
+        let l : length t ≡ n - count = ap length nones ∙ length-replicate (n - count) none in
+        let both = wrote-then (omega (arith, choosing-part .0, c .entries)) whole (wrote-part list count n t (choosing-part .0) l) in (
+          k,
+          wrote-over (hs ++ t) both .0
+              ∙ ap (λ (b : List ℕ). over (hs ++ b) list₀) (nones ∙ ap (λ (j : ℕ). replicate (n - j) none) k),
+        )
 
 -- the hubs stand in front of the hub list
-pub hubs-front : (n s : ℕ) (G : Graph) (list list′ : List ℕ) (count : ℕ) → count ≡ length (hubs n s G) → list′ ≡ over (hubList n s G) list → take count list′ ≡ hubs n s G
+pub hubs-front : (n s : ℕ) (G : Graph) (list list′ : List ℕ) (count : ℕ) → count ≡ length (hubs n s G) → list′ ≡ over (hubList n s G) list
+    → take count list′ ≡ hubs n s G
 unfolding over hubList
 hubs-front n s G list list′ count c e =
     let hs : List ℕ = hubs n s G in

@@ -36,17 +36,19 @@ fn insert_closed(n: usize, starts: &[u32], neighbours: &[u16], v: usize, set: &m
 // How many uncovered nodes the closed neighbourhood of a node holds.
 fn gain_of(n: usize, starts: &[u32], neighbours: &[u16], v: usize, uncovered: &[u64]) -> usize
     requires { ⌜ Accepted n (now starts) (now neighbours) × (v < n) × (length (now uncovered) ≡ 16) ⌝ }
-    ensures { λ r. ⌜ r ≡ gain (neighboursOf (now (starts .entry)) (now (neighbours .entry))) (keep (member (now (uncovered .entry))) (upTo n)) v ⌝ }
+    ensures { λ r. ⌜ r ≡ gain (neighboursOf (now (starts .entry)) (now (neighbours .entry)))
+        (keep (member (now (uncovered .entry))) (upTo n)) v ⌝ }
 {
     let mut near = [0u64; 16];
     insert_closed(n, starts, neighbours, v, &mut near);
     base_nodeset::count_intersection(&near, uncovered)
 }
 
-// The node whose closed neighbourhood holds most uncovered nodes, the smallest number on a tie.
+// The node whose closed neighbourhood holds the most uncovered nodes; on a tie, the one with the smallest number.
 fn best_node(n: usize, starts: &[u32], neighbours: &[u16], uncovered: &[u64]) -> usize
     requires { ⌜ Accepted n (now starts) (now neighbours) × (length (now uncovered) ≡ 16) ⌝ }
-    ensures { λ r. ⌜ r ≡ best n (neighboursOf (now (starts .entry)) (now (neighbours .entry))) (keep (member (now (uncovered .entry))) (upTo n)) ⌝ }
+    ensures { λ r. ⌜ r ≡ best n (neighboursOf (now (starts .entry)) (now (neighbours .entry)))
+        (keep (member (now (uncovered .entry))) (upTo n)) ⌝ }
 {
     let mut node = 0;
     let mut most = 0;
@@ -65,14 +67,16 @@ fn best_node(n: usize, starts: &[u32], neighbours: &[u16], uncovered: &[u64]) ->
 // Takes the closed neighbourhood of a node out of the uncovered nodes.
 fn cover(n: usize, starts: &[u32], neighbours: &[u16], v: usize, uncovered: &mut [u64])
     requires { ⌜ Accepted n (now starts) (now neighbours) × (v < n) × (length (now uncovered) ≡ 16) ⌝ }
-    ensures { λ _. ⌜ member (now (uncovered .exit)) ≡ difference (member (now (uncovered .entry))) (λ x. has x (closed (neighboursOf (now (starts .entry)) (now (neighbours .entry))) v)) ⌝ }
+    ensures { λ _. ⌜ member (now (uncovered .exit))
+        ≡ difference (member (now (uncovered .entry)))
+        (λ x. has x (closed (neighboursOf (now (starts .entry)) (now (neighbours .entry))) v)) ⌝ }
 {
     let mut near = [0u64; 16];
     insert_closed(n, starts, neighbours, v, &mut near);
     base_nodeset::subtract(uncovered, &near);
 }
 
-// The hubs for threshold s in the order chosen, then none, in the first n entries of the list; their count is returned.
+// Writes the hubs for threshold s, in the order chosen, and then none into the first n entries of the list; returns the count of hubs.
 pub fn choose_hubs(
     n: usize,
     s: usize,
@@ -82,13 +86,14 @@ pub fn choose_hubs(
 ) -> usize
     requires { ⌜ Accepted n (now starts) (now neighbours) × (n ≤ length (now list)) ⌝ }
     ensures { λ r. ⌜ r ≡ length (hubs n s (neighboursOf (now (starts .entry)) (now (neighbours .entry)))) ⌝ }
-    ensures { λ _. ⌜ now (list .exit) ≡ over (hubList n s (neighboursOf (now (starts .entry)) (now (neighbours .entry)))) (now (list .entry)) ⌝ }
+    ensures { λ _. ⌜ now (list .exit)
+        ≡ over (hubList n s (neighboursOf (now (starts .entry)) (now (neighbours .entry)))) (now (list .entry)) ⌝ }
 {
     let mut uncovered = [0u64; 16];
     table_degrees::high_nodes(n, s, starts, neighbours, &mut uncovered);
     let mut count = 0;
     loop {
-        // the smallest uncovered node: where it is not below n, every high node is covered
+        // the smallest uncovered node; where it is not below n, every high node is covered
         let first = base_nodeset::smallest(&uncovered);
         if n <= first {
             break;

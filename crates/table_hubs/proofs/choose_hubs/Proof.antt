@@ -1,19 +1,46 @@
 -- `table_hubs::choose_hubs` meets its contract: the hubs so far are written, the greedy choice for the uncovered nodes gives the rest.
 -- Assumes nothing.
-use mathlib.Core.Path.{refl, sym}
-use Prim.Native.Nat.{_-_}
+use Prim.Native.Nat.{_-_, _≤_, _<_}
 use native.Mathlib.Omega.{arith}
+use lib.ListN.{length}
 use Rattle.model.specs.Survey.{neighboursOf}
-use Rattle.table_hubs.proofs.Greedy.{Choosing, choosing-none, choosing-part, choosing-same, choosing-room, choosing-node, choosing-more, choosing-all}
+use Rattle.table_hubs.proofs.Sets.{uncovered}
+use Rattle.table_hubs.proofs.Greedy.{Choosing, choosing-none, choosing-part, choosing-same}
+use Rattle.table_hubs.proofs.Greedy.{choosing-some, choosing-room, choosing-node, choosing-more, choosing-all}
 use borrow.Author.Needs.{needs}
 use Rattle.table_hubs.proofs.choose_hubs.Statement.{statement}
 use Rattle.table_hubs.proofs.choose_hubs.Tie as tie
 
 abbrev Inv-loop : tie.InvT-loop
-Inv-loop n s starts neighbours list₀ uncovered₀ count₀ list uncovered count = Choosing n s (neighboursOf starts neighbours) list₀ list uncovered count
+Inv-loop n s starts neighbours list₀ uncovered₀ count₀ list uncovered count =
+    Choosing n s (neighboursOf starts neighbours) list₀ list uncovered count
 
 abbrev μ-loop : tie.MeasureT-loop
 μ-loop n s starts neighbours list₀ uncovered₀ count₀ list uncovered count = n - count
+
+-- the function's entry, from a turn of the loop
+abbrev start : tie.At-loop Inv-loop μ-loop → tie.Start Inv-loop μ-loop
+start turn = turn .before .before .before .before .before .before .before
+
+-- the entries behind the hubs chosen so far
+rest : (c : tie.At-loop Inv-loop μ-loop) → (c .loop .count ≤ start c .args .n) × (start c .args .n ≤ length (c .loop .list))
+rest c = choosing-part (c .loop .inv)
+
+-- once the next hub is found
+module _ (c : tie.After-best-node Inv-loop μ-loop) where
+  abbrev turn : tie.At-loop Inv-loop μ-loop
+  turn = c .before .before .before .before .before
+
+  -- some node was uncovered
+  some : 0 < length (uncovered (start turn .args .n) (turn .loop .uncovered))
+  some = choosing-some (turn .loop .inv) (c .before .before .before .smallest .ensures) (c .before .before .if1 .left)
+
+  -- so there is room for the hub
+  room : (turn .loop .count < start turn .args .n) × (turn .loop .count < length (turn .loop .list))
+  room = choosing-room (turn .loop .inv) some
+
+  hub-below : c .best-node .result < start turn .args .n
+  hub-below = choosing-node (turn .loop .inv) some (c .best-node .ensures)
 
 slice-aggregate-high-nodes : tie.Need-slice-aggregate-high-nodes Inv-loop μ-loop
 slice-aggregate-high-nodes c = search needs
@@ -23,10 +50,9 @@ high-nodes-requires c κs = search needs
 
 loop-holds : tie.Need-loop-holds Inv-loop μ-loop
 loop-holds c =
-    let start = c .before .before .before .before .before .before in
-    let at-high-nodes = c .before in
-    choosing-none _ _ _ _ _ ((start .pre .0) .size) (start .pre .1) (at-high-nodes .high-nodes .kept .1 .1 .1 .1 .0)
-    (at-high-nodes .high-nodes .ensures)
+    let high = c .before .high-nodes in
+    let pre = c .before .before .before .before .before .before .pre in
+    choosing-none (pre .0 .size) (pre .1) (high .kept .1 .1 .1 .1 .0) (high .ensures)
 
 slice-aggregate-smallest : tie.Need-slice-aggregate-smallest Inv-loop μ-loop
 slice-aggregate-smallest c = search needs
@@ -41,96 +67,59 @@ best-node-requires : tie.Need-best-node-requires Inv-loop μ-loop
 best-node-requires c κs = search needs
 
 cast-list : tie.Need-cast-list Inv-loop μ-loop
-cast-list c =
-    let at-loop = c .before .before .before .before .before in
-    omega (
-      arith,
-      choosing-node (at-loop .loop .inv) (c .before .before .before .smallest .ensures) (c .before .before .if1 .left),
-    )
+cast-list c = omega (arith, hub-below c)
 
 mul-list : tie.Need-mul-list Inv-loop μ-loop
-mul-list c =
-    let at-loop = c .before .before .before .before .before in
-    omega (
-      arith,
-      choosing-room (at-loop .loop .inv) (c .before .before .before .smallest .ensures) (c .before .before .if1 .left) .0,
-    )
+mul-list c = omega (arith, room c)
 
 slice-write-list : tie.Need-slice-write-list Inv-loop μ-loop
-slice-write-list c = choosing-room (c .before .before .before .before .before .loop .inv) (c .before .before .before .smallest .ensures)
-    (c .before .before .if1 .left) .1
+slice-write-list c = room c .1
 
 add-count : tie.Need-add-count Inv-loop μ-loop
-add-count c =
-    let at-loop = c .before .before .before .before .before in
-    omega (
-      arith,
-      choosing-room (at-loop .loop .inv) (c .before .before .before .smallest .ensures) (c .before .before .if1 .left) .0,
-    )
+add-count c = omega (arith, room c)
 
 slice-aggregate-cover : tie.Need-slice-aggregate-cover Inv-loop μ-loop
 slice-aggregate-cover c = search needs
 
 cover-requires : tie.Need-cover-requires Inv-loop μ-loop
 cover-requires c κs =
-    let start = c .before .before .before .before .before .before .before .before .before .before .before .before .before in
-    let at-loop = c .before .before .before .before .before .before in (
-      (start .pre .0),
-      omega (
-        arith,
-        choosing-node (at-loop .loop .inv) (c .before .before .before .before .smallest .ensures)
-            (c .before .before .before .if1 .left),
-      ),
-      (at-loop .loop .inv) .long,
-    )
+    let found = c .before in
+    (start (turn found) .pre .0, omega (arith, hub-below found), turn found .loop .inv .long)
 
 loop-less : tie.Need-loop-less Inv-loop μ-loop
-loop-less c =
-    let at-loop = c .before .before .before .before .before .before .before .before in
-    let at-smallest = c .before .before .before .before .before .before in
-    omega (
-      arith,
-      choosing-room (at-loop .loop .inv) (at-smallest .smallest .ensures)
-          (c .before .before .before .before .before .if1 .left) .0,
-    )
+loop-less c = omega (arith, room (c .before .before .before))
 
 loop-again : tie.Need-loop-again Inv-loop μ-loop
 loop-again c =
-    let at-loop = c .before .before .before .before .before .before .before .before in
-    let at-smallest = c .before .before .before .before .before .before in
-    let at-cover = c .before in
-    choosing-more (at-loop .loop .inv) (at-smallest .smallest .ensures) (c .before .before .before .before .before .if1 .left)
-    (c .before .before .before .best-node .ensures) (at-cover .cover .kept .1 .1 .1 .1 .0) (at-cover .cover .ensures)
+    let cover = c .before .cover in
+    let found = c .before .before .before in
+    choosing-more (turn found .loop .inv) (some found) (found .best-node .ensures) (cover .kept .1 .1 .1 .1 .0) (cover .ensures)
 
 mul-fill16 : tie.Need-mul-fill16 Inv-loop μ-loop
-mul-fill16 c =
-    let at-loop = c .before .before .before in
-    omega (arith, choosing-part (at-loop .loop .inv) .0)
+mul-fill16 c = omega (arith, rest (c .before .before .before))
 
 sub-fill16 : tie.Need-sub-fill16 Inv-loop μ-loop
-sub-fill16 c = choosing-part (c .before .before .before .loop .inv) .0
+sub-fill16 c = rest (c .before .before .before) .0
 
 part-fill16-start : tie.Need-part-fill16-start Inv-loop μ-loop
-part-fill16-start c = choosing-part (c .before .before .before .loop .inv) .0
+part-fill16-start c = rest (c .before .before .before) .0
 
 part-fill16-end : tie.Need-part-fill16-end Inv-loop μ-loop
-part-fill16-end c = choosing-part (c .before .before .before .loop .inv) .1
+part-fill16-end c = rest (c .before .before .before) .1
 
 fill16-requires : tie.Need-fill16-requires Inv-loop μ-loop
 fill16-requires c κs = search needs
 
 same-length : tie.Need-same-length Inv-loop μ-loop
 same-length c =
-    let at-loop = c .before .before .before .before .before .before .before in
-    let at-fill16 = c .before .before in
-    choosing-same (at-loop .loop .inv) (at-fill16 .fill16 .last .0) (at-fill16 .fill16 .kept .0)
+    let fill16 = c .before .before .fill16 in
+    choosing-same (c .before .before .before .before .before .before .before .loop .inv) (fill16 .last .0) (fill16 .kept .0)
 
 returns : tie.Need-returns Inv-loop μ-loop
 returns c =
-    let at-loop = c .before .before .before .before .before .before .before in
-    let at-fill16 = c .before .before in
-    choosing-all (at-loop .loop .inv) (c .before .before .before .before .before .smallest .ensures)
-    (c .before .before .before .before .if1 .taken) _ (at-fill16 .fill16 .ensures)
+    let covered = c .before .before .before .before in
+    choosing-all (covered .before .before .before .loop .inv) (covered .before .smallest .ensures) (covered .if1 .taken)
+    (c .before .before .fill16 .ensures)
 
 pub choose-hubs-spec : {M : Type 1} → statement M
 choose-hubs-spec =

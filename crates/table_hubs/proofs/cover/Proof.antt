@@ -1,8 +1,7 @@
 -- `table_hubs::cover` meets its contract: the closed neighbourhood is taken out.
 -- Assumes nothing.
-use native.Mathlib.Omega.{arith}
 use mathlib.Core.Path.{ap, _∙_}
-use Rattle.base_nodeset.specs.NodeSet.{member, difference}
+use Rattle.base_nodeset.specs.NodeSet.{difference}
 use borrow.Author.Needs.{needs}
 use Rattle.table_hubs.proofs.cover.Statement.{statement}
 use Rattle.table_hubs.proofs.cover.Tie as tie
@@ -24,9 +23,8 @@ same-length c = search needs
 
 returns : tie.Need-returns
 returns c =
-    let at-insert-closed = c .before .before .before .before .before .before in
-    (c .before .before .subtract .ensures) ∙ ap (difference (member _))
-    (at-insert-closed .insert-closed .ensures)
+    let near = c .before .before .before .before .before .before .insert-closed in
+    c .before .before .subtract .ensures ∙ ap (difference _) (near .ensures)
 
 pub cover-spec : {M : Type 1} → statement M
 cover-spec =

@@ -1,6 +1,5 @@
--- `table_hubs::gain_of` meets its contract: words in count-intersection, counted.
+-- `table_hubs::gain_of` meets its contract: what the closed neighbourhood and the uncovered nodes have in common is counted.
 -- Assumes nothing.
-use native.Mathlib.Omega.{arith}
 use mathlib.Core.Path.{_∙_}
 use Rattle.table_hubs.proofs.Sets.{gain-words}
 use borrow.Author.Needs.{needs}
@@ -21,9 +20,9 @@ count-intersection-requires c κs = search needs
 
 returns : tie.Need-returns
 returns c =
+    let near = c .before .before .before .insert-closed in
     let start = c .before .before .before .before .before .before .before .before in
-    (c .count-intersection .ensures) ∙ gain-words _ _ _ (start .pre .0) _ (start .pre .1) _ _ (search needs)
-    (c .before .before .before .insert-closed .ensures)
+    c .count-intersection .ensures ∙ gain-words (start .pre .0) _ (start .pre .1) _ _ (search needs) (near .ensures)
 
 pub gain-of-spec : {M : Type 1} → statement M
 gain-of-spec =

@@ -4,7 +4,7 @@ use Prim.Native.Nat.{_-_, _≤_}
 use native.Mathlib.Omega.{arith}
 use lib.ListN.{length}
 use Rattle.model.proofs.Ascending.{getD-has}
-use Rattle.table_hubs.proofs.Sets.{Inserted, inserted-none, inserted-more, inserted-all}
+use Rattle.table_hubs.proofs.Sets.{Inserted, inserted-more, inserted-all}
 use borrow.Author.Needs.{needs}
 use Rattle.table_hubs.proofs.insert_list.Statement.{statement}
 use Rattle.table_hubs.proofs.insert_list.Tie as tie
@@ -25,14 +25,13 @@ shared-slice-read-insert : tie.Need-shared-slice-read-insert Inv-loop μ-loop
 shared-slice-read-insert c = search needs
 
 cast-insert : tie.Need-cast-insert Inv-loop μ-loop
-cast-insert c = omega (arith, (c .shared-slice-known2 .given) (c .before .before .before .loop .i))
+cast-insert c = omega (arith, c .shared-slice-known2 .given (c .before .before .before .loop .i))
 
 insert-requires : tie.Need-insert-requires Inv-loop μ-loop
 insert-requires c κs =
-    let start = c .before .before .before .before .before .before in
-    let at-loop = c .before .before .before in
-    rw ((at-loop .loop .inv .1) .same) ((start .pre) _
-    (getD-has _ _ (c .before .before .loop-test .taken)))
+    let turn = c .before .before in
+    let start = turn .before .before .before .before in
+    rw (turn .before .loop .inv .1 .same) (start .pre _ (getD-has _ _ (turn .loop-test .taken)))
 
 add-i : tie.Need-add-i Inv-loop μ-loop
 add-i c = search needs
@@ -42,18 +41,15 @@ loop-less c = search needs
 
 loop-again : tie.Need-loop-again Inv-loop μ-loop
 loop-again c =
-    let at-loop = c .before .before .before .before .before .before in
-    let at-insert = c .before .before in (
-      omega arith,
-      inserted-more _ _ _ _ (at-loop .loop .inv .1) _ (c .before .before .before .before .before .loop-test .taken)
-          (at-insert .insert .kept .0) (at-insert .insert .ensures),
-    )
+    let insert = c .before .before .insert in
+    let turn = c .before .before .before .before .before in
+    (omega arith, inserted-more (turn .before .loop .inv .1) (turn .loop-test .taken) (insert .kept .0) (insert .ensures))
 
 same-length : tie.Need-same-length Inv-loop μ-loop
 same-length c = search needs
 
 returns : tie.Need-returns Inv-loop μ-loop
-returns c = inserted-all _ _ _ _ (c .before .loop .inv .1) (c .loop-test .left)
+returns c = inserted-all (c .before .loop .inv .1) (c .loop-test .left)
 
 pub insert-list-spec : {M : Type 1} → statement M
 insert-list-spec =
