@@ -1,6 +1,6 @@
 -- A row improved entry by entry by a route through a hub.
 -- Assumes nothing.
-use mathlib.Core.Path.{_≡_, refl, sym, ap, ap₂, _∙_}
+use mathlib.Core.Path.{_≡_, sym, ap, ap₂, _∙_}
 use mathlib.Core.List.{List, [], _∷_, _++_, append-nil}
 use Prim.Native.Nat.{ℕ, _+_, _≤_, _<_, min}
 use native.Mathlib.Numerals.{add-one}
@@ -12,37 +12,36 @@ use Rattle.table_report.specs.Relaxed.{relaxed}
 
 -- after b entries: the front is improved, and what is left still says the whole
 pub record Relaxing (x : ℕ) (other row₀ row : List ℕ) (b : ℕ) : Type 0 where
+  pub long : length row₀ ≡ length other
   pub within : b ≤ length row
   pub same : length row ≡ length row₀
   pub whole : take b row ++ relaxed x (drop b other) (drop b row) ≡ relaxed x other row₀
 
-module _ (x : ℕ) (other row₀ : List ℕ) (long : length row₀ ≡ length other) where
-  pub relaxing-none : Relaxing x other row₀ row₀ 0
-  relaxing-none = record { within = omega arith; same = refl; whole = refl }
+module _ {x : ℕ} {other row₀ row : List ℕ} {b : ℕ} (r : Relaxing x other row₀ row b) where
+  pub relaxing-next : {v : ℕ} → b < length row → v ≡ min (x + getD other b 0) (getD row b 0) → Relaxing x other row₀ (set row b v) (b + 1)
+  unfolding relaxed
+  relaxing-next {v} h q =
+      let rest : List ℕ = relaxed x (drop (b + 1) other) (drop (b + 1) row) in
+      let front : take (b + 1) (set row b v) ≡ take b row ++ v ∷ [] =
+      ap (λ (k : ℕ). take k (set row b v)) (add-one b) ∙ take-suc-set row b v h in
+      let here : relaxed x (drop b other) (drop b row) ≡ v ∷ rest =
+      ap₂ (relaxed x) (drop-next other b (omega (arith, r .same, r .long))) (drop-next row b h) ∙ ap (λ (k : ℕ). k ∷ rest) (sym q) in
+      record {
+        long = r .long;
+        within = omega (arith, length-set row b v);
+        same = length-set row b v ∙ r .same;
+        whole =
+            ap₂ (λ (p q : List ℕ). p ++ relaxed x (drop (b + 1) other) q) front (drop-set-lt (b + 1) row b v (omega arith))
+            ∙ append-snoc (take b row) v rest
+            ∙ ap (λ (q : List ℕ). take b row ++ q) (sym here)
+            ∙ r .whole;
+      }
 
-  module _ (row : List ℕ) (b : ℕ) (r : Relaxing x other row₀ row b) where
-    pub relaxing-next : b < length row → Relaxing x other row₀ (set row b (min (x + getD other b 0) (getD row b 0))) (b + 1)
-    unfolding relaxed
-    relaxing-next h =
-        let v = min (x + getD other b 0) (getD row b 0) in
-        let rest : List ℕ = relaxed x (drop (b + 1) other) (drop (b + 1) row) in
-        let front : take (b + 1) (set row b v) ≡ take b row ++ v ∷ [] = ap (λ (k : ℕ). take k (set row b v)) (add-one b) ∙ take-suc-set row b v h in
-        let e : relaxed x (drop b other) (drop b row) ≡ v ∷ rest = ap₂ (relaxed x) (drop-next other b (omega (arith, r .same))) (drop-next row b h) in
-        record {
-          within = omega (arith, length-set row b v);
-          same = length-set row b v ∙ r .same;
-          whole =
-              ap₂ (λ (p q : List ℕ). p ++ relaxed x (drop (b + 1) other) q) front (drop-set-lt (b + 1) row b v (omega arith))
-              ∙ append-snoc (take b row) v rest
-              ∙ ap (λ (q : List ℕ). take b row ++ q) (sym e)
-              ∙ r .whole;
-        }
-
-    pub relaxing-done : length row ≤ b → row ≡ relaxed x other row₀
-    unfolding relaxed
-    relaxing-done h =
-        let k : length other ≤ b = omega (arith, r .same) in
-        sym (append-nil row)
-        ∙ ap₂ (λ (p q : List ℕ). p ++ q) (sym (take-all b row h))
-        (sym (ap₂ (relaxed x) (drop-of-length-le other k) (drop-of-length-le row h)))
-        ∙ r .whole
+  pub relaxing-done : length row ≤ b → row ≡ relaxed x other row₀
+  unfolding relaxed
+  relaxing-done h =
+      let k : length other ≤ b = omega (arith, r .same, r .long) in
+      sym (append-nil row)
+      ∙ ap₂ (λ (p q : List ℕ). p ++ q) (sym (take-all b row h))
+      (sym (ap₂ (relaxed x) (drop-of-length-le other k) (drop-of-length-le row h)))
+      ∙ r .whole

@@ -1,4 +1,4 @@
--- A row of Report, hub by hub.
+-- A row of Report, hub by hub; and Report, row by row.
 -- Assumes nothing.
 use mathlib.Core.Path.{_≡_, refl, sym, ap, ap₂, _∙_}
 use mathlib.Core.Logic.{_⊎_, inl, inr}
@@ -8,106 +8,156 @@ use Prim.Native.Nat.{ℕ, _+_, _-_, _*_, _≤_, _<_, min}
 use native.Mathlib.Numerals.{add-one}
 use native.Mathlib.Omega.{arith}
 use borrow.Author.Tests.{eq-eqb, ne-eqb}
-use borrow.Rule.Slice.PartMut.{midOf}
+use borrow.Rule.Slice.PartMut.{midOf, putMid}
 use lib.Dec.{T, eqb}
 use lib.ListN.{length, getD, take, drop, set, length-set}
 use lib.Seq.{take-at, ext-getD, getD-take, getD-drop, take-suc, take-all, getD-set-same, getD-set-other}
-use Rattle.base_lists.specs.Written.{Wrote}
+use Rattle.base_lists.specs.Written.{Wrote, written}
 use Rattle.base_lists.proofs.Written.{wrote-over, over-whole}
+use Rattle.base_lists.proofs.TableRows.{part-length, row-put, row-same, table-same}
+use Rattle.base_lists.proofs.TableRows.{rowsTo, rows-none, rows-next, rows-done, rows-length}
 use Rattle.model.specs.Basics.{none, if_then_else_, upTo, has, over}
 use Rattle.model.specs.Tables.{table, entryAt, sum, via, least, reportEntry, reportOf}
 use Rattle.model.proofs.Allowance.{least-base}
 use Rattle.model.proofs.Entries.{length-row, getD-row, length-table, entry-front}
 use Rattle.model.proofs.Lists.{has-head, has-tail}
 use Rattle.model.proofs.Tests.{eq-or}
-use Rattle.base_lists.proofs.TableRows.{part-length, row-same, table-same}
 use Rattle.table_report.specs.Relaxed.{relaxed}
 
 -- a list of n entries is a row if its entries are
-pub is-row : (n : ℕ) (f : ℕ → ℕ) (l : List ℕ) → length l ≡ n → ((b : ℕ) → b < n → getD l b 0 ≡ f b) → l ≡ map f (upTo n)
+is-row : (n : ℕ) (f : ℕ → ℕ) (l : List ℕ) → length l ≡ n → ((b : ℕ) → b < n → getD l b 0 ≡ f b) → l ≡ map f (upTo n)
 is-row n f l size e =
-    ext-getD 0 l (map f (upTo n)) (size ∙ sym (length-row f n)) (λ b k. let j : b < n = omega (arith, size) in e b j ∙ sym (getD-row f n b 0 j))
+    ext-getD 0 l (map f (upTo n)) (size ∙ sym (length-row f n)) (λ b k.
+    let j : b < n = omega (arith, size) in
+    e b j ∙ sym (getD-row f n b 0 j))
 
 -- row a of a table, as a part of the list
-pub own-row : (n a : ℕ) (t : List ℕ) → a < n → n * n ≤ length t → midOf (a * n) (a * n + n - a * n) t ≡ map (entryAt n t a) (upTo n)
+own-row : (n a : ℕ) (t : List ℕ) → a < n → n * n ≤ length t → midOf (a * n) (a * n + n - a * n) t ≡ map (entryAt n t a) (upTo n)
 unfolding entryAt
 own-row n a t h room =
-    is-row n (entryAt n t a) (midOf (a * n) (a * n + n - a * n) t) (part-length n a t h room) (λ b k. getD-take (a * n + n - a * n) (drop (a * n) t) b 0 (omega arith) ∙ getD-drop (a * n) t b 0)
+    is-row n (entryAt n t a) (midOf (a * n) (a * n + n - a * n) t) (part-length n a t h room) (λ b k.
+    getD-take (a * n + n - a * n) (drop (a * n) t) b 0 (omega arith) ∙ getD-drop (a * n) t b 0)
 
-pub relaxed-row : (x : ℕ) (f g : ℕ → ℕ) (l : List ℕ) → relaxed x (map f l) (map g l) ≡ map (λ b. min (x + f b) (g b)) l
+relaxed-row : (x : ℕ) (f g : ℕ → ℕ) (l : List ℕ) → relaxed x (map f l) (map g l) ≡ map (λ b. min (x + f b) (g b)) l
 unfolding relaxed
 relaxed-row x f g [] = refl
 relaxed-row x f g (y ∷ l) = ap (λ (r : List ℕ). min (x + f y) (g y) ∷ r) (relaxed-row x f g l)
 
 -- a sum with a none in it is never the lesser
-pub lesser-sum : (x y e : ℕ) → e ≤ none → min (x + y) e ≡ min (sum x y) e
+lesser-sum : (x y e : ℕ) → e ≤ none → min (x + y) e ≡ min (sum x y) e
 unfolding sum
 lesser-sum x y e h = at (eq-or x none) (eq-or y none)
   where
-    at : (x ≡ none) ⊎ (x ≡ none → ⊥) → (y ≡ none) ⊎ (y ≡ none → ⊥) → min (x + y) e ≡ min (if eqb x none || eqb y none then none else x + y) e
+    at : (x ≡ none) ⊎ (x ≡ none → ⊥) → (y ≡ none) ⊎ (y ≡ none → ⊥)
+        → min (x + y) e ≡ min (if eqb x none || eqb y none then none else x + y) e
     at (inl p) q = rw (eq-eqb x none p) (omega arith)
     at (inr p) (inl q) = rw (ne-eqb x none p, eq-eqb y none q) (omega arith)
-    at (inr p) (inr q) = rw (ne-eqb x none p, ne-eqb y none q) refl
+    at (inr p) (inr q) = rw (ne-eqb x none p, ne-eqb y none q)
 
--- ---- the least over the first hubs
+-- ---- a row of Report, hub by hub
 
-module _ (n : ℕ) (full low : List ℕ) (hs : List ℕ) (a : ℕ) where
-  unfoldable pub leastTo : ℕ → ℕ → ℕ
-  leastTo i b = least (via n full a b) (entryAt n low a b) (take i hs)
+-- the least over Low and the first k hubs
+abbrev leastTo : (n : ℕ) (full low hs : List ℕ) (a k b : ℕ) → ℕ
+leastTo n full low hs a k b = least (via n full a b) (entryAt n low a b) (take k hs)
 
-  pub least-none : map (entryAt n low a) (upTo n) ≡ map (leastTo 0) (upTo n)
-  unfolding leastTo
-  least-none = refl
+-- one hub more
+least-snoc : (f : ℕ → ℕ) (x u : ℕ) (l : List ℕ) → least f x (l ++ u ∷ []) ≡ min (f u) (least f x l)
+least-snoc f x u [] = refl
+least-snoc f x u (h ∷ l) = omega (arith, least-snoc f x u l)
 
-  least-front : (b v : ℕ) (l : List ℕ) → least (via n full a b) (min v (entryAt n low a b)) l ≡ min v (least (via n full a b) (entryAt n low a b) l)
-  least-front b v [] = refl
-  least-front b v (h ∷ l) = omega (arith, least-front b v l)
+-- after k hubs, the entries of row a are the least over Low and those hubs
+pub record RowTo (n : ℕ) (full low hs : List ℕ) (a : ℕ) (row : List ℕ) (k : ℕ) : Type 0 where
+  pub within : k ≤ length hs
+  pub long : length row ≡ n
+  pub says : row ≡ map (leastTo n full low hs a k) (upTo n)
 
-  least-snoc : (b u : ℕ) (l : List ℕ) → least (via n full a b) (entryAt n low a b) (l ++ u ∷ []) ≡ min (via n full a b u) (least (via n full a b) (entryAt n low a b) l)
-  least-snoc b u [] = refl
-  least-snoc b u (h ∷ l) = omega (arith, least-snoc b u l)
+-- before the first hub it is Low's row, copied
+pub row-none : {n e : ℕ} {full low hs : List ℕ} {a : ℕ} {row₀ row : List ℕ} → n * n ≤ length low → a < n → length row₀ ≡ n
+    → Wrote row₀ row 0 e (midOf (a * n) (a * n + n - a * n) low) → RowTo n full low hs a row 0
+row-none {n} {low = low} {a = a} {row₀} {row} room h long w =
+    let part = midOf (a * n) (a * n + n - a * n) low in
+    let copied : row ≡ part = wrote-over part w .0 ∙ over-whole part row₀ (long ∙ sym (part-length n a low h room)) in
+    record {
+      within = omega arith;
+      long = ap length copied ∙ part-length n a low h room;
+      says = copied ∙ own-row n a low h room;
+    }
 
-  module _ (small : (b : ℕ) → b < n → entryAt n low a b ≤ none) where
-    pub least-next : (i : ℕ) → i < length hs
-        → relaxed (entryAt n full (getD hs i 0) a) (map (entryAt n full (getD hs i 0)) (upTo n)) (map (leastTo i) (upTo n)) ≡ map (leastTo (i + 1)) (upTo n)
-    unfolding leastTo via
-    least-next i h =
-        let u = getD hs i 0 in
-        relaxed-row (entryAt n full u a) (entryAt n full u) (leastTo i) (upTo n)
-        ∙ row-same n (λ b. min (entryAt n full u a + entryAt n full u b) (leastTo i b)) (leastTo (i + 1)) (λ b k.
-        lesser-sum (entryAt n full u a) (entryAt n full u b) (leastTo i b) (omega (arith, small b k, least-base (via n full a b) (entryAt n low a b) (take i hs)))
-        ∙ sym (least-snoc b u (take i hs))
-        ∙ ap (λ (l : List ℕ). least (via n full a b) (entryAt n low a b) l) (sym (ap (λ (k : ℕ). take k hs) (add-one i) ∙ take-suc hs i 0 h)))
+module _ {n : ℕ} {full low hs : List ℕ} {a : ℕ} {row : List ℕ} {k : ℕ} (r : RowTo n full low hs a row k) where
+  -- hub k's row of Full improves it
+  pub row-next : {row′ : List ℕ} → n * n ≤ length full → ((i : ℕ) → getD low i 0 ≤ none) → k < length hs → getD hs k 0 < n
+      → row′ ≡ relaxed (getD full (getD hs k 0 * n + a) 0) (midOf (getD hs k 0 * n) (getD hs k 0 * n + n - getD hs k 0 * n) full) row
+      → RowTo n full low hs a row′ (k + 1)
+  unfolding via entryAt
+  row-next {row′} room small h below e =
+      let u = getD hs k 0 in
+      let to = leastTo n full low hs a in
+      let more : take (k + 1) hs ≡ take k hs ++ u ∷ [] = ap (λ (j : ℕ). take j hs) (add-one k) ∙ take-suc hs k 0 h in
+      let lesser : (b : ℕ) → b < n → min (entryAt n full u a + entryAt n full u b) (to k b) ≡ to (k + 1) b =
+      λ b l.
+      lesser-sum (entryAt n full u a) (entryAt n full u b) (to k b)
+      (omega (arith, small (a * n + b), least-base (via n full a b) (entryAt n low a b) (take k hs)))
+      ∙ sym (least-snoc (via n full a b) (entryAt n low a b) u (take k hs))
+      ∙ ap (least (via n full a b) (entryAt n low a b)) (sym more) in
+      let says : row′ ≡ map (to (k + 1)) (upTo n) =
+      e ∙ ap₂ (relaxed (entryAt n full u a)) (own-row n u full below room) (r .says)
+      ∙ relaxed-row (entryAt n full u a) (entryAt n full u) (to k) (upTo n)
+      ∙ row-same n (λ b. min (entryAt n full u a + entryAt n full u b) (to k b)) (to (k + 1)) lesser in
+      record { within = omega arith; long = ap length says ∙ length-row (to (k + 1)) n; says = says }
 
   -- all hubs, and 0 at a itself
-  pub least-done : (i : ℕ) → length hs ≤ i → a < n
-      → set (map (leastTo i) (upTo n)) a 0 ≡ map (reportEntry n full low hs a) (upTo n)
-  unfolding leastTo
-  least-done i h k =
-      is-row n (reportEntry n full low hs a) (set (map (leastTo i) (upTo n)) a 0)
-      (length-set (map (leastTo i) (upTo n)) a 0 ∙ length-row (leastTo i) n) (λ b j. at b j (eq-or a b))
+  pub row-done : length hs ≤ k → a < n → set row a 0 ≡ map (reportEntry n full low hs a) (upTo n)
+  row-done h l =
+      is-row n (reportEntry n full low hs a) (set row a 0) (length-set row a 0 ∙ r .long) (λ b j. at b j (eq-or a b))
     where
-      at : (b : ℕ) → b < n → (a ≡ b) ⊎ (a ≡ b → ⊥)
-          → getD (set (map (leastTo i) (upTo n)) a 0) b 0 ≡ reportEntry n full low hs a b
+      at : (b : ℕ) → b < n → (a ≡ b) ⊎ (a ≡ b → ⊥) → getD (set row a 0) b 0 ≡ reportEntry n full low hs a b
       at b j (inl e) =
           rw (eq-eqb a b e) (
-          ap (λ (c : ℕ). getD (set (map (leastTo i) (upTo n)) a 0) c 0) (sym e)
-          ∙ getD-set-same (map (leastTo i) (upTo n)) a 0 0 (omega (arith, length-row (leastTo i) n))
-          )
+          ap (λ (c : ℕ). getD (set row a 0) c 0) (sym e) ∙ getD-set-same row a 0 0 (omega (arith, r .long)))
       at b j (inr d) =
           rw (ne-eqb a b d) (
-          getD-set-other (map (leastTo i) (upTo n)) a b 0 0 (λ e. d (sym e))
-          ∙ getD-row (leastTo i) n b 0 j
-          ∙ ap (λ (l : List ℕ). least (via n full a b) (entryAt n low a b) l) (take-all i hs h)
-          )
+          getD-set-other row a b 0 0 (λ e. d (sym e))
+          ∙ ap (λ (t : List ℕ). getD t b 0) (r .says)
+          ∙ getD-row (leastTo n full low hs a k) n b 0 j
+          ∙ ap (least (via n full a b) (entryAt n low a b)) (take-all k hs h))
 
--- a list that becomes another of its length
-pub copied : (x x′ t : List ℕ) (e : ℕ) → Wrote x x′ 0 e t → length x ≡ length t → x′ ≡ t
-copied x x′ t e w l = wrote-over t w .0 ∙ over-whole t x l
+-- ---- Report, row by row
+
+-- the first a rows are written, and what else stood in the list t is as it was
+pub record ReportTo (n : ℕ) (full low hs t report : List ℕ) (a : ℕ) : Type 0 where
+  pub within : a ≤ n
+  pub room : n * n ≤ length t
+  pub same : length report ≡ length t
+  pub rows : report ≡ rowsTo n (reportEntry n full low hs) t a
+
+pub report-none : {n : ℕ} {full low hs t : List ℕ} → n * n ≤ length t → ReportTo n full low hs t t 0
+report-none {n} {full} {low} {hs} {t} room = record {
+  within = omega arith;
+  room = room;
+  same = refl;
+  rows = rows-none n (reportEntry n full low hs) t room;
+}
+
+module _ {n : ℕ} {full low hs t report : List ℕ} {a : ℕ} (r : ReportTo n full low hs t report a) where
+  -- a part of the list becomes row a
+  pub report-next : {part : List ℕ} → a < n → length part ≡ length (midOf (a * n) (a * n + n - a * n) report)
+      → part ≡ map (reportEntry n full low hs a) (upTo n)
+      → ReportTo n full low hs t (putMid (a * n) (a * n + n - a * n) report part) (a + 1)
+  report-next {part} h l e =
+      let F = reportEntry n full low hs in
+      let rows : putMid (a * n) (a * n + n - a * n) report part ≡ rowsTo n F t (a + 1) =
+      row-put (a * n) n report part (map (F a) (upTo n)) (l ∙ part-length n a report h (omega (arith, r .same, r .room))) e
+      ∙ ap (λ (x : List ℕ). written x (a * n) (map (F a) (upTo n))) (r .rows)
+      ∙ rows-next n F t a h in
+      record { within = omega arith; room = r .room; same = ap length rows ∙ rows-length n F t (a + 1) (r .room); rows = rows }
+
+  pub report-done : n ≤ a → report ≡ over (reportOf n full low hs) t
+  report-done h = r .rows ∙ rows-done n (reportEntry n full low hs) t a h
 
 -- ---- Report from tables that stand in front of longer lists
 
-entry-over : (n : ℕ) (f : ℕ → ℕ → ℕ) (t : List ℕ) (a b : ℕ) → a < n → b < n → entryAt n (over (table n f) t) a b ≡ entryAt n (table n f) a b
+entry-over : (n : ℕ) (f : ℕ → ℕ → ℕ) (t : List ℕ) (a b : ℕ) → a < n → b < n
+    → entryAt n (over (table n f) t) a b ≡ entryAt n (table n f) a b
 unfolding over
 entry-over n f t a b ha hb =
     entry-front n (over (table n f) t) (table n f) (take-at (table n f) (drop (length (table n f)) t) (n * n) (length-table n f)) a b ha hb
@@ -116,11 +166,17 @@ pub report-same : (n : ℕ) (f g : ℕ → ℕ → ℕ) (full low hs : List ℕ)
     → reportOf n (over (table n f) full) (over (table n g) low) hs ≡ reportOf n (table n f) (table n g) hs
 unfolding via
 report-same n f g full low hs below =
-    table-same n (reportEntry n (over (table n f) full) (over (table n g) low) hs) (reportEntry n (table n f) (table n g) hs) (λ a b ha hb.
+    table-same n (reportEntry n full′ low′ hs) (reportEntry n (table n f) (table n g) hs) (λ a b ha hb.
     ap (λ (x : ℕ). if eqb a b then 0 else x) (at a b ha hb hs below))
   where
+    full′ : List ℕ
+    full′ = over (table n f) full
+
+    low′ : List ℕ
+    low′ = over (table n g) low
+
     at : (a b : ℕ) → a < n → b < n → (l : List ℕ) → ((h : ℕ) → T (has h l) → h < n)
-        → least (via n (over (table n f) full) a b) (entryAt n (over (table n g) low) a b) l ≡ least (via n (table n f) a b) (entryAt n (table n g) a b) l
+        → least (via n full′ a b) (entryAt n low′ a b) l ≡ least (via n (table n f) a b) (entryAt n (table n g) a b) l
     at a b ha hb [] below = entry-over n g low a b ha hb
     at a b ha hb (h ∷ l) below =
         let k = below h (has-head h l) in

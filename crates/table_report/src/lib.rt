@@ -18,8 +18,8 @@ fn lesser(a: u16, b: u16) -> u16
     b
 }
 
-// The sum of two numbers, or none where 16 bits cannot hold it. It is made in 32 bits, so that it never wraps. From the shift the
-// compiler makes one instruction that adds eight entries.
+// The sum of two numbers, or none where 16 bits cannot hold it. It is computed in 32 bits, so it never wraps. Because of the shift,
+// the compiler uses one instruction that adds eight entries at once.
 fn sum_or_none(a: u16, b: u16) -> u16
     ensures { λ r. ⌜ r ≡ min (a + b) none ⌝ }
 {
@@ -65,7 +65,8 @@ fn report_row(n: usize, full: &[u16], low: &[u16], hubs: &[u16], a: usize, row: 
 pub fn fill_report(n: usize, full: &[u16], low: &[u16], hubs: &[u16], report: &mut [u16])
     requires { ⌜ (n ≤ 1024) × (n * n ≤ length (now full)) × (n * n ≤ length (now low)) × (n * n ≤ length (now report)) ⌝ }
     requires { ⌜ ((h : ℕ) → T (has h (now hubs)) → h < n) ⌝ }
-    ensures { λ _. ⌜ now (report .exit) ≡ over (reportOf n (now (full .entry)) (now (low .entry)) (now (hubs .entry))) (now (report .entry)) ⌝ }
+    ensures { λ _. ⌜ now (report .exit)
+        ≡ over (reportOf n (now (full .entry)) (now (low .entry)) (now (hubs .entry))) (now (report .entry)) ⌝ }
 {
     let mut a = 0;
     while a < n {

@@ -1,10 +1,9 @@
 -- `table_report::relax` meets its contract: after b entries the front is improved.
 -- Assumes nothing.
-use mathlib.Core.Path.{_≡_, subst}
-use Prim.Native.Nat.{ℕ, _+_, _-_, min}
+use Prim.Native.Nat.{_-_}
 use native.Mathlib.Omega.{arith}
-use lib.ListN.{length, getD, set, length-set}
-use Rattle.table_report.proofs.Relaxing.{Relaxing, relaxing-none, relaxing-next, relaxing-done}
+use lib.ListN.{length, length-set}
+use Rattle.table_report.proofs.Relaxing.{Relaxing, relaxing-next, relaxing-done}
 use borrow.Author.Needs.{needs}
 use Rattle.table_report.proofs.relax.Statement.{statement}
 use Rattle.table_report.proofs.relax.Tie as tie
@@ -46,37 +45,19 @@ add-b : tie.Need-add-b Inv-loop μ-loop
 add-b c = search needs
 
 loop-less : tie.Need-loop-less Inv-loop μ-loop
-loop-less c =
-    let at-loop = c .before .before .before .before .before in
-    omega (
-      arith,
-      length-set (at-loop .loop .row) (at-loop .loop .b)
-          (c .lesser .result),
-    )
+loop-less c = simp length-set (omega arith)
 
 loop-again : tie.Need-loop-again Inv-loop μ-loop
 loop-again c =
-    let start = c .before .before .before .before .before .before .before .before in
-    let at-loop = c .before .before .before .before .before in
-    let e : min ((start .args .x) + getD (start .args .other .now) (at-loop .loop .b) 0) (getD (at-loop .loop .row) (at-loop .loop .b) 0) ≡
-    (c .lesser .result) = omega (
-      arith,
-      (c .before .slice-known2 .given) (at-loop .loop .b),
-    ) in
-    subst (λ (k : ℕ). Relaxing (start .args .x) (start .args .other .now) (start .args .row .now)
-    (set (at-loop .loop .row) (at-loop .loop .b) k) ((at-loop .loop .b) + 1)) e
-    (relaxing-next _ _ _ (start .pre) _
-    _ (at-loop .loop .inv) (c .before .before .before .before .loop-test .taken))
+    let turn = c .before .before .before .before in
+    let known = c .before .slice-known2 in
+    relaxing-next (turn .before .loop .inv) (turn .loop-test .taken) (omega (arith, known .given (turn .before .loop .b)))
 
 same-length : tie.Need-same-length Inv-loop μ-loop
 same-length c = search needs
 
 returns : tie.Need-returns Inv-loop μ-loop
-returns c =
-    let start = c .before .before .before .before in
-    let at-loop = c .before in
-    relaxing-done _ _ _ (start .pre) _ _
-    (at-loop .loop .inv) (c .loop-test .left)
+returns c = relaxing-done (c .before .loop .inv) (c .loop-test .left)
 
 pub relax-spec : {M : Type 1} → statement M
 relax-spec =

@@ -1,41 +1,56 @@
 -- `table_report::report_row` meets its contract: after k hubs each entry is the least over Low and those hubs.
 -- Assumes nothing.
-use mathlib.Core.Path.{_≡_, sym, ap, ap₂, _∙_}
-use mathlib.Core.List.{List, map}
-use Prim.Native.Nat.{ℕ, _+_, _-_, _*_, _≤_}
+use mathlib.Core.Path.{sym, _∙_}
+use Prim.Native.Nat.{ℕ, _+_, _-_, _*_, _≤_, _<_}
 use native.Mathlib.Omega.{arith}
-use lib.ListN.{length, getD, set, length-set}
-use Rattle.model.specs.Basics.{upTo}
-use Rattle.model.specs.Tables.{entryAt}
+use lib.ListN.{length, getD, length-set}
 use Rattle.model.proofs.Ascending.{getD-has}
-use Rattle.model.proofs.Entries.{length-row, place-inside}
-use Rattle.base_lists.proofs.TableRows.{row-ends, part-length}
-use Rattle.table_report.specs.Relaxed.{relaxed}
-use Rattle.table_report.proofs.Reports.{leastTo, copied, own-row, least-none, least-next, least-done}
+use Rattle.model.proofs.Entries.{place-inside}
+use Rattle.base_lists.proofs.TableRows.{row-within, part-length}
+use Rattle.table_report.proofs.Reports.{RowTo, row-none, row-next, row-done}
 use borrow.Author.Needs.{needs}
 use Rattle.table_report.proofs.report_row.Statement.{statement}
 use Rattle.table_report.proofs.report_row.Tie as tie
 
 abbrev Inv-loop : tie.InvT-loop
-Inv-loop n full low hubs a row₀ start end k₀ row k = (k ≤ length hubs) × (row ≡ map (leastTo n full low hubs a k) (upTo n))
+Inv-loop n full low hubs a row₀ start end k₀ row k = RowTo n full low hubs a row k
 
 abbrev μ-loop : tie.MeasureT-loop
 μ-loop n full low hubs a row₀ start end k₀ row k = length hubs - k
 
+-- row a ends in its table
+row-end : (c : tie.Start Inv-loop μ-loop) → c .args .a * c .args .n + c .args .n ≤ c .args .n * c .args .n
+row-end c = row-within _ _ (c .pre .0 .3)
+
+-- in a turn of the loop
+module _ (c : tie.In-loop Inv-loop μ-loop) where
+  abbrev start : tie.Start Inv-loop μ-loop
+  start = c .before .before .before .before .before .before .before .before .before .before .before
+
+  abbrev n : ℕ
+  n = start .args .n
+
+  abbrev hub : ℕ
+  hub = getD (start .args .hubs .now) (c .before .loop .k) 0
+
+  hub-below : hub < n
+  hub-below = start .pre .1 hub (getD-has (start .args .hubs .now) _ (c .loop-test .taken))
+
+  -- so does the hub's row, and its entry at a stands in it
+  hub-end : hub * n + n ≤ n * n
+  hub-end = row-within n hub hub-below
+
+  entry-inside : hub * n + start .args .a < n * n
+  entry-inside = place-inside n hub _ hub-below (start .pre .0 .3)
+
 mul-start : tie.Need-mul-start Inv-loop μ-loop
-mul-start c =
-    let start = c .before .before .before .before in
-    omega (arith, row-ends _ _ (start .args .low .now) (start .pre .0 .3) (start .pre .0 .2))
+mul-start c = omega (arith, row-end (c .before .before .before .before))
 
 add-end : tie.Need-add-end Inv-loop μ-loop
-add-end c =
-    let start = c .before .before .before .before in
-    omega (arith, row-ends _ _ (start .args .low .now) (start .pre .0 .3) (start .pre .0 .2))
+add-end c = omega (arith, row-end (c .before .before .before .before))
 
 mul-copy16 : tie.Need-mul-copy16 Inv-loop μ-loop
-mul-copy16 c =
-    let start = c .before .before .before .before in
-    omega (arith, row-ends _ _ (start .args .low .now) (start .pre .0 .3) (start .pre .0 .2))
+mul-copy16 c = omega (arith, row-end (c .before .before .before .before))
 
 sub-copy16 : tie.Need-sub-copy16 Inv-loop μ-loop
 sub-copy16 c = search needs
@@ -44,25 +59,15 @@ part-copy16-start : tie.Need-part-copy16-start Inv-loop μ-loop
 part-copy16-start c = search needs
 
 part-copy16-end : tie.Need-part-copy16-end Inv-loop μ-loop
-part-copy16-end c =
-    let start = c .before .before .before .before in
-    omega (
-      arith,
-      row-ends _ _ (start .args .low .now) (start .pre .0 .3) (start .pre .0 .2),
-    )
+part-copy16-end c = omega (arith, row-end (c .before .before .before .before))
 
 copy16-requires : tie.Need-copy16-requires Inv-loop μ-loop
 copy16-requires c κs = search needs
 
 loop-holds : tie.Need-loop-holds Inv-loop μ-loop
 loop-holds c =
-    let start = c .before .before .before .before .before .before .before .before .before in (
-      omega arith,
-      copied _ _ _ _ (c .before .before .copy16 .ensures)
-          ((start .pre .0 .4) ∙ sym (part-length _ _ _ (start .pre .0 .3)
-          (start .pre .0 .2))) ∙ own-row _ _ _ (start .pre .0 .3) (start .pre .0 .2) ∙
-          least-none _ _ _ _ _,
-    )
+    let pre = c .before .before .before .before .before .before .before .before .before .pre in
+    row-none (pre .0 .2) (pre .0 .3) (pre .0 .4) (c .before .before .copy16 .ensures)
 
 mul-first : tie.Need-mul-first Inv-loop μ-loop
 mul-first c = search needs
@@ -71,73 +76,25 @@ shared-slice-read-first : tie.Need-shared-slice-read-first Inv-loop μ-loop
 shared-slice-read-first c = search needs
 
 cast-first : tie.Need-cast-first Inv-loop μ-loop
-cast-first c =
-    let start = c .before .before .before .before .before .before .before .before .before .before .before .before in
-    omega (
-      arith,
-      ((start .pre .1) (getD (start .args .hubs .now) _ 0)
-          (getD-has (start .args .hubs .now) _ (c .before .loop-test .taken))),
-    )
+cast-first c = omega (arith, hub-below (c .before))
 
 mul-first-2 : tie.Need-mul-first-2 Inv-loop μ-loop
-mul-first-2 c =
-    let start = c .before .before .before .before .before .before .before .before .before .before .before .before in
-    omega (
-      arith,
-      row-ends _ (getD (start .args .hubs .now) _ 0) (start .args .full .now)
-          ((start .pre .1) (getD (start .args .hubs .now) _ 0)
-          (getD-has (start .args .hubs .now) _ (c .before .loop-test .taken))) (start .pre .0 .1),
-    )
+mul-first-2 c = omega (arith, hub-end (c .before))
 
 add-last : tie.Need-add-last Inv-loop μ-loop
-add-last c =
-    let start = c .before .before .before .before .before .before .before .before .before .before .before .before in
-    omega (
-      arith,
-      row-ends _ (getD (start .args .hubs .now) _ 0) (start .args .full .now)
-          ((start .pre .1) (getD (start .args .hubs .now) _ 0)
-          (getD-has (start .args .hubs .now) _ (c .before .loop-test .taken))) (start .pre .0 .1),
-    )
+add-last c = omega (arith, hub-end (c .before))
 
 add-relax : tie.Need-add-relax Inv-loop μ-loop
-add-relax c =
-    let start = c .before .before .before .before .before .before .before .before .before .before .before .before .before in
-    omega (
-      arith,
-      place-inside _ (getD (start .args .hubs .now) _ 0) _
-          ((start .pre .1) (getD (start .args .hubs .now) _ 0)
-          (getD-has (start .args .hubs .now) _ (c .before .before .loop-test .taken))) (start .pre .0 .3),
-    )
+add-relax c = omega (arith, entry-inside (c .before .before))
 
 mul-relax : tie.Need-mul-relax Inv-loop μ-loop
-mul-relax c =
-    let start = c .before .before .before .before .before .before .before .before .before .before .before .before .before in
-    omega (
-      arith,
-      place-inside _ (getD (start .args .hubs .now) _ 0) _
-          ((start .pre .1) (getD (start .args .hubs .now) _ 0)
-          (getD-has (start .args .hubs .now) _ (c .before .before .loop-test .taken))) (start .pre .0 .3),
-    )
+mul-relax c = omega (arith, entry-inside (c .before .before))
 
 shared-slice-read-relax : tie.Need-shared-slice-read-relax Inv-loop μ-loop
-shared-slice-read-relax c =
-    let start = c .before .before .before .before .before .before .before .before .before .before .before .before .before .before in
-    omega (
-      arith,
-      place-inside _ (getD (start .args .hubs .now) _ 0) _
-          ((start .pre .1) (getD (start .args .hubs .now) _ 0)
-          (getD-has (start .args .hubs .now) _ (c .before .before .before .loop-test .taken))) (start .pre .0 .3),
-    )
+shared-slice-read-relax c = omega (arith, entry-inside (c .before .before .before))
 
 mul-relax-2 : tie.Need-mul-relax-2 Inv-loop μ-loop
-mul-relax-2 c =
-    let start = c .before .before .before .before .before .before .before .before .before .before .before .before .before .before in
-    omega (
-      arith,
-      row-ends _ (getD (start .args .hubs .now) _ 0) (start .args .full .now)
-          ((start .pre .1) (getD (start .args .hubs .now) _ 0)
-          (getD-has (start .args .hubs .now) _ (c .before .before .before .loop-test .taken))) (start .pre .0 .1),
-    )
+mul-relax-2 c = omega (arith, hub-end (c .before .before .before))
 
 sub-relax : tie.Need-sub-relax Inv-loop μ-loop
 sub-relax c = search needs
@@ -146,22 +103,12 @@ part-relax-start : tie.Need-part-relax-start Inv-loop μ-loop
 part-relax-start c = search needs
 
 part-relax-end : tie.Need-part-relax-end Inv-loop μ-loop
-part-relax-end c =
-    let start = c .before .before .before .before .before .before .before .before .before .before .before .before .before .before in
-    row-ends _ (getD (start .args .hubs .now) _ 0) (start .args .full .now)
-    ((start .pre .1) (getD (start .args .hubs .now) _ 0)
-    (getD-has (start .args .hubs .now) _ (c .before .before .before .loop-test .taken))) (start .pre .0 .1)
+part-relax-end c = omega (arith, hub-end (c .before .before .before))
 
 relax-requires : tie.Need-relax-requires Inv-loop μ-loop
 relax-requires c κs =
-    let start = c .before .before .before .before .before .before .before .before .before .before .before .before .before .before .before in
-    let at-loop = c .before .before .before .before .before in
-    (ap length (at-loop .loop .inv .1) ∙ length-row
-    (leastTo _ _ _ _ _
-    _) _) ∙ sym
-    (part-length _ (getD (start .args .hubs .now) _ 0) _
-    ((start .pre .1) (getD (start .args .hubs .now) _ 0)
-    (getD-has (start .args .hubs .now) _ (c .before .before .before .before .loop-test .taken))) (start .pre .0 .1))
+    let turn = c .before .before .before .before in
+    turn .before .loop .inv .long ∙ sym (part-length _ (hub turn) _ (hub-below turn) (start turn .pre .0 .1))
 
 add-k : tie.Need-add-k Inv-loop μ-loop
 add-k c = omega arith
@@ -170,54 +117,27 @@ loop-less : tie.Need-loop-less Inv-loop μ-loop
 loop-less c = search needs
 
 loop-again : tie.Need-loop-again Inv-loop μ-loop
-unfolding entryAt
 loop-again c =
-    let start = c .before .before .before .before .before .before .before .before .before .before .before .before .before .before .before .before .before .before in
-    let at-shared-slice-known2 = c .before .before .before .before .before .before .before .before .before .before .before .before .before .before .before .before in
-    let at-loop = c .before .before .before .before .before .before .before .before in
-    let at-loop-test = c .before .before .before .before .before .before .before in (
-      omega arith,
-      (c .before .before .relax .ensures) ∙ ap₂
-          (relaxed (getD (start .args .full .now)
-          ((getD (start .args .hubs .now) _ 0) * _ + _) 0))
-          (own-row _ (getD (start .args .hubs .now) _ 0) _
-          ((start .pre .1) (getD (start .args .hubs .now) _ 0)
-          (getD-has (start .args .hubs .now) _ (at-loop-test .loop-test .taken))) (start .pre .0 .1))
-          (at-loop .loop .inv .1) ∙ least-next _ _ _ _
-          _ (λ b k. omega (
-            arith,
-            (at-shared-slice-known2 .shared-slice-known2 .given)
-                ((start .args .a) * (start .args .n) + b),
-          )) _ (at-loop-test .loop-test .taken),
-    )
+    let turn = c .before .before .before .before .before .before .before in
+    let low-known = turn .before .before .before .before .before .before .before .before .before .shared-slice-known2 in
+    row-next (turn .before .loop .inv) (start turn .pre .0 .1) (λ i. omega (arith, low-known .given i)) (turn .loop-test .taken)
+    (hub-below turn) (c .before .before .relax .ensures)
 
 mul-row : tie.Need-mul-row Inv-loop μ-loop
 mul-row c = search needs
 
 slice-write-row : tie.Need-slice-write-row Inv-loop μ-loop
-slice-write-row c =
-    let at-loop = c .before in
-    omega (
-      arith,
-      (ap length (at-loop .loop .inv .1) ∙ length-row
-          (leastTo _ _ _ _ _
-          _) _),
-    )
+slice-write-row c = search needs
 
 same-length : tie.Need-same-length Inv-loop μ-loop
 same-length c =
     let start = c .before .before .before .before .before .before .before .before .before .before .before in
-    let at-loop = c .before in
-    length-set (at-loop .loop .row) _ _ ∙ (ap length (at-loop .loop .inv .1) ∙ length-row
-    (leastTo _ _ _ _ _
-    _) _) ∙ sym (start .pre .0 .4)
+    simp length-set (c .before .loop .inv .long ∙ sym (start .pre .0 .4))
 
 returns : tie.Need-returns Inv-loop μ-loop
 returns c =
     let start = c .before .before .before .before .before .before .before .before .before .before .before in
-    let at-loop = c .before in
-    ap (λ (r : List ℕ). set r (start .args .a) 0) (at-loop .loop .inv .1) ∙ least-done _ _
-    _ _ _ _ (c .loop-test .left) (start .pre .0 .3)
+    row-done (c .before .loop .inv) (c .loop-test .left) (start .pre .0 .3)
 
 pub report-row-spec : {M : Type 1} → statement M
 report-row-spec =
