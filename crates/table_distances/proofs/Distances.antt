@@ -15,83 +15,105 @@ use Rattle.model.specs.Basics.{none, if_then_else_, upTo, has, over}
 use Rattle.model.specs.Graph.{Edges, between, Unjoined, fewest, linked}
 use Rattle.model.specs.Survey.{Graph, IsGraph}
 use Rattle.model.specs.Hubs.{isLow}
-use Rattle.model.specs.Tables.{fullEntry, fullOf, lowLinks, lowEntry}
+use Rattle.model.specs.Tables.{fullEntry, fullOf, lowLinks, lowEntry, lowTable}
 use Rattle.model.proofs.Chains.{split-last, chain-zero, fewest-missing}
 use Rattle.model.proofs.Lists.{has-append, has-later, has-head, of-append, of-single}
 use Rattle.model.proofs.TableLaws.{between-same, all-allowed, both-low, low-ends}
-use Rattle.model.proofs.Tests.{T-true, no-false, passes, same-test}
+use Rattle.model.proofs.Tests.{T-true, true-T, no-false, passes, same-test}
+use Rattle.base_nodeset.specs.NodeSet.{Nodes}
 use Rattle.base_lists.proofs.TableRows.{over-length, row-same, put-row, one-value, over-same}
+use Rattle.base_lists.proofs.TableRows.{rowsTo, rows-none, rows-next, rows-done, rows-length}
+use Rattle.table_degrees.proofs.Degrees.{low-are}
 
 -- ---- Full, hub by hub
 
-module _ (n : ℕ) (G : Graph) (hs : List ℕ) where
-  -- Full with the first i hubs
-  unfoldable pub fullTo : ℕ → List ℕ → List ℕ
-  fullTo i t = over (fullOf n G (take i hs)) t
+-- the rows of the first i hubs are written, and the other rows are none; behind them stands what stood in the list t
+pub record FullTo (n : ℕ) (G : Graph) (hs t full : List ℕ) (i : ℕ) : Type 0 where
+  pub within : i ≤ length hs
+  pub room : n * n ≤ length t
+  pub same : length full ≡ length t
+  pub rows : full ≡ over (fullOf n G (take i hs)) t
 
-  -- a list t whose front was filled with none
-  module _ (t front : List ℕ) (room : n * n ≤ length t) (filled : front ≡ replicate (length (take (n * n) t)) none) where
-    same-front : front ≡ replicate (n * n) none
-    same-front = filled ∙ ap (λ (k : ℕ). replicate k none) (length-take-le (n * n) t room)
+-- at first the front of a list t is filled with none
+module _ (n : ℕ) (t : List ℕ) {front : List ℕ} (room : n * n ≤ length t) (filled : front ≡ replicate (length (take (n * n) t)) none) where
+  same-front : front ≡ replicate (n * n) none
+  same-front = filled ∙ ap (λ (k : ℕ). replicate k none) (length-take-le (n * n) t room)
 
-    same-rest : drop (n * n) (front ++ drop (n * n) t) ≡ drop (n * n) t
-    same-rest = drop-at front (drop (n * n) t) (n * n) (ap length same-front ∙ length-replicate (n * n) none)
+  front-length : length front ≡ n * n
+  front-length = ap length same-front ∙ length-replicate (n * n) none
 
-    pub full-none : front ++ drop (n * n) t ≡ fullTo 0 (front ++ drop (n * n) t)
-    unfolding fullTo has
-    full-none =
+  same-rest : drop (n * n) (front ++ drop (n * n) t) ≡ drop (n * n) t
+  same-rest = drop-at front (drop (n * n) t) (n * n) front-length
+
+  pub filled-length : length (front ++ drop (n * n) t) ≡ length t
+  filled-length = length-append front (drop (n * n) t) ∙ omega (arith, front-length, length-drop (n * n) t)
+
+  pub full-none : {G : Graph} {hs : List ℕ} → FullTo n G hs (front ++ drop (n * n) t) (front ++ drop (n * n) t) 0
+  unfolding has
+  full-none = record {
+    within = omega arith;
+    room = omega (arith, filled-length);
+    same = refl;
+    rows =
         ap (λ (l : List ℕ). l ++ drop (n * n) t) same-front
         ∙ one-value n none t
-        ∙ over-same n (λ a b. none) t (front ++ drop (n * n) t) (sym same-rest)
+        ∙ over-same n (λ a b. none) t (front ++ drop (n * n) t) (sym same-rest);
+  }
 
-    pub full-all : over (fullOf n G hs) (front ++ drop (n * n) t) ≡ over (fullOf n G hs) t
-    full-all = over-same n (fullEntry n G hs) (front ++ drop (n * n) t) t same-rest
+  pub full-done : {G : Graph} {hs full : List ℕ} {i : ℕ} → FullTo n G hs (front ++ drop (n * n) t) full i → length hs ≤ i
+      → full ≡ over (fullOf n G hs) t
+  full-done {G} {hs} {i = i} r h =
+      let t′ = front ++ drop (n * n) t in
+      r .rows ∙ ap (λ (l : List ℕ). over (fullOf n G l) t′) (take-all i hs h) ∙ over-same n (fullEntry n G hs) t′ t same-rest
 
-    pub full-room : length (front ++ drop (n * n) t) ≡ length t
-    full-room =
-        length-append front (drop (n * n) t)
-        ∙ omega (arith, ap length same-front ∙ length-replicate (n * n) none, length-drop (n * n) t)
+-- one hub more
+module _ {n : ℕ} {G : Graph} {hs t full : List ℕ} {i : ℕ} (r : FullTo n G hs t full i) (h : i < length hs) where
+  abbrev hub : ℕ
+  hub = getD hs i 0
 
-  module _ (i : ℕ) (h : i < length hs) where
-    more : take (i + 1) hs ≡ take i hs ++ getD hs i 0 ∷ []
-    more = ap (λ (k : ℕ). take k hs) (add-one i) ∙ take-suc hs i 0 h
+  more : take (i + 1) hs ≡ take i hs ++ hub ∷ []
+  more = ap (λ (k : ℕ). take k hs) (add-one i) ∙ take-suc hs i 0 h
 
-    taken : T (has (getD hs i 0) (take (i + 1) hs))
-    taken = subst (λ (l : List ℕ). T (has (getD hs i 0) l)) (sym more) (has-later (getD hs i 0) (take i hs) (getD hs i 0 ∷ []) (has-head (getD hs i 0) []))
+  taken : T (has hub (take (i + 1) hs))
+  taken = rw more (has-later hub (take i hs) (hub ∷ []) (has-head hub []))
 
-    others : (u : ℕ) → (u ≡ getD hs i 0 → ⊥) → has u (take i hs) ≡ has u (take (i + 1) hs)
-    others u d =
-        ap (λ (b : Bool). b) (same-test (has u (take i hs)) (has u (take i hs ++ getD hs i 0 ∷ []))
-        (λ t. has-append u (take i hs) (getD hs i 0 ∷ []) t)
-        (λ t. at (of-append u (take i hs) (getD hs i 0 ∷ []) t)))
-        ∙ ap (has u) (sym more)
-      where
-        at : T (has u (take i hs)) ⊎ T (has u (getD hs i 0 ∷ [])) → T (has u (take i hs))
-        at (inl t) = t
-        at (inr t) = absurd (d (of-single u (getD hs i 0) t))
+  others : (u : ℕ) → (u ≡ hub → ⊥) → has u (take i hs) ≡ has u (take (i + 1) hs)
+  others u d =
+      same-test (has u (take i hs)) (has u (take i hs ++ hub ∷ []))
+      (λ t. has-append u (take i hs) (hub ∷ []) t)
+      (λ t. at (of-append u (take i hs) (hub ∷ []) t))
+      ∙ ap (has u) (sym more)
+    where
+      at : T (has u (take i hs)) ⊎ T (has u (hub ∷ [])) → T (has u (take i hs))
+      at (inl t) = t
+      at (inr t) = absurd (d (of-single u hub t))
 
-    pub full-next : (t : List ℕ) → getD hs i 0 < n → (p : ℕ → Bool) → p ≡ (λ v. ltb v n)
-        → written (fullTo i t) (getD hs i 0 * n) (map (fewest (between p (linked n G)) n (getD hs i 0)) (upTo n)) ≡ fullTo (i + 1) t
-    unfolding fullTo
-    full-next t k p e =
-        let u = getD hs i 0 in
-        let g : ℕ → ℕ → ℕ = fullEntry n G (take (i + 1) hs) in
-        ap (λ (x : List ℕ). written (fullTo i t) (u * n) x) (
-        ap (λ (E : Edges). map (fewest E n u) (upTo n)) (all-allowed p n G e)
-        ∙ row-same n (fewest (linked n G) n u) (g u) (λ b q. rw (T-true (has u (take (i + 1) hs)) taken) refl)
-        )
-        ∙ put-row n u k (fullEntry n G (take i hs)) g t (λ a b ha hb d.
-        ap (λ (x : Bool). if x then fewest (linked n G) n a b else none) (others a d))
-
-  pub full-length : (i : ℕ) (t : List ℕ) → n * n ≤ length t → length (fullTo i t) ≡ length t
-  unfolding fullTo
-  full-length i t h = over-length n (fullEntry n G (take i hs)) t h
-
-  pub full-done : (i : ℕ) (t : List ℕ) → length hs ≤ i → fullTo i t ≡ over (fullOf n G hs) t
-  unfolding fullTo
-  full-done i t h = ap (λ (l : List ℕ). over (fullOf n G l) t) (take-all i hs h)
+  -- the row that a search through all nodes p gives
+  pub full-next : {p : Nodes} {full′ : List ℕ} → getD hs i 0 < n → p ≡ (λ v. ltb v n)
+      → full′ ≡ written full (getD hs i 0 * n) (map (fewest (between p (linked n G)) n (getD hs i 0)) (upTo n))
+      → FullTo n G hs t full′ (i + 1)
+  full-next {p} {full′} k q e =
+      let F = fullEntry n G (take (i + 1) hs) in
+      let row : map (fewest (between p (linked n G)) n hub) (upTo n) ≡ map (F hub) (upTo n) =
+      ap (λ (E : Edges). map (fewest E n hub) (upTo n)) (all-allowed p n G q)
+      ∙ row-same n (fewest (linked n G) n hub) (F hub) (λ b l. rw (T-true (has hub (take (i + 1) hs)) taken)) in
+      let rows : full′ ≡ over (fullOf n G (take (i + 1) hs)) t =
+      e ∙ ap₂ (λ (x y : List ℕ). written x (hub * n) y) (r .rows) row
+      ∙ put-row n hub k (fullEntry n G (take i hs)) F t (λ a b ha hb d.
+      ap (λ (x : Bool). if x then fewest (linked n G) n a b else none) (others a d)) in
+      record { within = omega arith; room = r .room; same = ap length rows ∙ over-length n F t (r .room); rows = rows }
 
 -- ---- Low, row by row
+
+-- the first a rows are written, and what else stood in the list t is as it was
+pub record LowTo (n s : ℕ) (G : Graph) (t low : List ℕ) (a : ℕ) : Type 0 where
+  pub within : a ≤ n
+  pub room : n * n ≤ length t
+  pub same : length low ≡ length t
+  pub rows : low ≡ rowsTo n (lowEntry n s G) t a
+
+pub low-none : {n s : ℕ} {G : Graph} {t : List ℕ} → n * n ≤ length t → LowTo n s G t t 0
+low-none {n} {s} {G} {t} room = record { within = omega arith; room = room; same = refl; rows = rows-none n (lowEntry n s G) t room }
 
 module _ (n s : ℕ) (G : Graph) (g : IsGraph n G) where
   -- a search from a low node does not reach a high one
@@ -102,21 +124,36 @@ module _ (n s : ℕ) (G : Graph) (g : IsGraph n G) where
       at zero c = nb (subst (λ (x : ℕ). T (isLow s G x)) (chain-zero c) la)
       at (suc k) c = let l = split-last c in nb (both-low n s G g (l .0) b (l .2) .1)
 
-  -- the low nodes, as the set has them
-  module _ (p : ℕ → Bool) (is : (v : ℕ) → v < n → p v ≡ isLow s G v) where
-    pub low-row-is : (a : ℕ) → a < n
-        → map (λ b. if p a then fewest (between p (linked n G)) n a b else none) (upTo n) ≡ map (lowEntry n s G a) (upTo n)
-    unfolding lowLinks
-    low-row-is a ha =
-        row-same n (λ b. if p a then fewest (between p (linked n G)) n a b else none) (lowEntry n s G a) (λ b hb.
-        ap₂ (λ (x : Bool) (E : Edges). if x then fewest E n a b else none) (is a ha) (between-same p (isLow s G) n G is)
-        ∙ at b (isLow s G a) refl (passes (isLow s G b)))
-      where
-        at : (b : ℕ) (x : Bool) → isLow s G a ≡ x → T (isLow s G b) ⊎ (T (isLow s G b) → ⊥)
-            → (if x then fewest (between (isLow s G) (linked n G)) n a b else none) ≡ (if x && isLow s G b then fewest (between (isLow s G) (linked n G)) n a b else none)
-        at b false e t = refl
-        at b true e (inl t) = rw (T-true (isLow s G b) t) refl
-        at b true e (inr f) = rw (no-false (isLow s G b) f) (missed b (subst T (sym e) tt) f)
-          where
-            missed : (b : ℕ) → T (isLow s G a) → (T (isLow s G b) → ⊥) → fewest (between (isLow s G) (linked n G)) n a b ≡ none
-            missed b la nb = high-missed a b ha la nb
+  -- so row a of Low is what a search through the low nodes p gives, or none
+  low-row : (p : Nodes) → ((v : ℕ) → v < n → p v ≡ isLow s G v) → (a : ℕ) → a < n
+      → map (λ b. if p a then fewest (between p (linked n G)) n a b else none) (upTo n) ≡ map (lowEntry n s G a) (upTo n)
+  unfolding lowLinks
+  low-row p is a ha =
+      row-same n (λ b. if p a then fewest (between p (linked n G)) n a b else none) (lowEntry n s G a) (λ b hb.
+      ap₂ (λ (x : Bool) (E : Edges). if x then fewest E n a b else none) (is a ha) (between-same p (isLow s G) n G is)
+      ∙ at b (isLow s G a) refl (passes (isLow s G b)))
+    where
+      at : (b : ℕ) (x : Bool) → isLow s G a ≡ x → T (isLow s G b) ⊎ (T (isLow s G b) → ⊥)
+          → (if x then fewest (between (isLow s G) (linked n G)) n a b else none)
+          ≡ (if x && isLow s G b then fewest (between (isLow s G) (linked n G)) n a b else none)
+      at b false e t = refl
+      at b true e (inl t) = rw (T-true (isLow s G b) t)
+      at b true e (inr f) = rw (no-false (isLow s G b) f) (high-missed a b ha (true-T (isLow s G a) e) f)
+
+module _ {n s : ℕ} {G : Graph} {t low : List ℕ} {a : ℕ} (r : LowTo n s G t low a) where
+  -- E has the links between the low nodes p
+  pub low-next : {p : Nodes} {E : Edges} {low′ : List ℕ} → IsGraph n G → a < n → p ≡ (λ v. ltb v n && isLow s G v)
+      → E ≡ between p (linked n G) → low′ ≡ written low (a * n) (map (λ b. if p a then fewest E n a b else none) (upTo n))
+      → LowTo n s G t low′ (a + 1)
+  low-next {p} {E} {low′} g h q links e =
+      let F = lowEntry n s G in
+      let row : map (λ b. if p a then fewest E n a b else none) (upTo n) ≡ map (F a) (upTo n) =
+      ap (λ (E : Edges). map (λ b. if p a then fewest E n a b else none) (upTo n)) links
+      ∙ low-row n s G g p (low-are n s G p q) a h in
+      let rows : low′ ≡ rowsTo n F t (a + 1) =
+      e ∙ ap₂ (λ (x y : List ℕ). written x (a * n) y) (r .rows) row ∙ rows-next n F t a h in
+      record { within = omega arith; room = r .room; same = ap length rows ∙ rows-length n F t (a + 1) (r .room); rows = rows }
+
+  pub low-done : n ≤ a → low ≡ over (lowTable n s G) t
+  unfolding lowTable
+  low-done h = r .rows ∙ rows-done n (lowEntry n s G) t a h

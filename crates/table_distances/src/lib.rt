@@ -13,11 +13,12 @@ ghost use Rattle.model.specs.Tables.{fullOf, lowTable};
 ghost use Rattle.base_nodeset.specs.NodeSet.{member};
 ghost use Rattle.base_nodeset.specs.Matrix.{edgesIn};
 
-// Full: row h is the fewest links from h to each node if h is a hub; every other row is all none.
+// Full: row h holds the fewest links from h to each node if h is a hub; every other row is all none.
 pub fn fill_full(n: usize, starts: &[u32], neighbours: &[u16], hubs: &[u16], full: &mut [u16])
     requires { ⌜ Accepted n (now starts) (now neighbours) × (n * n ≤ length (now full)) ⌝ }
     requires { ⌜ ((h : ℕ) → T (has h (now hubs)) → h < n) ⌝ }
-    ensures { λ _. ⌜ now (full .exit) ≡ over (fullOf n (neighboursOf (now (starts .entry)) (now (neighbours .entry))) (now (hubs .entry))) (now (full .entry)) ⌝ }
+    ensures { λ _. ⌜ now (full .exit)
+        ≡ over (fullOf n (neighboursOf (now (starts .entry)) (now (neighbours .entry))) (now (hubs .entry))) (now (full .entry)) ⌝ }
 {
     let mut all = [0u64; 16];
     base_nodeset::insert_below(&mut all, n);
@@ -48,7 +49,8 @@ fn low_row(n: usize, rows: &[u64], low_nodes: &[u64], a: usize, low: &mut [u16])
 // Low: the fewest links through low nodes only, row by row, from a matrix of the links between low nodes.
 pub fn fill_low(n: usize, s: usize, starts: &[u32], neighbours: &[u16], low: &mut [u16])
     requires { ⌜ Accepted n (now starts) (now neighbours) × (n * n ≤ length (now low)) ⌝ }
-    ensures { λ _. ⌜ now (low .exit) ≡ over (lowTable n s (neighboursOf (now (starts .entry)) (now (neighbours .entry)))) (now (low .entry)) ⌝ }
+    ensures { λ _. ⌜ now (low .exit)
+        ≡ over (lowTable n s (neighboursOf (now (starts .entry)) (now (neighbours .entry)))) (now (low .entry)) ⌝ }
 {
     let mut low_nodes = [0u64; 16];
     table_degrees::low_nodes(n, s, starts, neighbours, &mut low_nodes);

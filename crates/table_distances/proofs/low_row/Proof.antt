@@ -1,37 +1,39 @@
 -- `table_distances::low_row` meets its contract: a low node's row is searched, another one filled.
 -- Assumes nothing.
-use mathlib.Core.Path.{sym, ap, _∙_}
-use mathlib.Core.Bool.{Bool}
-use mathlib.Core.List.{map}
-use Prim.Native.Nat.{ℕ, _*_}
+use mathlib.Core.Path.{_≡_, sym, ap, _∙_}
+use mathlib.Core.List.{List}
+use Prim.Native.Nat.{ℕ, _+_, _-_, _*_, _≤_}
 use native.Mathlib.Omega.{arith}
-use lib.ListN.{replicate}
-use Rattle.base_lists.specs.Written.{written}
-use Rattle.model.specs.Basics.{none, if_then_else_, upTo}
-use Rattle.model.specs.Graph.{fewest}
-use Rattle.base_nodeset.specs.Matrix.{edgesIn}
-use Rattle.base_lists.proofs.TableRows.{row-ends, part-length, row-put, none-row}
+use lib.ListN.{length, replicate}
+use borrow.Rule.Slice.PartMut.{midOf}
+use Rattle.model.specs.Basics.{none}
+use Rattle.base_lists.proofs.TableRows.{row-within, part-length, row-put, none-row}
 use borrow.Author.Needs.{needs}
 use Rattle.table_distances.proofs.low_row.Statement.{statement}
 use Rattle.table_distances.proofs.low_row.Tie as tie
 
+-- row a ends in its table
+row-end : (c : tie.Start) → c .args .a * c .args .n + c .args .n ≤ c .args .n * c .args .n
+row-end c = row-within _ _ (c .pre .3)
+
+-- and is a part of n entries
+abbrev part : tie.Start → List ℕ
+part c = let first = c .args .a * c .args .n in midOf first (first + c .args .n - first) (c .args .low .now)
+
+part-is : (c : tie.Start) → length (part c) ≡ c .args .n
+part-is c = part-length _ _ _ (c .pre .3) (c .pre .4)
+
 mul-start : tie.Need-mul-start
-mul-start c =
-    let start = c .before .before .before in
-    omega (arith, row-ends _ _ (start .args .low .now) (start .pre .3) (start .pre .4))
+mul-start c = omega (arith, row-end (c .before .before .before))
 
 add-end : tie.Need-add-end
-add-end c =
-    let start = c .before .before .before in
-    omega (arith, row-ends _ _ (start .args .low .now) (start .pre .3) (start .pre .4))
+add-end c = omega (arith, row-end (c .before .before .before))
 
 contains-requires : tie.Need-contains-requires
 contains-requires c κs = search needs
 
 mul-search : tie.Need-mul-search
-mul-search c =
-    let start = c .before .before .before .before .before in
-    omega (arith, row-ends _ _ (start .args .low .now) (start .pre .3) (start .pre .4))
+mul-search c = omega (arith, row-end (c .before .before .before .before .before))
 
 sub-search : tie.Need-sub-search
 sub-search c = search needs
@@ -40,9 +42,7 @@ part-search-start : tie.Need-part-search-start
 part-search-start c = search needs
 
 part-search-end : tie.Need-part-search-end
-part-search-end c =
-    let start = c .before .before .before .before .before in
-    row-ends _ _ (start .args .low .now) (start .pre .3) (start .pre .4)
+part-search-end c = omega (arith, row-end (c .before .before .before .before .before))
 
 search-requires : tie.Need-search-requires
 search-requires c κs = search needs
@@ -52,20 +52,14 @@ same-length c = search needs
 
 returns : tie.Need-returns
 returns c =
-    let start = c .before .before .before .before .before .before .before .before .before in
-    let at-search = c .before .before in
-    row-put (_ * _) _ _ _ _
-    ((at-search .search .kept .1 .1 .1 .0) ∙ part-length _ _ _ (start .pre .3)
-    (start .pre .4)) (at-search .search .ensures) ∙ ap
-    (λ (x : Bool). written (start .args .low .now) ((start .args .a) * (start .args .n))
-    (map (λ b. if x then fewest (edgesIn (start .args .rows .now)) (start .args .n) (start .args .a) b else none)
-    (upTo (start .args .n)))) (sym (sym (c .before .before .before .before .before .contains .ensures) ∙
-    (c .before .before .before .before .if1 .taken)))
+    let search = c .before .before .search in
+    let branch = c .before .before .before .before in
+    let start = branch .before .before .before .before .before in
+    rw (sym (branch .before .contains .ensures) ∙ branch .if1 .taken)
+    (row-put (_ * _) _ _ _ _ (search .kept .1 .1 .1 .0 ∙ part-is start) (search .ensures))
 
 mul-fill16 : tie.Need-mul-fill16
-mul-fill16 c =
-    let start = c .before .before .before .before .before in
-    omega (arith, row-ends _ _ (start .args .low .now) (start .pre .3) (start .pre .4))
+mul-fill16 c = omega (arith, row-end (c .before .before .before .before .before))
 
 sub-fill16 : tie.Need-sub-fill16
 sub-fill16 c = search needs
@@ -74,9 +68,7 @@ part-fill16-start : tie.Need-part-fill16-start
 part-fill16-start c = search needs
 
 part-fill16-end : tie.Need-part-fill16-end
-part-fill16-end c =
-    let start = c .before .before .before .before .before in
-    row-ends _ _ (start .args .low .now) (start .pre .3) (start .pre .4)
+part-fill16-end c = omega (arith, row-end (c .before .before .before .before .before))
 
 fill16-requires : tie.Need-fill16-requires
 fill16-requires c κs = search needs
@@ -86,16 +78,12 @@ same-length-2 c = search needs
 
 returns-2 : tie.Need-returns-2
 returns-2 c =
-    let start = c .before .before .before .before .before .before .before .before .before in
-    let at-fill16 = c .before .before in
-    row-put (_ * _) _ _ _ _
-    ((at-fill16 .fill16 .kept .0) ∙ part-length _ _ _ (start .pre .3)
-    (start .pre .4)) ((at-fill16 .fill16 .ensures) ∙ ap (λ (k : ℕ). replicate k none)
-    (part-length _ _ _ (start .pre .3) (start .pre .4)) ∙ none-row _
-    none) ∙ ap (λ (x : Bool). written (start .args .low .now) ((start .args .a) * (start .args .n))
-    (map (λ b. if x then fewest (edgesIn (start .args .rows .now)) (start .args .n) (start .args .a) b else none)
-    (upTo (start .args .n)))) (sym (sym (c .before .before .before .before .before .contains .ensures) ∙
-    (c .before .before .before .before .if1 .left)))
+    let fill16 = c .before .before .fill16 in
+    let branch = c .before .before .before .before in
+    let start = branch .before .before .before .before .before in
+    rw (sym (branch .before .contains .ensures) ∙ branch .if1 .left)
+    (row-put (_ * _) _ _ _ _ (fill16 .kept .0 ∙ part-is start)
+    (fill16 .ensures ∙ ap (λ (k : ℕ). replicate k none) (part-is start) ∙ none-row _ none))
 
 pub low-row-spec : {M : Type 1} → statement M
 low-row-spec =
