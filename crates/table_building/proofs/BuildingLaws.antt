@@ -3,15 +3,16 @@
 use mathlib.Core.Path.{_≡_, refl, sym, ap, ap₂, _∙_}
 use mathlib.Core.Bool.{Bool, true, false, not, _&&_, _||_}
 use mathlib.Core.List.{List}
-use Prim.Native.Nat.{ℕ, _+_, _*_, _≤_}
+use Prim.Native.Nat.{ℕ, _+_, _*_, _≤_, _<_}
 use native.Mathlib.Numerals.{add-one}
 use borrow.Author.Tests.{ltb-false}
-use lib.Dec.{ltb, leb, leb·suc-suc}
+use lib.Dec.{T, ltb, leb, leb·suc-suc}
 use lib.ListN.{length, take}
+use Rattle.model.specs.declared.Refusal.{Refusal}
 use Rattle.model.specs.declared.Refusal.the-variants.{NodeCount, ShortList, NotSurvey}
 use Rattle.model.specs.declared.Counting.the-variants as counting
 use Rattle.model.specs.Answers.{answered}
-use Rattle.model.specs.Basics.{over}
+use Rattle.model.specs.Basics.{has, over}
 use Rattle.model.specs.Survey.{Graph, neighboursOf, badSize, isSurvey, Accepted}
 use Rattle.model.specs.Threshold.{threshold}
 use Rattle.model.specs.Hubs.{hubs}
@@ -50,69 +51,113 @@ room-is n s f l r h =
 
 -- ---- what was built
 
-pub tables-built : (n s : ℕ) (G : Graph) (full low report list full′ low′ report′ list′ : List ℕ) (count : ℕ)
-    → count ≡ length (hubs n s G) → list′ ≡ over (hubList n s G) list
-    → full′ ≡ over (fullOf n G (take count list′)) full → low′ ≡ over (lowTable n s G) low → report′ ≡ over (reportOf n full′ low′ (take count list′)) report
+-- the hubs stand in front of their list and are nodes
+pub chosen-below : (n s : ℕ) (G : Graph) (list : List ℕ) {list′ : List ℕ} {count : ℕ} → count ≡ length (hubs n s G)
+    → list′ ≡ over (hubList n s G) list → (h : ℕ) → T (has h (take count list′)) → h < n
+chosen-below n s G list {list′} {count} c e = rw (hubs-front n s G list list′ count c e) (hubs-below n G s)
+
+-- the hubs were chosen, and the tables filled for them; ′ marks what a list holds at return
+pub record Filled (n s : ℕ) (G : Graph) (full low report list full′ low′ report′ list′ : List ℕ) (count : ℕ) : Type 0 where
+  pub counted : count ≡ length (hubs n s G)
+  pub hubs-are : list′ ≡ over (hubList n s G) list
+  pub full-is : full′ ≡ over (fullOf n G (take count list′)) full
+  pub low-is : low′ ≡ over (lowTable n s G) low
+  pub report-is : report′ ≡ over (reportOf n full′ low′ (take count list′)) report
+
+pub tables-built : {n s : ℕ} {G : Graph} {full low report list full′ low′ report′ list′ : List ℕ} {count : ℕ}
+    → Filled n s G full low report list full′ low′ report′ list′ count
     → record { answer = answered count; full = full′; low = low′; report = report′; hubs = list′ } ≡ built n s G full low report list
 unfolding built fullTable lowTable reportTable
-tables-built n s G full low report list full′ low′ report′ list′ count c e f l r =
-    let front = hubs-front n s G list list′ count c e in
-    let full-is : full′ ≡ over (fullTable n s G) full = f ∙ ap (λ (hs : List ℕ). over (fullOf n G hs) full) front in
-    let report-is : report′ ≡ over (reportTable n s G) report =
-    r ∙ ap (λ (hs : List ℕ). over (reportOf n full′ low′ hs) report) front
-    ∙ ap₂ (λ (x y : List ℕ). over (reportOf n x y (hubs n s G)) report) full-is l
+tables-built {n} {s} {G} {full} {low} {report} {list} {full′} {low′} {report′} {list′} {count} f =
+    let front = hubs-front n s G list list′ count (f .counted) (f .hubs-are) in
+    let full-built : full′ ≡ over (fullTable n s G) full = f .full-is ∙ ap (λ (hs : List ℕ). over (fullOf n G hs) full) front in
+    let report-built : report′ ≡ over (reportTable n s G) report =
+    f .report-is
+    ∙ ap (λ (hs : List ℕ). over (reportOf n full′ low′ hs) report) front
+    ∙ ap₂ (λ (x y : List ℕ). over (reportOf n x y (hubs n s G)) report) full-built (f .low-is)
     ∙ ap (λ (t : List ℕ). over t report) (report-same n _ _ full low (hubs n s G) (hubs-below n G s)) in
-    λ i. record { answer = answered (c i); full = full-is i; low = l i; report = report-is i; hubs = e i }
+    λ i. record { answer = answered (f .counted i); full = full-built i; low = f .low-is i; report = report-built i; hubs = f .hubs-are i }
 
 -- ---- the refusals, in their order
 
-module _ (n : ℕ) (starts neighbours full low report list : List ℕ) where
-  abbrev short : Bool
-  short = shortLists n (length starts) (length full) (length low) (length report) (length list)
+-- a list is too short
+abbrev short : (n : ℕ) (starts full low report list : List ℕ) → Bool
+short n starts full low report list = shortLists n (length starts) (length full) (length low) (length report) (length list)
 
-  -- what building promises
-  abbrev pub Promised : AfterBuilding → Type 0
-  Promised r = (r ≡ building n starts neighbours full low report list) × BuildRight n (threshold n) starts neighbours r
+-- what building promises
+abbrev Promised : (n : ℕ) (starts neighbours full low report list : List ℕ) → AfterBuilding → Type 0
+Promised n starts neighbours full low report list r =
+    (r ≡ building n starts neighbours full low report list) × BuildRight n (threshold n) starts neighbours r
 
-  kept : {r : AfterBuilding} → r ≡ building n starts neighbours full low report list → Promised r
-  kept e = promised (BuildRight n (threshold n) starts neighbours) (building-right n starts neighbours full low report list) e
+-- it holds where the value of `building` is returned
+kept : (n : ℕ) (starts neighbours full low report list : List ℕ) {r : AfterBuilding} → r ≡ building n starts neighbours full low report list
+    → Promised n starts neighbours full low report list r
+kept n starts neighbours full low report list e =
+    promised (BuildRight n (threshold n) starts neighbours) (building-right n starts neighbours full low report list) e
 
-  pub build-size : badSize n ≡ true → Promised (buildReturned (counting.Refused NodeCount) full low report list)
-  unfolding building
-  build-size b = kept (rw b refl)
+-- a refusal, which leaves the lists as they were
+abbrev Refuses : (n : ℕ) (starts neighbours full low report list : List ℕ) → Refusal → Type 0
+Refuses n starts neighbours full low report list r =
+    Promised n starts neighbours full low report list (buildReturned (counting.Refused r) full low report list)
 
-  module _ (size : (1 ≤ n) × (n ≤ 1024)) where
-    pub build-short : short ≡ true → Promised (buildReturned (counting.Refused ShortList) full low report list)
+-- n is a count of nodes, and the lists have room for it
+pub record Room (n : ℕ) (starts full low report list : List ℕ) : Type 0 where
+  pub some-node : 1 ≤ n
+  pub size : n ≤ 1024
+  pub not-short : short n starts full low report list ≡ false
+  pub starts-room : n + 1 ≤ length starts
+  pub full-room : n * n ≤ length full
+  pub low-room : n * n ≤ length low
+  pub report-room : n * n ≤ length report
+  pub hubs-room : n ≤ length list
+
+module _ {n : ℕ} {starts full low report list : List ℕ} where
+  pub room-of : 1 ≤ n → n ≤ 1024 → short n starts full low report list ≡ false → Room n starts full low report list
+  room-of some-node size e =
+      let A = ltb (length starts) (n + 1) in
+      let B = shortTables n (length full) (length low) (length report) in
+      let d = of-or-false (A || B) (ltb (length list) n) e in
+      let a = of-or-false A B (d .0) in
+      let tables = of-long-tables n (length full) (length low) (length report) (a .1) in
+      record {
+        some-node = some-node;
+        size = size;
+        not-short = e;
+        starts-room = ltb-false (length starts) (n + 1) (a .0);
+        full-room = tables .0;
+        low-room = tables .1;
+        report-room = tables .2;
+        hubs-room = ltb-false (length list) n (d .1);
+      }
+
+  module _ {neighbours : List ℕ} where
+    pub build-size : badSize n ≡ true → Refuses n starts neighbours full low report list NodeCount
     unfolding building
-    build-short h = kept (rw (good-size n (size .0) (size .1), h) refl)
+    build-size b = kept n starts neighbours full low report list (rw b)
 
-    pub build-other : short ≡ false → isSurvey n starts neighbours ≡ false → Promised (buildReturned (counting.Refused NotSurvey) full low report list)
+    pub build-short : 1 ≤ n → n ≤ 1024 → short n starts full low report list ≡ true → Refuses n starts neighbours full low report list ShortList
     unfolding building
-    build-other h i = kept (rw (good-size n (size .0) (size .1), h, i) refl)
+    build-short some-node size h = kept n starts neighbours full low report list (rw (good-size n some-node size, h))
 
-    pub build-room : short ≡ false → (n + 1 ≤ length starts) × (n * n ≤ length full) × (n * n ≤ length low) × (n * n ≤ length report) × (n ≤ length list)
-    build-room h =
-        let A = ltb (length starts) (n + 1) in
-        let B = shortTables n (length full) (length low) (length report) in
-        let d = of-or-false (A || B) (ltb (length list) n) h in
-        let a = of-or-false A B (d .0) in
-        let t = of-long-tables n (length full) (length low) (length report) (a .1) in
-        (ltb-false (length starts) (n + 1) (a .0), t .0, t .1, t .2, ltb-false (length list) n (d .1))
+    module _ (room : Room n starts full low report list) where
+      pub build-other : isSurvey n starts neighbours ≡ false → Refuses n starts neighbours full low report list NotSurvey
+      unfolding building
+      build-other i = kept n starts neighbours full low report list (rw (good-size n (room .some-node) (room .size), room .not-short, i))
 
-    pub build-accepted : short ≡ false → isSurvey n starts neighbours ≡ true → Accepted n starts neighbours
-    build-accepted h i = record {
-      some-node = size .0;
-      size = size .1;
-      room = build-room h .0;
-      lists = survey-facts n starts neighbours (true-T (isSurvey n starts neighbours) i);
-    }
+      pub build-accepted : isSurvey n starts neighbours ≡ true → Accepted n starts neighbours
+      build-accepted i = record {
+        some-node = room .some-node;
+        size = room .size;
+        room = room .starts-room;
+        lists = survey-facts n starts neighbours (true-T (isSurvey n starts neighbours) i);
+      }
 
-    pub build-done : (h : short ≡ false) (i : isSurvey n starts neighbours ≡ true) (full′ low′ report′ list′ : List ℕ) (k s : ℕ) → s ≡ threshold n
-        → record { answer = answered k; full = full′; low = low′; report = report′; hubs = list′ } ≡ built n s (neighboursOf starts neighbours) full low report list
-        → Promised (buildReturned (counting.Count k) full′ low′ report′ list′)
-    build-done h i full′ low′ report′ list′ k s t e =
-        let r = build-room h in
-        kept (
-        e ∙ ap (λ (x : ℕ). built n x (neighboursOf starts neighbours) full low report list) t
-        ∙ sym (building-answers n starts neighbours (build-accepted h i) full low report list (r .1) (r .2) (r .3) (r .4))
-        )
+      pub build-done : {s count : ℕ} {full′ low′ report′ list′ : List ℕ} → Accepted n starts neighbours → s ≡ threshold n
+          → record { answer = answered count; full = full′; low = low′; report = report′; hubs = list′ }
+          ≡ built n s (neighboursOf starts neighbours) full low report list
+          → Promised n starts neighbours full low report list (buildReturned (counting.Count count) full′ low′ report′ list′)
+      build-done accepted t e =
+          kept n starts neighbours full low report list (
+          e ∙ ap (λ (x : ℕ). built n x (neighboursOf starts neighbours) full low report list) t
+          ∙ sym (building-answers n starts neighbours accepted full low report list (room .full-room) (room .low-room) (room .report-room)
+          (room .hubs-room)))

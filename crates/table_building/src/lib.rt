@@ -24,8 +24,10 @@ pub fn build_tables(
 ) -> usize
     requires { ⌜ Accepted n (now starts) (now neighbours) ⌝ }
     requires { ⌜ (n * n ≤ length (now full)) × (n * n ≤ length (now low)) × (n * n ≤ length (now report)) × (n ≤ length (now hubs)) ⌝ }
-    ensures { λ r. ⌜ record { answer = answered r; full = now (full .exit); low = now (low .exit); report = now (report .exit); hubs = now (hubs .exit) }
-        ≡ built n s (neighboursOf (now (starts .entry)) (now (neighbours .entry))) (now (full .entry)) (now (low .entry)) (now (report .entry)) (now (hubs .entry)) ⌝ }
+    ensures { λ r. ⌜
+        record { answer = answered r; full = now (full .exit); low = now (low .exit); report = now (report .exit); hubs = now (hubs .exit) }
+        ≡ built n s (neighboursOf (now (starts .entry)) (now (neighbours .entry)))
+        (now (full .entry)) (now (low .entry)) (now (report .entry)) (now (hubs .entry)) ⌝ }
 {
     let count = table_hubs::choose_hubs(n, s, starts, neighbours, hubs);
     table_distances::fill_full(n, starts, neighbours, &hubs[..count], full);
@@ -43,7 +45,7 @@ fn has_room(n: usize, starts: usize, full: usize, low: usize, report: usize, hub
     (n < starts) & (entries <= full) & (entries <= low) & (entries <= report) & (n <= hubs)
 }
 
-// Builds the three tables and the hub list of a survey. Not refused, they are the ones that are built from it.
+// Builds the three tables and the hub list of a survey; where it refuses, it leaves them as they were.
 pub fn build(
     n: usize,
     starts: &[u32],
@@ -54,7 +56,8 @@ pub fn build(
     hubs: &mut [u16],
 ) -> Counting
     ensures { λ r. ⌜ buildReturned r (now (full .exit)) (now (low .exit)) (now (report .exit)) (now (hubs .exit))
-        ≡ building n (now (starts .entry)) (now (neighbours .entry)) (now (full .entry)) (now (low .entry)) (now (report .entry)) (now (hubs .entry)) ⌝ }
+        ≡ building n (now (starts .entry)) (now (neighbours .entry))
+        (now (full .entry)) (now (low .entry)) (now (report .entry)) (now (hubs .entry)) ⌝ }
     ensures { λ r. ⌜ BuildRight n (threshold n) (now (starts .entry)) (now (neighbours .entry))
         (buildReturned r (now (full .exit)) (now (low .exit)) (now (report .exit)) (now (hubs .exit))) ⌝ }
 {

@@ -1,6 +1,5 @@
 -- `table_building::has_room` meets its contract.
 -- Assumes nothing.
-use borrow.Author.Needs.{needs}
 use native.Mathlib.Omega.{arith}
 use Rattle.model.proofs.Entries.{square-small}
 use Rattle.table_building.proofs.BuildingLaws.{room-is}
