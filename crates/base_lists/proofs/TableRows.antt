@@ -1,6 +1,6 @@
 -- Tables of n rows of n entries: a row as a part of its table, a table of which one row is written, a table that is written row by row.
 -- Assumes nothing.
-use mathlib.Core.Path.{_≡_, refl, sym, ap, _∙_}
+use mathlib.Core.Path.{_≡_, refl, sym, ap, ap₂, _∙_}
 use mathlib.Core.List.{List, _∷_, _++_, map, append-assoc}
 use Prim.Native.Nat.{ℕ, zero, suc, _+_, _-_, _*_, _/_, _%_, _≤_, _<_}
 use native.Mathlib.Nat.{suc-mul, mul-le-mul-right, zero-mul, zero-lt-suc, mod-lt, div-lt-iff-lt-mul, div-add-mod', add-sub-cancel-left}
@@ -148,26 +148,44 @@ module _ (n : ℕ) (F : ℕ → ℕ → ℕ) (t : List ℕ) where
   abbrev entryTo : ℕ → ℕ → ℕ → ℕ
   entryTo a u b = if ltb u a then F u b else entryAt n t u b
 
-  unfoldable pub rowsTo : ℕ → List ℕ
+  unfoldable rowsTo : ℕ → List ℕ
   rowsTo a = over (table n (entryTo a)) t
 
-  pub rows-none : n * n ≤ length t → t ≡ rowsTo 0
-  unfolding rowsTo
-  rows-none h =
-      own-table n t h
-      ∙ ap (λ (x : List ℕ). over x t) (table-same n (entryAt n t) (entryTo 0) (λ u b hu hb. rw (le-ltb u 0 (omega arith)) refl))
+-- a rows of the table of F were written over the list t
+pub record RowsTo (n : ℕ) (F : ℕ → ℕ → ℕ) (t list : List ℕ) (a : ℕ) : Type 0 where
+  pub within : a ≤ n
+  pub room : n * n ≤ length t
+  pub same : length list ≡ length t
+  rows : list ≡ rowsTo n F t a
 
-  pub rows-next : (a : ℕ) → a < n → written (rowsTo a) (a * n) (map (F a) (upTo n)) ≡ rowsTo (a + 1)
-  unfolding rowsTo
-  rows-next a h =
-      ap (written (rowsTo a) (a * n)) (row-same n (F a) (entryTo (a + 1) a) (λ b k. rw (lt-ltb a (a + 1) (omega arith)) refl))
-      ∙ put-row n a h (entryTo a) (entryTo (a + 1)) t (λ u b hu hb other. rw (ltb-next u a other))
+pub rows-none : {n : ℕ} {F : ℕ → ℕ → ℕ} {t : List ℕ} → n * n ≤ length t → RowsTo n F t t 0
+unfolding rowsTo
+rows-none {n} {F} {t} h = record {
+  within = omega arith;
+  room = h;
+  same = refl;
+  rows = own-table n t h
+      ∙ ap (λ (x : List ℕ). over x t) (table-same n (entryAt n t) (entryTo n F t 0) (λ u b hu hb. rw (le-ltb u 0 (omega arith)) refl));
+}
 
-  pub rows-done : (a : ℕ) → n ≤ a → rowsTo a ≡ over (table n F) t
+module _ {n : ℕ} {F : ℕ → ℕ → ℕ} {t list : List ℕ} {a : ℕ} (r : RowsTo n F t list a) where
+  pub rows-next : {list′ : List ℕ} → a < n → list′ ≡ written list (a * n) (map (F a) (upTo n)) → RowsTo n F t list′ (a + 1)
   unfolding rowsTo
-  rows-done a h =
-      ap (λ (x : List ℕ). over x t) (table-same n (entryTo a) F (λ u b hu hb. rw (lt-ltb u a (omega arith)) refl))
+  rows-next {list′} h e =
+      let next = entryTo n F t (a + 1) in
+      let row : map (F a) (upTo n) ≡ map (next a) (upTo n) = row-same n (F a) (next a) (λ b k. rw (lt-ltb a (a + 1) (omega arith)) refl) in
+      let rows : list′ ≡ rowsTo n F t (a + 1) =
+      e ∙ ap₂ (λ (x y : List ℕ). written x (a * n) y) (r .rows) row
+      ∙ put-row n a h (entryTo n F t a) next t (λ u b hu hb other. rw (ltb-next u a other)) in
+      record { within = omega arith; room = r .room; same = ap length rows ∙ over-length n next t (r .room); rows = rows }
 
-  pub rows-length : (a : ℕ) → n * n ≤ length t → length (rowsTo a) ≡ length t
+  -- the same where row a is written as a part of the list
+  pub rows-part : {part : List ℕ} → a < n → length part ≡ length (midOf (a * n) (a * n + n - a * n) list) → part ≡ map (F a) (upTo n)
+      → RowsTo n F t (putMid (a * n) (a * n + n - a * n) list part) (a + 1)
+  rows-part h l e =
+      rows-next h (row-put (a * n) n list _ _ (l ∙ part-length n a list h (omega (arith, r .same, r .room))) e)
+
+  pub rows-done : n ≤ a → list ≡ over (table n F) t
   unfolding rowsTo
-  rows-length a h = over-length n (entryTo a) t h
+  rows-done h =
+      r .rows ∙ ap (λ (x : List ℕ). over x t) (table-same n (entryTo n F t a) F (λ u b hu hb. rw (lt-ltb u a (omega arith)) refl))

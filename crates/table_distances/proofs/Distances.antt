@@ -22,7 +22,7 @@ use Rattle.model.proofs.TableLaws.{between-same, all-allowed, both-low, low-end
 use Rattle.model.proofs.Tests.{T-true, true-T, no-false, passes, same-test}
 use Rattle.base_nodeset.specs.NodeSet.{Nodes}
 use Rattle.base_lists.proofs.TableRows.{over-length, row-same, put-row, one-value, over-same}
-use Rattle.base_lists.proofs.TableRows.{rowsTo, rows-none, rows-next, rows-done, rows-length}
+use Rattle.base_lists.proofs.TableRows.{RowsTo, rows-next, rows-done}
 use Rattle.table_degrees.proofs.Degrees.{low-are}
 
 -- ---- Full, hub by hub
@@ -105,16 +105,6 @@ module _ {n : ℕ} {G : Graph} {hs t full : List ℕ} {i : ℕ} (r : FullTo n G 
 
 -- ---- Low, row by row
 
--- the first a rows are written, and what else stood in the list t is as it was
-pub record LowTo (n s : ℕ) (G : Graph) (t low : List ℕ) (a : ℕ) : Type 0 where
-  pub within : a ≤ n
-  pub room : n * n ≤ length t
-  pub same : length low ≡ length t
-  pub rows : low ≡ rowsTo n (lowEntry n s G) t a
-
-pub low-none : {n s : ℕ} {G : Graph} {t : List ℕ} → n * n ≤ length t → LowTo n s G t t 0
-low-none {n} {s} {G} {t} room = record { within = omega arith; room = room; same = refl; rows = rows-none n (lowEntry n s G) t room }
-
 module _ (n s : ℕ) (G : Graph) (g : IsGraph n G) where
   -- a search from a low node does not reach a high one
   high-missed : (a b : ℕ) → a < n → T (isLow s G a) → (T (isLow s G b) → ⊥) → fewest (lowLinks n s G) n a b ≡ none
@@ -140,20 +130,17 @@ module _ (n s : ℕ) (G : Graph) (g : IsGraph n G) where
       at b true e (inl t) = rw (T-true (isLow s G b) t)
       at b true e (inr f) = rw (no-false (isLow s G b) f) (high-missed a b ha (true-T (isLow s G a) e) f)
 
-module _ {n s : ℕ} {G : Graph} {t low : List ℕ} {a : ℕ} (r : LowTo n s G t low a) where
+module _ {n : ℕ} (s : ℕ) (G : Graph) {t low : List ℕ} {a : ℕ} (r : RowsTo n (lowEntry n s G) t low a) where
   -- E has the links between the low nodes p
   pub low-next : {p : Nodes} {E : Edges} {low′ : List ℕ} → IsGraph n G → a < n → p ≡ (λ v. ltb v n && isLow s G v)
       → E ≡ between p (linked n G) → low′ ≡ written low (a * n) (map (λ b. if p a then fewest E n a b else none) (upTo n))
-      → LowTo n s G t low′ (a + 1)
-  low-next {p} {E} {low′} g h q links e =
-      let F = lowEntry n s G in
-      let row : map (λ b. if p a then fewest E n a b else none) (upTo n) ≡ map (F a) (upTo n) =
+      → RowsTo n (lowEntry n s G) t low′ (a + 1)
+  low-next {p} {E} g h q links e =
+      let row : map (λ b. if p a then fewest E n a b else none) (upTo n) ≡ map (lowEntry n s G a) (upTo n) =
       ap (λ (E : Edges). map (λ b. if p a then fewest E n a b else none) (upTo n)) links
       ∙ low-row n s G g p (low-are n s G p q) a h in
-      let rows : low′ ≡ rowsTo n F t (a + 1) =
-      e ∙ ap₂ (λ (x y : List ℕ). written x (a * n) y) (r .rows) row ∙ rows-next n F t a h in
-      record { within = omega arith; room = r .room; same = ap length rows ∙ rows-length n F t (a + 1) (r .room); rows = rows }
+      rows-next r h (e ∙ ap (written low (a * n)) row)
 
   pub low-done : n ≤ a → low ≡ over (lowTable n s G) t
   unfolding lowTable
-  low-done h = r .rows ∙ rows-done n (lowEntry n s G) t a h
+  low-done h = rows-done r h

@@ -8,14 +8,13 @@ use Prim.Native.Nat.{ℕ, _+_, _-_, _*_, _≤_, _<_, min}
 use native.Mathlib.Numerals.{add-one}
 use native.Mathlib.Omega.{arith}
 use borrow.Author.Tests.{eq-eqb, ne-eqb}
-use borrow.Rule.Slice.PartMut.{midOf, putMid}
+use borrow.Rule.Slice.PartMut.{midOf}
 use lib.Dec.{T, eqb}
 use lib.ListN.{length, getD, take, drop, set, length-set}
 use lib.Seq.{take-at, ext-getD, getD-take, getD-drop, take-suc, take-all, getD-set-same, getD-set-other}
-use Rattle.base_lists.specs.Written.{Wrote, written}
+use Rattle.base_lists.specs.Written.{Wrote}
 use Rattle.base_lists.proofs.Written.{wrote-over, over-whole}
-use Rattle.base_lists.proofs.TableRows.{part-length, row-put, row-same, table-same}
-use Rattle.base_lists.proofs.TableRows.{rowsTo, rows-none, rows-next, rows-done, rows-length}
+use Rattle.base_lists.proofs.TableRows.{part-length, row-same, table-same}
 use Rattle.model.specs.Basics.{none, if_then_else_, upTo, has, over}
 use Rattle.model.specs.Tables.{table, entryAt, sum, via, least, reportEntry, reportOf}
 use Rattle.model.proofs.Allowance.{least-base}
@@ -122,37 +121,6 @@ module _ {n : ℕ} {full low hs : List ℕ} {a : ℕ} {row : List ℕ} {k : ℕ}
           ∙ ap (least (via n full a b) (entryAt n low a b)) (take-all k hs h))
 
 -- ---- Report, row by row
-
--- the first a rows are written, and what else stood in the list t is as it was
-pub record ReportTo (n : ℕ) (full low hs t report : List ℕ) (a : ℕ) : Type 0 where
-  pub within : a ≤ n
-  pub room : n * n ≤ length t
-  pub same : length report ≡ length t
-  pub rows : report ≡ rowsTo n (reportEntry n full low hs) t a
-
-pub report-none : {n : ℕ} {full low hs t : List ℕ} → n * n ≤ length t → ReportTo n full low hs t t 0
-report-none {n} {full} {low} {hs} {t} room = record {
-  within = omega arith;
-  room = room;
-  same = refl;
-  rows = rows-none n (reportEntry n full low hs) t room;
-}
-
-module _ {n : ℕ} {full low hs t report : List ℕ} {a : ℕ} (r : ReportTo n full low hs t report a) where
-  -- a part of the list becomes row a
-  pub report-next : {part : List ℕ} → a < n → length part ≡ length (midOf (a * n) (a * n + n - a * n) report)
-      → part ≡ map (reportEntry n full low hs a) (upTo n)
-      → ReportTo n full low hs t (putMid (a * n) (a * n + n - a * n) report part) (a + 1)
-  report-next {part} h l e =
-      let F = reportEntry n full low hs in
-      let rows : putMid (a * n) (a * n + n - a * n) report part ≡ rowsTo n F t (a + 1) =
-      row-put (a * n) n report part (map (F a) (upTo n)) (l ∙ part-length n a report h (omega (arith, r .same, r .room))) e
-      ∙ ap (λ (x : List ℕ). written x (a * n) (map (F a) (upTo n))) (r .rows)
-      ∙ rows-next n F t a h in
-      record { within = omega arith; room = r .room; same = ap length rows ∙ rows-length n F t (a + 1) (r .room); rows = rows }
-
-  pub report-done : n ≤ a → report ≡ over (reportOf n full low hs) t
-  report-done h = r .rows ∙ rows-done n (reportEntry n full low hs) t a h
 
 -- ---- Report from tables that stand in front of longer lists
 

@@ -5,13 +5,15 @@ use Prim.Native.Nat.{ℕ, _-_}
 use native.Mathlib.Omega.{arith}
 use lib.ListN.{length-replicate}
 use Rattle.model.specs.Survey.{neighboursOf}
-use Rattle.table_distances.proofs.Distances.{LowTo, low-none, low-next, low-done}
+use Rattle.model.specs.Tables.{lowEntry}
+use Rattle.base_lists.proofs.TableRows.{RowsTo, rows-none}
+use Rattle.table_distances.proofs.Distances.{low-next, low-done}
 use borrow.Author.Needs.{needs}
 use Rattle.table_distances.proofs.fill_low.Statement.{statement}
 use Rattle.table_distances.proofs.fill_low.Tie as tie
 
 abbrev Inv-loop : tie.InvT-loop
-Inv-loop n s starts neighbours low₀ low-nodes rows a₀ low a = LowTo n s (neighboursOf starts neighbours) low₀ low a
+Inv-loop n s starts neighbours low₀ low-nodes rows a₀ low a = RowsTo n (lowEntry n s (neighboursOf starts neighbours)) low₀ low a
 
 abbrev μ-loop : tie.MeasureT-loop
 μ-loop n s starts neighbours low₀ low-nodes rows a₀ low a = n - a
@@ -36,7 +38,7 @@ link-rows-requires : tie.Need-link-rows-requires Inv-loop μ-loop
 link-rows-requires c κs = search needs
 
 loop-holds : tie.Need-loop-holds Inv-loop μ-loop
-loop-holds c = low-none (c .before .before .before .before .before .before .before .before .before .before .pre .1)
+loop-holds c = rows-none (c .before .before .before .before .before .before .before .before .before .before .pre .1)
 
 slice-aggregate-low-row : tie.Need-slice-aggregate-low-row Inv-loop μ-loop
 slice-aggregate-low-row c = search needs
@@ -68,14 +70,14 @@ loop-again c =
     let turn = c .before .before .before .before .before .before in
     let links = turn .before .before .before .link-rows in
     let low-nodes = turn .before .before .before .before .before .before .before .low-nodes2 in
-    low-next (turn .before .loop .inv) (start turn .pre .0 .lists .graph) (turn .loop-test .taken) (low-nodes .ensures) (links .ensures)
+    low-next _ _ (turn .before .loop .inv) (start turn .pre .0 .lists .graph) (turn .loop-test .taken) (low-nodes .ensures) (links .ensures)
     (low-row .ensures)
 
 same-length : tie.Need-same-length Inv-loop μ-loop
 same-length c = search needs
 
 returns : tie.Need-returns Inv-loop μ-loop
-returns c = low-done (c .before .loop .inv) (c .loop-test .left)
+returns c = low-done _ _ (c .before .loop .inv) (c .loop-test .left)
 
 pub fill-low-spec : {M : Type 1} → statement M
 fill-low-spec =

@@ -2,14 +2,14 @@
 -- Assumes nothing.
 use Prim.Native.Nat.{_+_, _-_, _*_, _≤_}
 use native.Mathlib.Omega.{arith}
-use Rattle.base_lists.proofs.TableRows.{row-within}
-use Rattle.table_report.proofs.Reports.{ReportTo, report-none, report-next, report-done}
+use Rattle.model.specs.Tables.{reportEntry}
+use Rattle.base_lists.proofs.TableRows.{row-within, RowsTo, rows-none, rows-part, rows-done}
 use borrow.Author.Needs.{needs}
 use Rattle.table_report.proofs.fill_report.Statement.{statement}
 use Rattle.table_report.proofs.fill_report.Tie as tie
 
 abbrev Inv-loop : tie.InvT-loop
-Inv-loop n full low hubs report₀ a₀ report a = ReportTo n full low hubs report₀ report a
+Inv-loop n full low hubs report₀ a₀ report a = RowsTo n (reportEntry n full low hubs) report₀ report a
 
 abbrev μ-loop : tie.MeasureT-loop
 μ-loop n full low hubs report₀ a₀ report a = n - a
@@ -20,7 +20,7 @@ row-end : (c : tie.In-loop Inv-loop μ-loop)
 row-end c = row-within _ _ (c .loop-test .taken)
 
 loop-holds : tie.Need-loop-holds Inv-loop μ-loop
-loop-holds c = report-none (c .before .before .before .before .pre .0 .3)
+loop-holds c = rows-none (c .before .before .before .before .pre .0 .3)
 
 mul-start : tie.Need-mul-start Inv-loop μ-loop
 mul-start c = omega (arith, row-end c)
@@ -53,13 +53,13 @@ loop-again : tie.Need-loop-again Inv-loop μ-loop
 loop-again c =
     let report-row = c .before .before .report-row in
     let turn = c .before .before .before .before in
-    report-next (turn .before .loop .inv) (turn .loop-test .taken) (report-row .kept .1 .1 .1 .1 .1 .0) (report-row .ensures)
+    rows-part (turn .before .loop .inv) (turn .loop-test .taken) (report-row .kept .1 .1 .1 .1 .1 .0) (report-row .ensures)
 
 same-length : tie.Need-same-length Inv-loop μ-loop
 same-length c = search needs
 
 returns : tie.Need-returns Inv-loop μ-loop
-returns c = report-done (c .before .loop .inv) (c .loop-test .left)
+returns c = rows-done (c .before .loop .inv) (c .loop-test .left)
 
 pub fill-report-spec : {M : Type 1} → statement M
 fill-report-spec =
