@@ -72,9 +72,11 @@ fn write_answer(
     buffer: &mut [u8],
     at: usize,
 ) -> usize
-    requires { ⌜ (n ≤ 1024) × (n * n ≤ length (now full)) × (n * n ≤ length (now low)) × (n * n ≤ length (now report)) × (a < n) × (b < n) ⌝ }
+    requires { ⌜ (n ≤ 1024) × (n * n ≤ length (now full)) × (n * n ≤ length (now low)) × (n * n ≤ length (now report))
+        × (a < n) × (b < n) ⌝ }
     requires { ⌜ at + length (answerText n (now full) (now low) (now report) a b) ≤ length (now buffer) ⌝ }
-    ensures { λ r. ⌜ Wrote (now (buffer .entry)) (now (buffer .exit)) at r (answerText n (now (full .entry)) (now (low .entry)) (now (report .entry)) a b) ⌝ }
+    ensures { λ r. ⌜ Wrote (now (buffer .entry)) (now (buffer .exit)) at r
+        (answerText n (now (full .entry)) (now (low .entry)) (now (report .entry)) a b) ⌝ }
 {
     match answer_pairs::pair_answer(n, full, low, report, a, b) {
         Asking::Refused(_) => at,
@@ -94,7 +96,8 @@ fn write_row(
 ) -> usize
     requires { ⌜ (n ≤ 1024) × (n * n ≤ length (now full)) × (n * n ≤ length (now low)) × (n * n ≤ length (now report)) × (a < n) ⌝ }
     requires { ⌜ at + length (rowText n (now full) (now low) (now report) a (a + 1)) ≤ length (now buffer) ⌝ }
-    ensures { λ r. ⌜ Wrote (now (buffer .entry)) (now (buffer .exit)) at r (rowText n (now (full .entry)) (now (low .entry)) (now (report .entry)) a (a + 1)) ⌝ }
+    ensures { λ r. ⌜ Wrote (now (buffer .entry)) (now (buffer .exit)) at r
+        (rowText n (now (full .entry)) (now (low .entry)) (now (report .entry)) a (a + 1)) ⌝ }
 {
     let mut i = at;
     let mut b = a + 1;
@@ -116,7 +119,8 @@ pub fn write_pairs(
 ) -> usize
     requires { ⌜ (n ≤ 1024) × (n * n ≤ length (now full)) × (n * n ≤ length (now low)) × (n * n ≤ length (now report)) ⌝ }
     requires { ⌜ at + length (pairLines n (now full) (now low) (now report)) ≤ length (now buffer) ⌝ }
-    ensures { λ r. ⌜ Wrote (now (buffer .entry)) (now (buffer .exit)) at r (pairLines n (now (full .entry)) (now (low .entry)) (now (report .entry))) ⌝ }
+    ensures { λ r. ⌜ Wrote (now (buffer .entry)) (now (buffer .exit)) at r
+        (pairLines n (now (full .entry)) (now (low .entry)) (now (report .entry))) ⌝ }
 {
     let mut i = at;
     let mut a = 0;

@@ -1,136 +1,128 @@
 -- `listing_lines::write_pair` meets its contract: the letter, four fields and the line feed, one behind the other.
 -- Assumes nothing.
-use native.Mathlib.Omega.{arith}
-use mathlib.Core.List.{[], _∷_, _++_}
+use mathlib.Core.List.{List, [], _∷_, _++_}
+use Prim.Native.Nat.{ℕ, _+_, _≤_}
+use borrow.Author.Needs.{needs}
+use lib.ListN.{length}
+use Rattle.model.specs.Answers.{answered}
 use Rattle.model.specs.Numbers.{digits}
 use Rattle.model.specs.Listing.{reportText, routeText, pairLine}
-use Rattle.base_lists.proofs.Written.{left-all, left-fits, left-more, left-none}
-use borrow.Author.Needs.{needs}
+use Rattle.base_lists.specs.Written.{Wrote}
+use Rattle.base_lists.proofs.Written.{Left, left-all, left-fits, left-more, left-none}
 use Rattle.listing_lines.proofs.write_pair.Statement.{statement}
 use Rattle.listing_lines.proofs.write_pair.Tie as tie
+
+module _ (start : tie.Start) where
+  abbrev line : List ℕ
+  line = pairLine (start .args .a, start .args .b) (answered (start .args .answer))
+
+  -- a buffer holds the line up to a place, and this text is left of it
+  abbrev LeftOf : List ℕ → ℕ → List ℕ → Type 0
+  LeftOf buf i left = Left (start .args .buffer .now) buf (start .args .at) i line left
+
+  -- there is room for the next piece
+  fits : {buf : List ℕ} {i : ℕ} (t left : List ℕ) → LeftOf buf i (t ++ left) → i + length t ≤ length buf
+  fits t left l = left-fits _ _ _ (start .pre) _ _ t left l
+
+  -- and once it is written, what follows it is left
+  more : {buf buf′ : List ℕ} {i i′ : ℕ} {t left : List ℕ} → Wrote buf buf′ i i′ t → LeftOf buf i (t ++ left) → LeftOf buf′ i′ left
+  more w l = left-more _ _ _ (start .pre) _ _ _ _ l _ _ w
+
+  -- the four fields, and the line from each of them on
+  abbrev a-field : List ℕ
+  a-field = 44 ∷ digits (start .args .a)
+
+  abbrev b-field : List ℕ
+  b-field = 44 ∷ digits (start .args .b)
+
+  abbrev report-field : List ℕ
+  report-field = 44 ∷ reportText (start .args .answer .report)
+
+  abbrev route-field : List ℕ
+  route-field = 44 ∷ routeText (start .args .answer .route)
+
+  abbrev from-route : List ℕ
+  from-route = route-field ++ (10 ∷ [])
+
+  abbrev from-report : List ℕ
+  from-report = report-field ++ from-route
+
+  abbrev from-b : List ℕ
+  from-b = b-field ++ from-report
+
+  abbrev from-a : List ℕ
+  from-a = a-field ++ from-b
+
+-- the function's entry, from behind each piece
+abbrev start₁ : tie.After-write-byte → tie.Start
+start₁ c = c .before .before .before
+
+abbrev start₂ : tie.After-write-field → tie.Start
+start₂ c = start₁ (c .before .before .before .before)
+
+abbrev start₃ : tie.After-write-field2 → tie.Start
+start₃ c = start₂ (c .before .before .before .before)
+
+abbrev start₄ : tie.After-write-report → tie.Start
+start₄ c = start₃ (c .before .before .before .before)
+
+abbrev start₅ : tie.After-write-route → tie.Start
+start₅ c = start₄ (c .before .before .before .before)
+
+-- what is left of the line behind each piece
+left₁ : (c : tie.After-write-byte) → LeftOf (start₁ c) (c .write-byte .last .0) (c .write-byte .result) (from-a (start₁ c))
+unfolding pairLine
+left₁ c = more (start₁ c) (c .write-byte .ensures) (left-all _ _ _)
+
+left₂ : (c : tie.After-write-field) → LeftOf (start₂ c) (c .write-field .last .0) (c .write-field .result) (from-b (start₂ c))
+left₂ c = more (start₂ c) (c .write-field .ensures) (left₁ (c .before .before .before .before))
+
+left₃ : (c : tie.After-write-field2) → LeftOf (start₃ c) (c .write-field2 .last .0) (c .write-field2 .result) (from-report (start₃ c))
+left₃ c = more (start₃ c) (c .write-field2 .ensures) (left₂ (c .before .before .before .before))
+
+left₄ : (c : tie.After-write-report) → LeftOf (start₄ c) (c .write-report .last .0) (c .write-report .result) (from-route (start₄ c))
+left₄ c = more (start₄ c) (c .write-report .ensures) (left₃ (c .before .before .before .before))
+
+left₅ : (c : tie.After-write-route) → LeftOf (start₅ c) (c .write-route .last .0) (c .write-route .result) (10 ∷ [])
+left₅ c = more (start₅ c) (c .write-route .ensures) (left₄ (c .before .before .before .before))
 
 write-byte-requires : tie.Need-write-byte-requires
 unfolding pairLine
 write-byte-requires c κs = search needs
 
 write-field-requires : tie.Need-write-field-requires
-unfolding pairLine
 write-field-requires c κs =
-    let start = c .before .before .before .before .before .before in
-    left-fits _ _ _ (start .pre) _ _ (44 ∷ digits _)
-    ((44 ∷ digits _) ++ ((44 ∷ reportText _) ++
-    ((44 ∷ routeText _) ++ ((10 ∷ []) ++ []))))
-    (left-more _ _ _ (start .pre) _ _ (80 ∷ [])
-    ((44 ∷ digits _) ++ ((44 ∷ digits _) ++
-    ((44 ∷ reportText _) ++ ((44 ∷ routeText _) ++ ((10 ∷ []) ++ [])))))
-    (left-all _ _ _) _ _ (c .before .before .before .write-byte .ensures))
+    let letter = c .before .before .before in
+    fits (start₁ letter) (a-field (start₁ letter)) _ (left₁ letter)
 
 write-field-requires-2 : tie.Need-write-field-requires-2
-unfolding pairLine
 write-field-requires-2 c κs =
-    let start = c .before .before .before .before .before .before .before .before .before .before in
-    let at-write-byte = c .before .before .before .before .before .before .before in
-    left-fits _ _ _ (start .pre) _ _ (44 ∷ digits _)
-    ((44 ∷ reportText _) ++ ((44 ∷ routeText _) ++ ((10 ∷ []) ++ [])))
-    (left-more _ _ _ (start .pre) _ _ (44 ∷ digits _)
-    ((44 ∷ digits _) ++ ((44 ∷ reportText _) ++
-    ((44 ∷ routeText _) ++ ((10 ∷ []) ++ []))))
-    (left-more _ _ _ (start .pre) _ _ (80 ∷ [])
-    ((44 ∷ digits _) ++ ((44 ∷ digits _) ++
-    ((44 ∷ reportText _) ++ ((44 ∷ routeText _) ++ ((10 ∷ []) ++ [])))))
-    (left-all _ _ _) _ _ (at-write-byte .write-byte .ensures)) _ _ (c .before .before .before .write-field .ensures))
+    let first = c .before .before .before in
+    fits (start₂ first) (b-field (start₂ first)) _ (left₂ first)
 
 write-report-requires : tie.Need-write-report-requires
-unfolding pairLine
 write-report-requires c κs =
-    let start = c .before .before .before .before .before .before .before .before .before .before .before .before .before .before in
-    let at-write-byte = c .before .before .before .before .before .before .before .before .before .before .before in
-    let at-write-field = c .before .before .before .before .before .before .before in
-    left-fits _ _ _ (start .pre) _ _ (44 ∷ reportText _)
-    ((44 ∷ routeText _) ++ ((10 ∷ []) ++ []))
-    (left-more _ _ _ (start .pre) _ _ (44 ∷ digits _)
-    ((44 ∷ reportText _) ++ ((44 ∷ routeText _) ++ ((10 ∷ []) ++ [])))
-    (left-more _ _ _ (start .pre) _ _ (44 ∷ digits _)
-    ((44 ∷ digits _) ++ ((44 ∷ reportText _) ++
-    ((44 ∷ routeText _) ++ ((10 ∷ []) ++ []))))
-    (left-more _ _ _ (start .pre) _ _ (80 ∷ [])
-    ((44 ∷ digits _) ++ ((44 ∷ digits _) ++
-    ((44 ∷ reportText _) ++ ((44 ∷ routeText _) ++ ((10 ∷ []) ++ [])))))
-    (left-all _ _ _) _ _ (at-write-byte .write-byte .ensures)) _ _ (at-write-field .write-field .ensures)) _ _
-    (c .before .before .before .write-field2 .ensures))
+    let second = c .before .before .before in
+    fits (start₃ second) (report-field (start₃ second)) _ (left₃ second)
 
 write-route-requires : tie.Need-write-route-requires
-unfolding pairLine
 write-route-requires c κs =
-    let start = c .before .before .before .before .before .before .before .before .before .before .before .before .before .before .before .before .before .before in
-    let at-write-byte = c .before .before .before .before .before .before .before .before .before .before .before .before .before .before .before in
-    let at-write-field = c .before .before .before .before .before .before .before .before .before .before .before in
-    let at-write-field2 = c .before .before .before .before .before .before .before in
-    left-fits _ _ _ (start .pre) _ _ (44 ∷ routeText _) ((10 ∷ []) ++ [])
-    (left-more _ _ _ (start .pre) _ _ (44 ∷ reportText _)
-    ((44 ∷ routeText _) ++ ((10 ∷ []) ++ []))
-    (left-more _ _ _ (start .pre) _ _ (44 ∷ digits _)
-    ((44 ∷ reportText _) ++ ((44 ∷ routeText _) ++ ((10 ∷ []) ++ [])))
-    (left-more _ _ _ (start .pre) _ _ (44 ∷ digits _)
-    ((44 ∷ digits _) ++ ((44 ∷ reportText _) ++
-    ((44 ∷ routeText _) ++ ((10 ∷ []) ++ []))))
-    (left-more _ _ _ (start .pre) _ _ (80 ∷ [])
-    ((44 ∷ digits _) ++ ((44 ∷ digits _) ++
-    ((44 ∷ reportText _) ++ ((44 ∷ routeText _) ++ ((10 ∷ []) ++ [])))))
-    (left-all _ _ _) _ _ (at-write-byte .write-byte .ensures)) _ _ (at-write-field .write-field .ensures)) _ _
-    (at-write-field2 .write-field2 .ensures)) _ _ (c .before .before .before .write-report .ensures))
+    let report = c .before .before .before in
+    fits (start₄ report) (route-field (start₄ report)) _ (left₄ report)
 
 write-byte-requires-2 : tie.Need-write-byte-requires-2
-unfolding pairLine
 write-byte-requires-2 c κs =
-    let start = c .before .before .before .before .before .before .before .before .before .before .before .before .before .before .before .before .before .before .before .before .before .before in
-    let at-write-byte = c .before .before .before .before .before .before .before .before .before .before .before .before .before .before .before .before .before .before .before in
-    let at-write-field = c .before .before .before .before .before .before .before .before .before .before .before .before .before .before .before in
-    let at-write-field2 = c .before .before .before .before .before .before .before .before .before .before .before in
-    let at-write-report = c .before .before .before .before .before .before .before in
-    left-fits _ _ _ (start .pre) _ _ (10 ∷ []) []
-    (left-more _ _ _ (start .pre) _ _ (44 ∷ routeText _) ((10 ∷ []) ++ [])
-    (left-more _ _ _ (start .pre) _ _ (44 ∷ reportText _)
-    ((44 ∷ routeText _) ++ ((10 ∷ []) ++ []))
-    (left-more _ _ _ (start .pre) _ _ (44 ∷ digits _)
-    ((44 ∷ reportText _) ++ ((44 ∷ routeText _) ++ ((10 ∷ []) ++ [])))
-    (left-more _ _ _ (start .pre) _ _ (44 ∷ digits _)
-    ((44 ∷ digits _) ++ ((44 ∷ reportText _) ++
-    ((44 ∷ routeText _) ++ ((10 ∷ []) ++ []))))
-    (left-more _ _ _ (start .pre) _ _ (80 ∷ [])
-    ((44 ∷ digits _) ++ ((44 ∷ digits _) ++
-    ((44 ∷ reportText _) ++ ((44 ∷ routeText _) ++ ((10 ∷ []) ++ [])))))
-    (left-all _ _ _) _ _ (at-write-byte .write-byte .ensures)) _ _ (at-write-field .write-field .ensures)) _ _
-    (at-write-field2 .write-field2 .ensures)) _ _ (at-write-report .write-report .ensures)) _ _
-    (c .before .before .before .write-route .ensures))
+    let route = c .before .before .before in
+    fits (start₅ route) (10 ∷ []) [] (left₅ route)
 
 same-length : tie.Need-same-length
 same-length c = search needs
 
 returns : tie.Need-returns
-unfolding pairLine
 returns c =
-    let start = c .before .before .before .before .before .before .before .before .before .before .before .before .before .before .before .before .before .before .before .before .before .before .before .before .before in
-    let at-write-byte = c .before .before .before .before .before .before .before .before .before .before .before .before .before .before .before .before .before .before .before .before .before .before in
-    let at-write-field = c .before .before .before .before .before .before .before .before .before .before .before .before .before .before .before .before .before .before in
-    let at-write-field2 = c .before .before .before .before .before .before .before .before .before .before .before .before .before .before in
-    let at-write-report = c .before .before .before .before .before .before .before .before .before .before in
-    let at-write-route = c .before .before .before .before .before .before in
-    left-none _ _ _ (start .pre) _ _ (left-more _ _ _ (start .pre) _ _ (10 ∷ []) []
-    (left-more _ _ _ (start .pre) _ _ (44 ∷ routeText _) ((10 ∷ []) ++ [])
-    (left-more _ _ _ (start .pre) _ _ (44 ∷ reportText _)
-    ((44 ∷ routeText _) ++ ((10 ∷ []) ++ []))
-    (left-more _ _ _ (start .pre) _ _ (44 ∷ digits _)
-    ((44 ∷ reportText _) ++ ((44 ∷ routeText _) ++ ((10 ∷ []) ++ [])))
-    (left-more _ _ _ (start .pre) _ _ (44 ∷ digits _)
-    ((44 ∷ digits _) ++ ((44 ∷ reportText _) ++
-    ((44 ∷ routeText _) ++ ((10 ∷ []) ++ []))))
-    (left-more _ _ _ (start .pre) _ _ (80 ∷ [])
-    ((44 ∷ digits _) ++ ((44 ∷ digits _) ++
-    ((44 ∷ reportText _) ++ ((44 ∷ routeText _) ++ ((10 ∷ []) ++ [])))))
-    (left-all _ _ _) _ _ (at-write-byte .write-byte .ensures)) _ _ (at-write-field .write-field .ensures)) _ _
-    (at-write-field2 .write-field2 .ensures)) _ _ (at-write-report .write-report .ensures)) _ _ (at-write-route .write-route .ensures))
-    _ _ (c .before .before .write-byte2 .ensures))
+    let line-feed = c .before .before in
+    let route = line-feed .before .before .before .before in
+    left-none _ _ _ (start₅ route .pre) _ _ (more (start₅ route) (line-feed .write-byte2 .ensures) (left₅ route))
 
 pub write-pair-spec : {M : Type 1} → statement M
 write-pair-spec =

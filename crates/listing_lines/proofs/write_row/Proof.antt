@@ -1,21 +1,39 @@
 -- `listing_lines::write_row` meets its contract: what is written, and the pairs that are left, are the row.
 -- Assumes nothing.
-use borrow.Author.Needs.{needs}
 use mathlib.Core.Path.{subst}
-use mathlib.Core.List.{List}
+use mathlib.Core.List.{List, _++_}
 use Prim.Native.Nat.{ℕ, _+_, _-_, _≤_}
 use native.Mathlib.Omega.{arith}
+use borrow.Author.Needs.{needs}
+use Rattle.model.proofs.Loops.{gather-next, gather-end}
 use Rattle.base_lists.proofs.Written.{Left, left-all, left-fits, left-more, left-length, left-none}
 use Rattle.listing_lines.specs.RowText.{answerText, rowText}
-use Rattle.listing_lines.proofs.Texts.{row-next, row-end}
 use Rattle.listing_lines.proofs.write_row.Statement.{statement}
 use Rattle.listing_lines.proofs.write_row.Tie as tie
 
 abbrev Inv-loop : tie.InvT-loop
-Inv-loop n full low report a buffer₀ at i₀ b₀ buffer i b = (b ≤ n) × Left buffer₀ buffer at i (rowText n full low report a (a + 1)) (rowText n full low report a b)
+Inv-loop n full low report a buffer₀ at i₀ b₀ buffer i b =
+    (b ≤ n) × Left buffer₀ buffer at i (rowText n full low report a (a + 1)) (rowText n full low report a b)
 
 abbrev μ-loop : tie.MeasureT-loop
 μ-loop n full low report a buffer₀ at i₀ b₀ buffer i b = n - b
+
+module _ (start : tie.Start Inv-loop μ-loop) where
+  -- the line of a with b, and those of a with the nodes from b on
+  abbrev answer : ℕ → List ℕ
+  answer b = let args = start .args in answerText (args .n) (args .full .now) (args .low .now) (args .report .now) (args .a) b
+
+  abbrev row : ℕ → List ℕ
+  row b = let args = start .args in rowText (args .n) (args .full .now) (args .low .now) (args .report .now) (args .a) b
+
+-- in a turn the line of the pair, and those behind it, are left
+left : (c : tie.In-loop Inv-loop μ-loop) → (
+    let start = c .before .before .before .before .before .before in
+    let loop = c .before .loop in
+    Left (start .args .buffer .now) (loop .buffer) (start .args .at) (loop .i) (row start (start .args .a + 1))
+    (answer start (loop .b) ++ row start (loop .b + 1)))
+unfolding rowText
+left c = subst (Left _ _ _ _ _) (gather-next _ _ _ (c .loop-test .taken)) (c .before .loop .inv .1)
 
 add-b : tie.Need-add-b Inv-loop μ-loop
 add-b c = search needs
@@ -26,25 +44,7 @@ loop-holds c = (omega arith, left-all _ _ _)
 write-answer-requires : tie.Need-write-answer-requires Inv-loop μ-loop
 write-answer-requires c κs =
     let start = c .before .before .before .before .before .before .before in
-    let at-loop = c .before .before in
-    let at-loop-test = c .before in (
-      (
-        (start .pre .0 .0),
-        (start .pre .0 .1),
-        (start .pre .0 .2),
-        (start .pre .0 .3),
-        (start .pre .0 .4),
-        (at-loop-test .loop-test .taken),
-      ),
-      left-fits _ _ _ (start .pre .1) _ _
-          (answerText _ _ _ _ _
-          _) (rowText _ _ _ _
-          _ (_ + 1))
-          (subst (λ (t : List ℕ). Left (start .args .buffer .now) (at-loop .loop .buffer) (start .args .at) (at-loop .loop .i)
-          (rowText (start .args .n) (start .args .full .now) (start .args .low .now) (start .args .report .now) (start .args .a)
-          ((start .args .a) + 1)) t) (row-next _ _ _ _
-          _ _ (at-loop-test .loop-test .taken)) (at-loop .loop .inv .1)),
-    )
+    (search needs, left-fits _ _ _ (start .pre .1) _ _ (answer start _) _ (left (c .before)))
 
 add-b-2 : tie.Need-add-b-2 Inv-loop μ-loop
 add-b-2 c = search needs
@@ -54,20 +54,10 @@ loop-less c = search needs
 
 loop-again : tie.Need-loop-again Inv-loop μ-loop
 loop-again c =
-    let start = c .before .before .before .before .before .before .before .before .before .before in
-    let at-loop = c .before .before .before .before .before in
-    let at-loop-test = c .before .before .before .before in (
-      omega arith,
-      left-more _ _ _ (start .pre .1) _ _
-          (answerText _ _ _ _ _
-          _) (rowText _ _ _ _
-          _ (_ + 1))
-          (subst (λ (t : List ℕ). Left (start .args .buffer .now) (at-loop .loop .buffer) (start .args .at) (at-loop .loop .i)
-          (rowText (start .args .n) (start .args .full .now) (start .args .low .now) (start .args .report .now) (start .args .a)
-          ((start .args .a) + 1)) t) (row-next _ _ _ _
-          _ _ (at-loop-test .loop-test .taken)) (at-loop .loop .inv .1)) _ _
-          (c .before .before .write-answer .ensures),
-    )
+    let call = c .before .before in
+    let turn = call .before .before in
+    let start = turn .before .before .before .before .before .before in
+    (omega arith, left-more _ _ _ (start .pre .1) _ _ (answer start _) _ (left turn) _ _ (call .write-answer .ensures))
 
 same-length : tie.Need-same-length Inv-loop μ-loop
 same-length c =
@@ -75,14 +65,11 @@ same-length c =
     left-length _ _ _ (start .pre .1) _ _ _ (c .before .loop .inv .1)
 
 returns : tie.Need-returns Inv-loop μ-loop
+unfolding rowText
 returns c =
     let start = c .before .before .before .before .before .before in
-    let at-loop = c .before in
-    left-none _ _ _ (start .pre .1) _ _ (subst (λ (t : List ℕ). Left (start .args .buffer .now) (at-loop .loop .buffer) (start .args .at)
-    (at-loop .loop .i) (rowText (start .args .n) (start .args .full .now) (start .args .low .now) (start .args .report .now)
-    (start .args .a) ((start .args .a) + 1)) t)
-    (row-end _ _ _ _ _
-    _ (c .loop-test .left)) (at-loop .loop .inv .1))
+    left-none _ _ _ (start .pre .1) _ _
+    (subst (Left _ _ _ _ _) (gather-end _ _ _ (c .loop-test .left)) (c .before .loop .inv .1))
 
 pub write-row-spec : {M : Type 1} → statement M
 write-row-spec =

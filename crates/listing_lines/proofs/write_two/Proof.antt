@@ -1,8 +1,8 @@
 -- `listing_lines::write_two` meets its contract: two bytes, one behind the other.
 -- Assumes nothing.
 use native.Mathlib.Omega.{arith}
-use Rattle.base_lists.proofs.Written.{wrote-then}
 use borrow.Author.Needs.{needs}
+use Rattle.base_lists.proofs.Written.{wrote-then}
 use Rattle.listing_lines.proofs.write_two.Statement.{statement}
 use Rattle.listing_lines.proofs.write_two.Tie as tie
 
@@ -17,8 +17,9 @@ same-length c = search needs
 
 returns : tie.Need-returns
 returns c =
-    let at-write-byte = c .before .before .before .before .before .before in
-    wrote-then (omega arith) (at-write-byte .write-byte .ensures) (c .before .before .write-byte2 .ensures)
+    let first = c .before .before .before .before .before .before .write-byte in
+    let second = c .before .before .write-byte2 in
+    wrote-then (omega arith) (first .ensures) (second .ensures)
 
 pub write-two-spec : {M : Type 1} → statement M
 write-two-spec = tie.close (tie.spec write-byte-requires write-byte-requires-2 same-length returns)
