@@ -37,8 +37,8 @@ use Rattle.model.proofs.Numbers.{length-le}
 use Rattle.model.proofs.Outcomes.{number-bounds}
 use Rattle.model.proofs.Tests.{picked, eq-or}
 use Rattle.listing_lines.specs.RowText.{answerText}
-use Rattle.listing_writing.specs.Length.{mostListing}
 use Rattle.listing_lines.proofs.Texts.{report-none, report-some}
+use Rattle.listing_writing.specs.Length.{mostListing}
 
 -- ---- one line
 
@@ -49,7 +49,8 @@ report-few r h = ⊎-elim
     (eq-or r none)
 
 module _ (a b : ℕ) (ha : a < 1000) (hb : b < 1000) where
-  line-few : (r : ℕ) (t : Route) → (r < 1000) ⊎ (r ≡ none) → length (routeText t) ≤ 3 → length (pairLine (a, b) (answered (withRoute r t))) ≤ 18
+  line-few : (r : ℕ) (t : Route) → (r < 1000) ⊎ (r ≡ none) → length (routeText t) ≤ 3
+      → length (pairLine (a, b) (answered (withRoute r t))) ≤ 18
   unfolding pairLine
   line-few r t hr ht =
       let e5 = length-append (routeText t) (10 ∷ []) in
@@ -69,7 +70,8 @@ module _ (a b : ℕ) (ha : a < 1000) (hb : b < 1000) where
       (λ _. picked P (eqb l r) _ _ (λ _. line-few r Low hr (omega arith))
       (λ _. picked P (eqb h none) _ _ (λ _. no 11) (λ f. line-few r (Through h) hr (length-le 2 h (hh (eqb-false h none f)))))))
 
-  answer-few : (n : ℕ) (full low report : List ℕ) → n ≤ 128 → (entryAt n report a b < 1000) ⊎ (entryAt n report a b ≡ none) → length (answerText n full low report a b) ≤ 18
+  answer-few : (n : ℕ) (full low report : List ℕ) → n ≤ 128 → (entryAt n report a b < 1000) ⊎ (entryAt n report a b ≡ none)
+      → length (answerText n full low report a b) ≤ 18
   unfolding pair pairBy attaining
   answer-few n full low report size h = choice-few _ _ _ h (hub (first-below _ none n))
     where
@@ -79,7 +81,8 @@ module _ (a b : ℕ) (ha : a < 1000) (hb : b < 1000) where
 
 -- ---- many lines
 
-gather-few : {B : Type 0} (f : ℕ → List B) (k : ℕ) (l : List ℕ) → ((x : ℕ) → T (has x l) → length (f x) ≤ k) → length (gather f l) ≤ length l * k
+gather-few : {B : Type 0} (f : ℕ → List B) (k : ℕ) (l : List ℕ) → ((x : ℕ) → T (has x l) → length (f x) ≤ k)
+    → length (gather f l) ≤ length l * k
 unfolding gather
 gather-few f k [] h = omega arith
 gather-few f k (x ∷ l) h =
@@ -155,7 +158,7 @@ listing-few n G g size =
 
 -- ---- a refusal's line
 
-pub refusal-room : (r : Refusal) (k : ℕ) → k ≡ number r → (buf : List ℕ) → mostListing ≤ length buf → 0 + length (listingText (refused k)) ≤ length buf
+pub refusal-few : (r : Refusal) {k : ℕ} → k ≡ number r → length (listingText (refused k)) ≤ mostListing
 unfolding listingText
-refusal-room r k e buf h =
+refusal-few r {k} e =
     omega (arith, length-append (digits k) (10 ∷ []), length-le 1 k (omega (arith, number-bounds r .1, e)))

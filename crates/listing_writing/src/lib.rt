@@ -13,7 +13,7 @@ ghost use Rattle.model.specs.Listing.{listingOf, listingText, listing, writingL
 ghost use Rattle.model.specs.Writing.{writeReturned};
 ghost use Rattle.listing_writing.specs.Length.{mostListing};
 
-// Writes the listing of a survey from the first byte on, by way of the three tables, and returns its length.
+// Builds the three tables of a survey, writes its listing from them from the first byte on, and returns the listing's length.
 fn write_tables(
     n: usize,
     starts: &[u32],
@@ -23,9 +23,11 @@ fn write_tables(
     report: &mut [u16],
     buffer: &mut [u8],
 ) -> usize
-    requires { ⌜ Accepted n (now starts) (now neighbours) × (n ≤ 128) × (length (now full) ≡ n * n) × (length (now low) ≡ n * n) × (length (now report) ≡ n * n) ⌝ }
+    requires { ⌜ Accepted n (now starts) (now neighbours) × (n ≤ 128)
+        × (length (now full) ≡ n * n) × (length (now low) ≡ n * n) × (length (now report) ≡ n * n) ⌝ }
     requires { ⌜ length (listingOf n (threshold n) (neighboursOf (now starts) (now neighbours))) ≤ length (now buffer) ⌝ }
-    ensures { λ r. ⌜ Wrote (now (buffer .entry)) (now (buffer .exit)) 0 r (listingOf n (threshold n) (neighboursOf (now (starts .entry)) (now (neighbours .entry)))) ⌝ }
+    ensures { λ r. ⌜ Wrote (now (buffer .entry)) (now (buffer .exit)) 0 r
+        (listingOf n (threshold n) (neighboursOf (now (starts .entry)) (now (neighbours .entry)))) ⌝ }
 {
     let mut hubs = [0u16; 128];
     let s = base_threshold::threshold_at(n);
@@ -46,7 +48,8 @@ fn write_tables(
 // Writes the listing of a survey of at most 128 nodes from the first byte on, and returns its length.
 fn write_survey(n: usize, starts: &[u32], neighbours: &[u16], buffer: &mut [u8]) -> usize
     requires { ⌜ Accepted n (now starts) (now neighbours) × (n ≤ 128) × (mostListing ≤ length (now buffer)) ⌝ }
-    ensures { λ r. ⌜ Wrote (now (buffer .entry)) (now (buffer .exit)) 0 r (listingOf n (threshold n) (neighboursOf (now (starts .entry)) (now (neighbours .entry)))) ⌝ }
+    ensures { λ r. ⌜ Wrote (now (buffer .entry)) (now (buffer .exit)) 0 r
+        (listingOf n (threshold n) (neighboursOf (now (starts .entry)) (now (neighbours .entry)))) ⌝ }
 {
     let size = n * n;
     let mut full = [0u16; 16384];
@@ -86,8 +89,8 @@ fn write_text(text: &[u8], buffer: &mut [u8]) -> usize
     }
 }
 
-// Writes the listing of a text into a buffer, by way of a list of the greatest length.
-fn write_by_way(text: &[u8], lines: &mut [u8], buffer: &mut [u8]) -> Counting
+// Writes the listing of a text into a lent list of the greatest length, and copies it into the buffer if it fits.
+fn write_and_copy(text: &[u8], lines: &mut [u8], buffer: &mut [u8]) -> Counting
     requires { ⌜ length (now lines) ≡ mostListing ⌝ }
     ensures { λ r. ⌜ writeReturned r (now (buffer .exit)) ≡ writingListing (now (text .entry)) (now (buffer .entry)) ⌝ }
     ensures { λ _. ⌜ length (listing (now (text .entry))) ≤ mostListing ⌝ }
@@ -100,12 +103,12 @@ fn write_by_way(text: &[u8], lines: &mut [u8], buffer: &mut [u8]) -> Counting
     Counting::Count(length)
 }
 
-// The same by way of an array, which is lent without a look at its entries: that keeps the check short.
-fn write_by_array(text: &[u8], lines: &mut [u8; 146314], buffer: &mut [u8]) -> Counting
+// The same with an array of that length, lent whole, so that the check does not look at its entries.
+fn write_in_array(text: &[u8], lines: &mut [u8; 146314], buffer: &mut [u8]) -> Counting
     ensures { λ r. ⌜ writeReturned r (now (buffer .exit)) ≡ writingListing (now (text .entry)) (now (buffer .entry)) ⌝ }
     ensures { λ _. ⌜ length (listing (now (text .entry))) ≤ mostListing ⌝ }
 {
-    write_by_way(text, lines, buffer)
+    write_and_copy(text, lines, buffer)
 }
 
 // Writes the listing of a text into a buffer. Refused where the buffer is too short, which is then not altered; 146,314 bytes are
@@ -115,5 +118,5 @@ pub fn write_listing(text: &[u8], buffer: &mut [u8]) -> Counting
     ensures { λ _. ⌜ length (listing (now (text .entry))) ≤ mostListing ⌝ }
 {
     let mut lines = [0u8; 146314];
-    write_by_array(text, &mut lines, buffer)
+    write_in_array(text, &mut lines, buffer)
 }

@@ -1,18 +1,45 @@
 -- `listing_writing::write_refusal` meets its contract: the letter, the number and the line feed, one behind the other.
 -- Assumes nothing.
+use mathlib.Core.List.{List, [], _∷_, _++_}
+use Prim.Native.Nat.{ℕ, _+_, _≤_}
 use native.Mathlib.Omega.{arith}
-use mathlib.Core.Path.{subst}
-use mathlib.Core.List.{[], _∷_, _++_}
-use Prim.Native.Nat.{ℕ}
-use Rattle.base_lists.specs.Written.{Wrote}
-use Rattle.base_lists.proofs.Written.{left-all, left-fits, left-more, left-none}
+use borrow.Author.Needs.{needs}
+use lib.ListN.{length}
 use Rattle.model.specs.Answers.{refused}
 use Rattle.model.specs.Numbers.{digits}
 use Rattle.model.specs.Listing.{listingText}
-use Rattle.listing_writing.proofs.Room.{refusal-room}
-use borrow.Author.Needs.{needs}
+use Rattle.base_lists.proofs.Written.{Left, left-all, left-fits, left-more, left-none}
+use Rattle.listing_writing.proofs.Room.{refusal-few}
 use Rattle.listing_writing.proofs.write_refusal.Statement.{statement}
 use Rattle.listing_writing.proofs.write_refusal.Tie as tie
+
+-- once the refusal's number is known
+module _ (c : tie.After-refusal-number) where
+  abbrev start : tie.Start
+  start = c .before .before .before .before .before .before .before
+
+  abbrev line : List ℕ
+  line = listingText (refused (c .refusal-number .result))
+
+  abbrev field : List ℕ
+  field = 44 ∷ digits (c .refusal-number .result)
+
+  room : 0 + length line ≤ length (start .args .buffer .now)
+  room = omega (arith, refusal-few (start .args .refusal) (c .refusal-number .ensures))
+
+  -- a buffer holds the line up to a place, and this text is left of it
+  abbrev LeftOf : List ℕ → ℕ → List ℕ → Type 0
+  LeftOf buf i left = Left (start .args .buffer .now) buf 0 i line left
+
+  -- behind the letter the number and the line feed are left
+  left₁ : (let letter = c .before .before .before .before .write-byte in
+      LeftOf (letter .last .0) (letter .result) (field ++ (10 ∷ [])))
+  unfolding listingText
+  left₁ = left-more _ _ _ room _ _ (88 ∷ []) _ (left-all _ _ _) _ _ (c .before .before .before .before .write-byte .ensures)
+
+-- behind the number the line feed alone
+left₂ : (c : tie.After-write-field) → LeftOf (c .before) (c .write-field .last .0) (c .write-field .result) (10 ∷ [])
+left₂ c = left-more _ _ _ (room (c .before)) _ _ (field (c .before)) _ (left₁ (c .before)) _ _ (c .write-field .ensures)
 
 write-byte-requires : tie.Need-write-byte-requires
 write-byte-requires c κs = search needs
@@ -21,58 +48,22 @@ refusal-number-requires : tie.Need-refusal-number-requires
 refusal-number-requires c κs = search needs
 
 write-field-requires : tie.Need-write-field-requires
-unfolding listingText
-write-field-requires c κs =
-    let start = c .before .before .before .before .before .before .before in
-    left-fits _ _ _ (refusal-room (start .args .refusal) _ (c .refusal-number .ensures)
-    (start .args .buffer .now) (start .pre)) _ _ (44 ∷ digits _) ((10 ∷ []) ++ [])
-    (left-more _ 0 (listingText (refused _))
-    (refusal-room (start .args .refusal) _ (c .refusal-number .ensures) (start .args .buffer .now)
-    (start .pre)) _ _ (88 ∷ []) ((44 ∷ digits _) ++ ((10 ∷ []) ++ [])) (left-all _ _ _) _ _
-    (c .before .before .before .before .write-byte .ensures))
+write-field-requires c κs = left-fits _ _ _ (room c) _ _ (field c) _ (left₁ c)
 
 write-byte-requires-2 : tie.Need-write-byte-requires-2
-unfolding listingText
 write-byte-requires-2 c κs =
-    let start = c .before .before .before .before .before .before .before .before .before .before .before in
-    let at-write-byte = c .before .before .before .before .before .before .before .before in
-    let at-refusal-number = c .before .before .before .before in
-    left-fits _ _ _ (refusal-room (start .args .refusal) _
-    (at-refusal-number .refusal-number .ensures) (start .args .buffer .now) (start .pre)) _ _ (10 ∷ []) []
-    (left-more _ _ _ (refusal-room (start .args .refusal) _
-    (at-refusal-number .refusal-number .ensures) (start .args .buffer .now) (start .pre)) _ _
-    (44 ∷ digits _) ((10 ∷ []) ++ [])
-    (left-more _ 0 (listingText (refused _))
-    (refusal-room (start .args .refusal) _ (at-refusal-number .refusal-number .ensures)
-    (start .args .buffer .now) (start .pre)) _ _ (88 ∷ [])
-    ((44 ∷ digits _) ++ ((10 ∷ []) ++ [])) (left-all _ _ _) _ _
-    (at-write-byte .write-byte .ensures)) _ _ (c .before .before .before .write-field .ensures))
+    let number = c .before .before .before in
+    left-fits _ _ _ (room (number .before)) _ _ (10 ∷ []) [] (left₂ number)
 
 same-length : tie.Need-same-length
 same-length c = search needs
 
 returns : tie.Need-returns
-unfolding listingText
 returns c =
-    let start = c .before .before .before .before .before .before .before .before .before .before .before .before .before .before in
-    let at-write-byte = c .before .before .before .before .before .before .before .before .before .before .before in
-    let at-refusal-number = c .before .before .before .before .before .before .before in
-    let at-write-field = c .before .before .before .before .before .before in
-    let at-write-byte2 = c .before .before in
-    subst (λ (k : ℕ). Wrote (start .args .buffer .now) (at-write-byte2 .write-byte2 .last .0) 0 (at-write-byte2 .write-byte2 .result)
-    (listingText (refused k))) (at-refusal-number .refusal-number .ensures)
-    (left-none _ _ _ (refusal-room (start .args .refusal) _
-    (at-refusal-number .refusal-number .ensures) (start .args .buffer .now) (start .pre)) _ _
-    (left-more _ _ _ (refusal-room (start .args .refusal) _
-    (at-refusal-number .refusal-number .ensures) (start .args .buffer .now) (start .pre)) _ _ (10 ∷ []) []
-    (left-more _ _ _ (refusal-room (start .args .refusal) _
-    (at-refusal-number .refusal-number .ensures) (start .args .buffer .now) (start .pre)) _ _
-    (44 ∷ digits _) ((10 ∷ []) ++ [])
-    (left-more _ 0 (listingText (refused _))
-    (refusal-room (start .args .refusal) _ (at-refusal-number .refusal-number .ensures)
-    (start .args .buffer .now) (start .pre)) _ _ (88 ∷ [])
-    ((44 ∷ digits _) ++ ((10 ∷ []) ++ [])) (left-all _ _ _) _ _
-    (at-write-byte .write-byte .ensures)) _ _ (at-write-field .write-field .ensures)) _ _ (at-write-byte2 .write-byte2 .ensures)))
+    let line-feed = c .before .before in
+    let number = line-feed .before .before .before .before in
+    let whole = left-more _ _ _ (room (number .before)) _ _ (10 ∷ []) [] (left₂ number) _ _ (line-feed .write-byte2 .ensures) in
+    rw (number .before .refusal-number .ensures) at (left-none _ _ _ (room (number .before)) _ _ whole)
 
 pub write-refusal-spec : {M : Type 1} → statement M
 write-refusal-spec =

@@ -1,73 +1,55 @@
 -- `listing_writing::write_survey` meets its contract: no listing is longer than the buffer.
 -- Assumes nothing.
-use mathlib.Core.Path.{sym}
-use Prim.Native.Nat.{ℕ, _*_}
+use mathlib.Core.Path.{_≡_, sym}
+use Prim.Native.Nat.{ℕ, _*_, _≤_}
 use native.Mathlib.Omega.{arith}
-use lib.ListN.{replicate, length-replicate}
+use borrow.Author.Needs.{needs}
+use lib.ListN.{length, take, replicate}
 use lib.Seq.{length-take-le}
-use Rattle.model.specs.Survey.{neighboursOf}
 use Rattle.listing_writing.proofs.Room.{listing-few}
 use Rattle.listing_writing.proofs.Whole.{square-most}
-use borrow.Author.Needs.{needs}
 use Rattle.listing_writing.proofs.write_survey.Statement.{statement}
 use Rattle.listing_writing.proofs.write_survey.Tie as tie
 
+module _ (c : tie.Start) where
+  abbrev size : ℕ
+  size = c .args .n * c .args .n
+
+  -- each array has n x n entries
+  small : size ≤ 16384
+  small = square-most _ (c .pre .1)
+
+  -- and so many of it are lent
+  lent : length (take size (replicate {A = ℕ} 16384 0)) ≡ size
+  lent = length-take-le _ _ (omega (arith, small))
+
 mul-size : tie.Need-mul-size
-mul-size c =
-    let start = c .before .before .before in
-    omega (arith, (square-most _ (start .pre .1)))
+mul-size c = omega (arith, small (c .before .before .before))
 
 array-borrow-prefix-full : tie.Need-array-borrow-prefix-full
-array-borrow-prefix-full c =
-    let start = c .before .before .before in
-    (square-most _ (start .pre .1))
+array-borrow-prefix-full c = small (c .before .before .before)
 
 slice-aggregate-write-tables : tie.Need-slice-aggregate-write-tables
-slice-aggregate-write-tables c =
-    let start = c .before .before .before .before in
-    sym (length-take-le (_ * _) (replicate {A = ℕ} 16384 0)
-    (omega (arith, (square-most _ (start .pre .1)))))
+slice-aggregate-write-tables c = sym (lent (c .before .before .before .before))
 
 array-borrow-prefix-low : tie.Need-array-borrow-prefix-low
-array-borrow-prefix-low c =
-    let start = c .before .before .before .before in
-    (square-most _ (start .pre .1))
+array-borrow-prefix-low c = small (c .before .before .before .before)
 
 slice-aggregate-write-tables-2 : tie.Need-slice-aggregate-write-tables-2
-slice-aggregate-write-tables-2 c =
-    let start = c .before .before .before .before .before in
-    sym (length-take-le (_ * _) (replicate {A = ℕ} 16384 0)
-    (omega (arith, (square-most _ (start .pre .1)))))
+slice-aggregate-write-tables-2 c = sym (lent (c .before .before .before .before .before))
 
 array-borrow-prefix-report : tie.Need-array-borrow-prefix-report
-array-borrow-prefix-report c =
-    let start = c .before .before .before .before .before in
-    (square-most _ (start .pre .1))
+array-borrow-prefix-report c = small (c .before .before .before .before .before)
 
 slice-aggregate-write-tables-3 : tie.Need-slice-aggregate-write-tables-3
-slice-aggregate-write-tables-3 c =
-    let start = c .before .before .before .before .before .before in
-    sym (length-take-le (_ * _) (replicate {A = ℕ} 16384 0)
-    (omega (arith, (square-most _ (start .pre .1)))))
+slice-aggregate-write-tables-3 c = sym (lent (c .before .before .before .before .before .before))
 
 write-tables-requires : tie.Need-write-tables-requires
 write-tables-requires c κs =
-    let start = c .before .before .before .before .before .before .before in (
-      (
-        (start .pre .0),
-        (start .pre .1),
-        (length-take-le (_ * _) (replicate {A = ℕ} 16384 0)
-            (omega (arith, (square-most _ (start .pre .1))))),
-        (length-take-le (_ * _) (replicate {A = ℕ} 16384 0)
-            (omega (arith, (square-most _ (start .pre .1))))),
-        (length-take-le (_ * _) (replicate {A = ℕ} 16384 0)
-            (omega (arith, (square-most _ (start .pre .1))))),
-      ),
-      omega (
-        arith,
-        listing-few _ (neighboursOf _ _)
-            (start .pre .0 .lists .graph) (start .pre .1),
-      ),
+    let start = c .before .before .before .before .before .before .before in
+    let pre = start .pre in (
+      (pre .0, pre .1, lent start, lent start, lent start),
+      omega (arith, listing-few _ _ (pre .0 .lists .graph) (pre .1)),
     )
 
 same-length : tie.Need-same-length

@@ -1,19 +1,55 @@
 -- `listing_writing::write_tables` meets its contract: the tables that building leaves are those of the listing.
 -- Assumes nothing.
-use mathlib.Core.Path.{ap, subst}
-use mathlib.Core.List.{List}
-use Prim.Native.Nat.{ℕ}
+use mathlib.Core.Path.{_≡_, ap}
+use mathlib.Core.List.{List, _++_}
+use Prim.Native.Nat.{ℕ, _+_, _≤_}
 use native.Mathlib.Omega.{arith}
-use lib.ListN.{length, length-append}
-use Rattle.base_lists.specs.Written.{Wrote}
-use Rattle.base_lists.proofs.Written.{wrote-then, wrote-room}
-use Rattle.model.specs.SurveyText.{lineOf}
-use Rattle.model.specs.Survey.{neighboursOf}
-use Rattle.model.specs.Listing.{pairLines}
-use Rattle.listing_writing.proofs.Whole.{count-few, listing-by-tables}
 use borrow.Author.Needs.{needs}
+use lib.ListN.{length, length-append}
+use Rattle.model.specs.SurveyText.{lineOf}
+use Rattle.model.specs.Survey.{Graph, neighboursOf}
+use Rattle.model.specs.Threshold.{threshold}
+use Rattle.model.specs.Listing.{pairLines, listingOf}
+use Rattle.base_lists.proofs.Written.{wrote-then, wrote-room}
+use Rattle.listing_writing.proofs.Whole.{AreTables, tables-built, count-few, listing-by-tables}
 use Rattle.listing_writing.proofs.write_tables.Statement.{statement}
 use Rattle.listing_writing.proofs.write_tables.Tie as tie
+
+-- once the tables are built
+module _ (c : tie.After-build-tables) where
+  abbrev start : tie.Start
+  start = c .before .before .before .before .before .before .before .before .before .before .before .before
+
+  abbrev G : Graph
+  G = neighboursOf (start .args .starts .now) (start .args .neighbours .now)
+
+  abbrev full : List ℕ
+  full = c .build-tables .last .1 .1 .1 .1 .0
+
+  abbrev low : List ℕ
+  low = c .build-tables .last .1 .1 .1 .1 .1 .0
+
+  abbrev report : List ℕ
+  report = c .build-tables .last .1 .1 .1 .1 .1 .1 .0
+
+  abbrev first : List ℕ
+  first = lineOf 82 (start .args .n) (c .build-tables .result)
+
+  abbrev pairs : List ℕ
+  pairs = pairLines (start .args .n) full low report
+
+  tables : AreTables (start .args .n) G (c .build-tables .result) full low report
+  tables =
+      tables-built _ _ G (start .args .full .now) (start .args .low .now) (start .args .report .now) _ (c .build-tables .ensures)
+      (c .before .before .before .before .before .threshold-at .ensures) (start .pre .0 .2) (start .pre .0 .3) (start .pre .0 .4)
+
+  -- the first line and the pairs' lines from the tables are the listing
+  listed : first ++ pairs ≡ listingOf (start .args .n) (threshold (start .args .n)) G
+  listed = listing-by-tables tables
+
+  -- and both fit the buffer
+  room : 0 + length first + length pairs ≤ length (start .args .buffer .now)
+  room = omega (arith, ap length listed, length-append first pairs)
 
 threshold-at-requires : tie.Need-threshold-at-requires
 threshold-at-requires c κs = search needs
@@ -28,65 +64,17 @@ cast-write-line : tie.Need-cast-write-line
 cast-write-line c = search needs
 
 cast-write-line-2 : tie.Need-cast-write-line-2
-cast-write-line-2 c =
-    let at-build-tables = c .before .before .before .before .before .before .before .before in
-    omega (
-      arith,
-      (count-few _ _
-          (neighboursOf _ _) _ _
-          _ _ _
-          _ _ _
-          _ (at-build-tables .build-tables .ensures)),
-    )
+cast-write-line-2 c = omega (arith, count-few (tables (c .before .before .before .before .before .before .before .before)))
 
 write-line-requires : tie.Need-write-line-requires
-write-line-requires c κs =
-    let start = c .before .before .before .before .before .before .before .before .before .before .before .before .before .before .before .before .before .before .before .before in
-    let at-threshold-at = c .before .before .before .before .before .before .before .before .before .before .before .before .before in
-    let at-build-tables = c .before .before .before .before .before .before .before .before in
-    (omega (
-      arith,
-      ap length (listing-by-tables _ _
-          (neighboursOf _ _) _ _
-          _ _ _
-          _ _ _
-          _ (at-build-tables .build-tables .ensures) (at-threshold-at .threshold-at .ensures)
-          (start .pre .0 .2) (start .pre .0 .3) (start .pre .0 .4)),
-      length-append
-          (lineOf 82 (start .args .n) (at-build-tables .build-tables .result))
-          (pairLines (start .args .n) (at-build-tables .build-tables .last .1 .1 .1 .1 .0)
-          (at-build-tables .build-tables .last .1 .1 .1 .1 .1 .0) (at-build-tables .build-tables .last .1 .1 .1 .1 .1 .1 .0)),
-    ))
+write-line-requires c κs = omega (arith, room (c .before .before .before .before .before .before .before .before))
 
 write-pairs-requires : tie.Need-write-pairs-requires
 write-pairs-requires c κs =
-    let start = c .before .before .before .before .before .before .before .before .before .before .before .before .before .before .before .before .before .before .before .before .before .before .before .before .before .before .before in
-    let at-threshold-at = c .before .before .before .before .before .before .before .before .before .before .before .before .before .before .before .before .before .before .before .before in
-    let at-build-tables = c .before .before .before .before .before .before .before .before .before .before .before .before .before .before .before in
-    let at-write-line = c .before .before .before .before .before .before in (
-      (
-        omega arith,
-        omega arith,
-        omega arith,
-        omega arith,
-      ),
-      wrote-room
-          (pairLines _ _
-          _ _)
-          (omega (
-            arith,
-            ap length (listing-by-tables _ _
-                (neighboursOf _ _) _ _
-                _ _ _
-                _ _ _
-                _ (at-build-tables .build-tables .ensures) (at-threshold-at .threshold-at .ensures)
-                (start .pre .0 .2) (start .pre .0 .3) (start .pre .0 .4)),
-            length-append
-                (lineOf 82 (start .args .n) (at-build-tables .build-tables .result))
-                (pairLines (start .args .n) (at-build-tables .build-tables .last .1 .1 .1 .1 .0)
-                (at-build-tables .build-tables .last .1 .1 .1 .1 .1 .0) (at-build-tables .build-tables .last .1 .1 .1 .1 .1 .1 .0)),
-          )) (at-write-line .write-line .ensures),
-    )
+    let line = c .before .before .before .before .before .before in
+    let build = line .before .before .before .before .before .before .before .before .before in
+    let pre = start build .pre .0 in
+    (omega arith, wrote-room (pairs build) (room build) (line .write-line .ensures))
 
 same-length : tie.Need-same-length
 same-length c = search needs
@@ -102,32 +90,10 @@ same-length-4 c = search needs
 
 returns : tie.Need-returns
 returns c =
-    let start = c .before .before .before .before .before .before .before .before .before .before .before .before .before .before .before .before .before .before .before .before .before .before .before .before .before .before .before .before .before .before in
-    let at-threshold-at = c .before .before .before .before .before .before .before .before .before .before .before .before .before .before .before .before .before .before .before .before .before .before .before in
-    let at-build-tables = c .before .before .before .before .before .before .before .before .before .before .before .before .before .before .before .before .before .before in
-    let at-write-line = c .before .before .before .before .before .before .before .before .before in
-    let at-write-pairs = c .before .before in
-    subst (λ (t : List ℕ). Wrote (start .args .buffer .now) (at-write-pairs .write-pairs .last .1 .1 .1 .1 .0) 0
-    (at-write-pairs .write-pairs .result) t)
-    (listing-by-tables _ _
-    (neighboursOf _ _) _ _
-    _ _ _
-    _ _ _
-    _ (at-build-tables .build-tables .ensures) (at-threshold-at .threshold-at .ensures)
-    (start .pre .0 .2) (start .pre .0 .3) (start .pre .0 .4))
-    (wrote-then (omega (
-      arith,
-      ap length (listing-by-tables _ _
-          (neighboursOf _ _) _ _
-          _ _ _
-          _ _ _
-          _ (at-build-tables .build-tables .ensures) (at-threshold-at .threshold-at .ensures)
-          (start .pre .0 .2) (start .pre .0 .3) (start .pre .0 .4)),
-      length-append
-          (lineOf 82 (start .args .n) (at-build-tables .build-tables .result))
-          (pairLines (start .args .n) (at-build-tables .build-tables .last .1 .1 .1 .1 .0)
-          (at-build-tables .build-tables .last .1 .1 .1 .1 .1 .0) (at-build-tables .build-tables .last .1 .1 .1 .1 .1 .1 .0)),
-    )) (at-write-line .write-line .ensures) (at-write-pairs .write-pairs .ensures))
+    let lines = c .before .before in
+    let line = lines .before .before .before .before .before .before .before in
+    let build = line .before .before .before .before .before .before .before .before .before in
+    rw (listed build) at (wrote-then {u = pairs build} (room build) (line .write-line .ensures) (lines .write-pairs .ensures))
 
 pub write-tables-spec : {M : Type 1} → statement M
 write-tables-spec =
