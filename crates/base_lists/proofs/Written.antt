@@ -86,37 +86,38 @@ wrote-part l at e part h k = record { ends = omega arith; text = put-written l a
 
 -- ---- a text that is written piece by piece: what is written, and what is left, are the whole
 pub record Left (buf buf′ : List ℕ) (at pos : ℕ) (whole left : List ℕ) : Type 0 where
+  pub room : at + length whole ≤ length buf
   pub done : List ℕ
   pub wrote : Wrote buf buf′ at pos done
   pub all : done ++ left ≡ whole
 
-module _ (buf : List ℕ) (at : ℕ) (whole : List ℕ) where
-  pub left-all : Left buf buf at at whole whole
-  left-all = record { done = []; wrote = wrote-none buf at; all = refl }
+pub left-all : {buf : List ℕ} {at : ℕ} {whole : List ℕ} → at + length whole ≤ length buf → Left buf buf at at whole whole
+left-all {buf} {at} room = record { room = room; done = []; wrote = wrote-none buf at; all = refl }
 
-  module _ (room : at + length whole ≤ length buf) (buf′ : List ℕ) (pos : ℕ) where
-    module _ (left : List ℕ) (l : Left buf buf′ at pos whole left) where
-      left-part : at + length (l .done) + length left ≤ length buf
-      left-part = omega (arith, ap length (sym (l .all)) ∙ length-append (l .done) left)
+module _ {buf buf′ : List ℕ} {at pos : ℕ} {whole : List ℕ} where
+  module _ {left : List ℕ} (l : Left buf buf′ at pos whole left) where
+    left-part : at + length (l .done) + length left ≤ length buf
+    left-part = omega (arith, ap length (sym (l .all)) ∙ length-append (l .done) left, l .room)
 
-      pub left-length : length buf′ ≡ length buf
-      left-length = wrote-length (omega (arith, left-part)) (l .wrote)
+    pub left-length : length buf′ ≡ length buf
+    left-length = wrote-length (omega (arith, left-part)) (l .wrote)
 
-      pub left-room : pos + length left ≤ length buf′
-      left-room = wrote-room left left-part (l .wrote)
+    pub left-room : pos + length left ≤ length buf′
+    left-room = wrote-room left left-part (l .wrote)
 
-    -- there is room for a piece
-    pub left-fits : (t left : List ℕ) → Left buf buf′ at pos whole (t ++ left) → pos + length t ≤ length buf′
-    left-fits t left l = omega (arith, left-room (t ++ left) l, length-append t left)
+  -- there is room for a piece
+  pub left-fits : (t left : List ℕ) → Left buf buf′ at pos whole (t ++ left) → pos + length t ≤ length buf′
+  left-fits t left l = omega (arith, left-room l, length-append t left)
 
-    -- a piece
-    pub left-more : (t left : List ℕ) → Left buf buf′ at pos whole (t ++ left) → (buf″ : List ℕ) (pos′ : ℕ) → Wrote buf′ buf″ pos pos′ t
-        → Left buf buf″ at pos′ whole left
-    left-more t left l buf″ pos′ w = record {
-      done = l .done ++ t;
-      wrote = wrote-then (omega (arith, left-part (t ++ left) l, length-append t left)) (l .wrote) w;
-      all = append-assoc (l .done) t left ∙ l .all;
-    }
+  -- a piece
+  pub left-more : {t left buf″ : List ℕ} {pos′ : ℕ} → Left buf buf′ at pos whole (t ++ left) → Wrote buf′ buf″ pos pos′ t
+      → Left buf buf″ at pos′ whole left
+  left-more {t} {left} l w = record {
+    room = l .room;
+    done = l .done ++ t;
+    wrote = wrote-then (omega (arith, left-part l, length-append t left)) (l .wrote) w;
+    all = append-assoc (l .done) t left ∙ l .all;
+  }
 
-    pub left-none : Left buf buf′ at pos whole [] → Wrote buf buf′ at pos whole
-    left-none l = rw (sym (append-nil (l .done)) ∙ l .all) at (l .wrote)
+  pub left-none : Left buf buf′ at pos whole [] → Wrote buf buf′ at pos whole
+  left-none l = rw (sym (append-nil (l .done)) ∙ l .all) at (l .wrote)

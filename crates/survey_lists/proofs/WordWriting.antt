@@ -13,20 +13,19 @@ use Rattle.base_nodeset.proofs.Members.{bits-none, Lowest, lowest}
 
 -- some bits of the word are written, and the others are left
 pub record Some (base word : ℕ) (x₀ x : List ℕ) (at pos left : ℕ) : Type 0 where
-  pub room : at + length (membersFrom 64 base word) ≤ length x₀
   pub parts : Left x₀ x at pos (membersFrom 64 base word) (membersFrom 64 base left)
   pub small : left < 2 ^ 64
 
 pub some-none : {base word : ℕ} {x₀ : List ℕ} {at : ℕ} → at + length (membersFrom 64 base word) ≤ length x₀ → word < 2 ^ 64
     → Some base word x₀ x₀ at at word
-some-none room h = record { room = room; parts = left-all _ _ _; small = h }
+some-none room h = record { parts = left-all room; small = h }
 
 module _ {base word : ℕ} {x₀ x : List ℕ} {at pos left : ℕ} (s : Some base word x₀ x at pos left) where
   pub some-all : left ≡ 0 → Wrote x₀ x at pos (membersFrom 64 base word)
-  some-all e = left-none _ _ _ (s .room) _ _ (rw (e, bits-none) at (s .parts))
+  some-all e = left-none (rw (e, bits-none) at (s .parts))
 
   pub some-long : length x ≡ length x₀
-  some-long = left-length _ _ _ (s .room) _ _ _ (s .parts)
+  some-long = left-length (s .parts)
 
   -- the lowest bit that is left, and then the others
   module _ (p : left ≡ 0 → ⊥) where
@@ -43,12 +42,10 @@ module _ {base word : ℕ} {x₀ x : List ℕ} {at pos left : ℕ} (s : Some bas
     lowest-first = rw (low .first) at (s .parts)
 
     pub some-here : pos + 1 ≤ length x
-    some-here = left-fits _ _ _ (s .room) _ _ (node ∷ []) (membersFrom 64 base rest) lowest-first
+    some-here = left-fits (node ∷ []) (membersFrom 64 base rest) lowest-first
 
     pub some-more : Some base word x₀ (set x pos node) at (pos + 1) rest
     some-more = record {
-      room = s .room;
-      parts =
-          left-more _ _ _ (s .room) _ _ (node ∷ []) (membersFrom 64 base rest) lowest-first _ _ (wrote-one x pos node some-here);
+      parts = left-more {t = node ∷ []} lowest-first (wrote-one x pos node some-here);
       small = omega (arith, s .small);
     }

@@ -107,7 +107,7 @@ choosing-none {n} {s} {G} {list} {us} size entries long e =
       long = long;
       turns = length U;
       enough = omega (arith, ap length high);
-      written = rw high (left-all list 0 (hubs n s G));
+      written = rw high (left-all (omega (arith, hubs-length n G s)));
     }
 
 module _ {n s : ℕ} {G : Graph} {list₀ list us : List ℕ} {count : ℕ} (c : Choosing n s G list₀ list us count) where
@@ -117,9 +117,6 @@ module _ {n s : ℕ} {G : Graph} {list₀ list us : List ℕ} {count : ℕ} (c :
   abbrev W : List ℕ
   W = uncovered n us
 
-  fits : 0 + length hs ≤ length list₀
-  fits = omega (arith, hubs-length n G s, c .entries)
-
   -- those written and those left are at most n
   counted : count + length (greedy n G (c .turns) W) ≤ n
   counted =
@@ -127,7 +124,7 @@ module _ {n s : ℕ} {G : Graph} {list₀ list us : List ℕ} {count : ℕ} (c :
       omega (arith, w .wrote .ends, simp length-append at (ap length (w .all)), hubs-length n G s)
 
   choosing-long : length list ≡ length list₀
-  choosing-long = left-length list₀ 0 hs fits list count (greedy n G (c .turns) W) (c .written)
+  choosing-long = left-length (c .written)
 
   -- the rest of the first n entries can be lent
   pub choosing-part : (count ≤ n) × (n ≤ length list)
@@ -166,8 +163,8 @@ module _ {n s : ℕ} {G : Graph} {list₀ list us : List ℕ} {count : ℕ} (c :
           long = l ∙ c .long;
           turns = c .turns - 1;
           enough = omega (arith, ap length k, less, c .enough);
-          written = left-more list₀ 0 hs fits list count (hub ∷ []) rest (subst (Left list₀ list 0 count hs) others (c .written))
-              (set list count hub) (count + 1) (wrote-one list count hub (omega (arith, choosing-room .1)));
+          written = left-more {t = hub ∷ []} (subst (Left list₀ list 0 count hs) others (c .written))
+              (wrote-one list count hub (omega (arith, choosing-room .1)));
         }
 
     pub choosing-more : {hub : ℕ} {us′ : List ℕ} → hub ≡ best n G (uncovered n us) → length us′ ≡ length us
@@ -182,7 +179,7 @@ module _ {n s : ℕ} {G : Graph} {list₀ list us : List ℕ} {count : ℕ} (c :
     whole =
         let no-more : greedy n G (c .turns) W ≡ [] =
         ap (greedy n G (c .turns)) (none-left n us (c .long) (c .size) e h) ∙ greedy-none n G (c .turns) in
-        left-none list₀ 0 hs fits list count (subst (Left list₀ list 0 count hs) no-more (c .written))
+        left-none (subst (Left list₀ list 0 count hs) no-more (c .written))
 
     pub choosing-all : {t : List ℕ} → t ≡ replicate (length (midOf count (n - count) list)) none
         → (count ≡ length (hubs n s G)) × (putMid count (n - count) list t ≡ over (hubList n s G) list₀)

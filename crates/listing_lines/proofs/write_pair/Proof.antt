@@ -1,13 +1,11 @@
 -- `listing_lines::write_pair` meets its contract: the letter, four fields and the line feed, one behind the other.
 -- Assumes nothing.
 use mathlib.Core.List.{List, [], _∷_, _++_}
-use Prim.Native.Nat.{ℕ, _+_, _≤_}
+use Prim.Native.Nat.{ℕ, _+_}
 use borrow.Author.Needs.{needs}
-use lib.ListN.{length}
 use Rattle.model.specs.Answers.{answered}
 use Rattle.model.specs.Numbers.{digits}
 use Rattle.model.specs.Listing.{reportText, routeText, pairLine}
-use Rattle.base_lists.specs.Written.{Wrote}
 use Rattle.base_lists.proofs.Written.{Left, left-all, left-fits, left-more, left-none}
 use Rattle.listing_lines.proofs.write_pair.Statement.{statement}
 use Rattle.listing_lines.proofs.write_pair.Tie as tie
@@ -19,14 +17,6 @@ module _ (start : tie.Start) where
   -- a buffer holds the line up to a place, and this text is left of it
   abbrev LeftOf : List ℕ → ℕ → List ℕ → Type 0
   LeftOf buf i left = Left (start .args .buffer .now) buf (start .args .at) i line left
-
-  -- there is room for the next piece
-  fits : {buf : List ℕ} {i : ℕ} (t left : List ℕ) → LeftOf buf i (t ++ left) → i + length t ≤ length buf
-  fits t left l = left-fits _ _ _ (start .pre) _ _ t left l
-
-  -- and once it is written, what follows it is left
-  more : {buf buf′ : List ℕ} {i i′ : ℕ} {t left : List ℕ} → Wrote buf buf′ i i′ t → LeftOf buf i (t ++ left) → LeftOf buf′ i′ left
-  more w l = left-more _ _ _ (start .pre) _ _ _ _ l _ _ w
 
   -- the four fields, and the line from each of them on
   abbrev a-field : List ℕ
@@ -72,19 +62,19 @@ start₅ c = start₄ (c .before .before .before .before)
 -- what is left of the line behind each piece
 left₁ : (c : tie.After-write-byte) → LeftOf (start₁ c) (c .write-byte .last .0) (c .write-byte .result) (from-a (start₁ c))
 unfolding pairLine
-left₁ c = more (start₁ c) (c .write-byte .ensures) (left-all _ _ _)
+left₁ c = left-more (left-all (start₁ c .pre)) (c .write-byte .ensures)
 
 left₂ : (c : tie.After-write-field) → LeftOf (start₂ c) (c .write-field .last .0) (c .write-field .result) (from-b (start₂ c))
-left₂ c = more (start₂ c) (c .write-field .ensures) (left₁ (c .before .before .before .before))
+left₂ c = left-more (left₁ (c .before .before .before .before)) (c .write-field .ensures)
 
 left₃ : (c : tie.After-write-field2) → LeftOf (start₃ c) (c .write-field2 .last .0) (c .write-field2 .result) (from-report (start₃ c))
-left₃ c = more (start₃ c) (c .write-field2 .ensures) (left₂ (c .before .before .before .before))
+left₃ c = left-more (left₂ (c .before .before .before .before)) (c .write-field2 .ensures)
 
 left₄ : (c : tie.After-write-report) → LeftOf (start₄ c) (c .write-report .last .0) (c .write-report .result) (from-route (start₄ c))
-left₄ c = more (start₄ c) (c .write-report .ensures) (left₃ (c .before .before .before .before))
+left₄ c = left-more (left₃ (c .before .before .before .before)) (c .write-report .ensures)
 
 left₅ : (c : tie.After-write-route) → LeftOf (start₅ c) (c .write-route .last .0) (c .write-route .result) (10 ∷ [])
-left₅ c = more (start₅ c) (c .write-route .ensures) (left₄ (c .before .before .before .before))
+left₅ c = left-more (left₄ (c .before .before .before .before)) (c .write-route .ensures)
 
 write-byte-requires : tie.Need-write-byte-requires
 unfolding pairLine
@@ -93,27 +83,27 @@ write-byte-requires c κs = search needs
 write-field-requires : tie.Need-write-field-requires
 write-field-requires c κs =
     let letter = c .before .before .before in
-    fits (start₁ letter) (a-field (start₁ letter)) _ (left₁ letter)
+    left-fits (a-field (start₁ letter)) _ (left₁ letter)
 
 write-field-requires-2 : tie.Need-write-field-requires-2
 write-field-requires-2 c κs =
     let first = c .before .before .before in
-    fits (start₂ first) (b-field (start₂ first)) _ (left₂ first)
+    left-fits (b-field (start₂ first)) _ (left₂ first)
 
 write-report-requires : tie.Need-write-report-requires
 write-report-requires c κs =
     let second = c .before .before .before in
-    fits (start₃ second) (report-field (start₃ second)) _ (left₃ second)
+    left-fits (report-field (start₃ second)) _ (left₃ second)
 
 write-route-requires : tie.Need-write-route-requires
 write-route-requires c κs =
     let report = c .before .before .before in
-    fits (start₄ report) (route-field (start₄ report)) _ (left₄ report)
+    left-fits (route-field (start₄ report)) _ (left₄ report)
 
 write-byte-requires-2 : tie.Need-write-byte-requires-2
 write-byte-requires-2 c κs =
     let route = c .before .before .before in
-    fits (start₅ route) (10 ∷ []) [] (left₅ route)
+    left-fits (10 ∷ []) [] (left₅ route)
 
 same-length : tie.Need-same-length
 same-length c = search needs
@@ -122,7 +112,7 @@ returns : tie.Need-returns
 returns c =
     let line-feed = c .before .before in
     let route = line-feed .before .before .before .before in
-    left-none _ _ _ (start₅ route .pre) _ _ (more (start₅ route) (line-feed .write-byte2 .ensures) (left₅ route))
+    left-none (left-more (left₅ route) (line-feed .write-byte2 .ensures))
 
 pub write-pair-spec : {M : Type 1} → statement M
 write-pair-spec =

@@ -39,12 +39,12 @@ left : (c : tie.In-loop Inv-loop μ-loop) → (
 left c = subst (Left _ _ _ _ _) (gather-next _ _ _ (c .loop-test .taken)) (c .before .loop .inv .1)
 
 loop-holds : tie.Need-loop-holds Inv-loop μ-loop
-loop-holds c = (omega arith, subst (Left _ _ _ _ _) (pairs-rows _ _ _ _) (left-all _ _ _))
+loop-holds c = (omega arith, subst (Left _ _ _ _ _) (pairs-rows _ _ _ _) (left-all (c .before .before .before .before .pre .1)))
 
 write-row-requires : tie.Need-write-row-requires Inv-loop μ-loop
 write-row-requires c κs =
     let start = c .before .before .before .before .before .before .before in
-    (search needs, left-fits _ _ _ (start .pre .1) _ _ (row start _) _ (left (c .before)))
+    (search needs, left-fits (row start _) _ (left (c .before)))
 
 add-a : tie.Need-add-a Inv-loop μ-loop
 add-a c = search needs
@@ -56,19 +56,13 @@ loop-again : tie.Need-loop-again Inv-loop μ-loop
 loop-again c =
     let call = c .before .before in
     let turn = call .before .before in
-    let start = turn .before .before .before .before .before .before in
-    (omega arith, left-more _ _ _ (start .pre .1) _ _ (row start _) _ (left turn) _ _ (call .write-row .ensures))
+    (omega arith, left-more (left turn) (call .write-row .ensures))
 
 same-length : tie.Need-same-length Inv-loop μ-loop
-same-length c =
-    let start = c .before .before .before .before .before .before in
-    left-length _ _ _ (start .pre .1) _ _ _ (c .before .loop .inv .1)
+same-length c = left-length (c .before .loop .inv .1)
 
 returns : tie.Need-returns Inv-loop μ-loop
-returns c =
-    let start = c .before .before .before .before .before .before in
-    left-none _ _ _ (start .pre .1) _ _
-    (subst (Left _ _ _ _ _) (gather-end _ _ _ (c .loop-test .left)) (c .before .loop .inv .1))
+returns c = left-none (subst (Left _ _ _ _ _) (gather-end _ _ _ (c .loop-test .left)) (c .before .loop .inv .1))
 
 pub write-pairs-spec : {M : Type 1} → statement M
 write-pairs-spec =

@@ -39,12 +39,12 @@ add-b : tie.Need-add-b Inv-loop μ-loop
 add-b c = search needs
 
 loop-holds : tie.Need-loop-holds Inv-loop μ-loop
-loop-holds c = (omega arith, left-all _ _ _)
+loop-holds c = (omega arith, left-all (c .before .before .before .before .pre .1))
 
 write-answer-requires : tie.Need-write-answer-requires Inv-loop μ-loop
 write-answer-requires c κs =
     let start = c .before .before .before .before .before .before .before in
-    (search needs, left-fits _ _ _ (start .pre .1) _ _ (answer start _) _ (left (c .before)))
+    (search needs, left-fits (answer start _) _ (left (c .before)))
 
 add-b-2 : tie.Need-add-b-2 Inv-loop μ-loop
 add-b-2 c = search needs
@@ -56,20 +56,14 @@ loop-again : tie.Need-loop-again Inv-loop μ-loop
 loop-again c =
     let call = c .before .before in
     let turn = call .before .before in
-    let start = turn .before .before .before .before .before .before in
-    (omega arith, left-more _ _ _ (start .pre .1) _ _ (answer start _) _ (left turn) _ _ (call .write-answer .ensures))
+    (omega arith, left-more (left turn) (call .write-answer .ensures))
 
 same-length : tie.Need-same-length Inv-loop μ-loop
-same-length c =
-    let start = c .before .before .before .before .before .before in
-    left-length _ _ _ (start .pre .1) _ _ _ (c .before .loop .inv .1)
+same-length c = left-length (c .before .loop .inv .1)
 
 returns : tie.Need-returns Inv-loop μ-loop
 unfolding rowText
-returns c =
-    let start = c .before .before .before .before .before .before in
-    left-none _ _ _ (start .pre .1) _ _
-    (subst (Left _ _ _ _ _) (gather-end _ _ _ (c .loop-test .left)) (c .before .loop .inv .1))
+returns c = left-none (subst (Left _ _ _ _ _) (gather-end _ _ _ (c .loop-test .left)) (c .before .loop .inv .1))
 
 pub write-row-spec : {M : Type 1} → statement M
 write-row-spec =

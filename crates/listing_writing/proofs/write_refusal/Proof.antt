@@ -35,11 +35,11 @@ module _ (c : tie.After-refusal-number) where
   left₁ : (let letter = c .before .before .before .before .write-byte in
       LeftOf (letter .last .0) (letter .result) (field ++ (10 ∷ [])))
   unfolding listingText
-  left₁ = left-more _ _ _ room _ _ (88 ∷ []) _ (left-all _ _ _) _ _ (c .before .before .before .before .write-byte .ensures)
+  left₁ = left-more (left-all room) (c .before .before .before .before .write-byte .ensures)
 
 -- behind the number the line feed alone
 left₂ : (c : tie.After-write-field) → LeftOf (c .before) (c .write-field .last .0) (c .write-field .result) (10 ∷ [])
-left₂ c = left-more _ _ _ (room (c .before)) _ _ (field (c .before)) _ (left₁ (c .before)) _ _ (c .write-field .ensures)
+left₂ c = left-more (left₁ (c .before)) (c .write-field .ensures)
 
 write-byte-requires : tie.Need-write-byte-requires
 write-byte-requires c κs = search needs
@@ -48,12 +48,12 @@ refusal-number-requires : tie.Need-refusal-number-requires
 refusal-number-requires c κs = search needs
 
 write-field-requires : tie.Need-write-field-requires
-write-field-requires c κs = left-fits _ _ _ (room c) _ _ (field c) _ (left₁ c)
+write-field-requires c κs = left-fits (field c) _ (left₁ c)
 
 write-byte-requires-2 : tie.Need-write-byte-requires-2
 write-byte-requires-2 c κs =
     let number = c .before .before .before in
-    left-fits _ _ _ (room (number .before)) _ _ (10 ∷ []) [] (left₂ number)
+    left-fits (10 ∷ []) [] (left₂ number)
 
 same-length : tie.Need-same-length
 same-length c = search needs
@@ -62,8 +62,8 @@ returns : tie.Need-returns
 returns c =
     let line-feed = c .before .before in
     let number = line-feed .before .before .before .before in
-    let whole = left-more _ _ _ (room (number .before)) _ _ (10 ∷ []) [] (left₂ number) _ _ (line-feed .write-byte2 .ensures) in
-    rw (number .before .refusal-number .ensures) at (left-none _ _ _ (room (number .before)) _ _ whole)
+    let whole = left-none (left-more (left₂ number) (line-feed .write-byte2 .ensures)) in
+    rw (number .before .refusal-number .ensures) at whole
 
 pub write-refusal-spec : {M : Type 1} → statement M
 write-refusal-spec =

@@ -36,7 +36,7 @@ module _ (c : tie.In-loop Inv-loop μ-loop) where
   next = rw (line-next _ _ _ (c .loop-test .taken)) at (c .before .loop .inv .1)
 
 loop-holds : tie.Need-loop-holds Inv-loop μ-loop
-loop-holds c = (omega arith, left-all _ _ _)
+loop-holds c = (omega arith, left-all (c .before .before .pre .1))
 
 mul-write-link : tie.Need-mul-write-link Inv-loop μ-loop
 mul-write-link c = omega arith
@@ -48,7 +48,7 @@ write-link-requires : tie.Need-write-link-requires Inv-loop μ-loop
 write-link-requires c κs =
     let turn = c .before .before in
     let pre = turn .before .before .before .before .pre in
-    (pre .0, left-fits _ _ _ (pre .1) _ _ (line turn) (rest turn) (next turn))
+    (pre .0, left-fits (line turn) (rest turn) (next turn))
 
 add-i : tie.Need-add-i Inv-loop μ-loop
 add-i c = omega arith
@@ -59,16 +59,13 @@ loop-less c = omega arith
 loop-again : tie.Need-loop-again Inv-loop μ-loop
 loop-again c =
     let turn = c .before .before .before .before .before in
-    let pre = turn .before .before .before .before .pre in
-    (omega arith, left-more _ _ _ (pre .1) _ _ _ _ (next turn) _ _ (c .before .before .write-link .ensures))
+    (omega arith, left-more (next turn) (c .before .before .write-link .ensures))
 
 same-length : tie.Need-same-length Inv-loop μ-loop
-same-length c = left-length _ _ _ (c .before .before .before .before .pre .1) _ _ _ (c .before .loop .inv .1)
+same-length c = left-length (c .before .loop .inv .1)
 
 returns : tie.Need-returns Inv-loop μ-loop
-returns c =
-    let start = c .before .before .before .before in
-    left-none _ _ _ (start .pre .1) _ _ (rw (line-end _ _ _ (c .loop-test .left)) at (c .before .loop .inv .1))
+returns c = left-none (rw (line-end _ _ _ (c .loop-test .left)) at (c .before .loop .inv .1))
 
 pub write-row-spec : {M : Type 1} → statement M
 write-row-spec =

@@ -69,7 +69,7 @@ write-line-requires : tie.Need-write-line-requires Inv-loop μ-loop
 write-line-requires c κs = omega (arith, all-room (c .before .before .before .before .before))
 
 loop-holds : tie.Need-loop-holds Inv-loop μ-loop
-loop-holds c = (omega arith, left-all _ _ _)
+loop-holds c = (omega arith, left-all (room (c .before .before)))
 
 own-requires : tie.Need-own-requires Inv-loop μ-loop
 own-requires c κs = search needs
@@ -77,7 +77,7 @@ own-requires c κs = search needs
 write-row-requires : tie.Need-write-row-requires Inv-loop μ-loop
 write-row-requires c κs =
     let turn = c .before .before in
-    (omega arith, rw (c .before .own .ensures) (left-fits _ _ _ (room (first turn)) _ _ (lines turn) (rest turn) (next turn)))
+    (omega arith, rw (c .before .own .ensures) (left-fits (lines turn) (rest turn) (next turn)))
 
 add-v : tie.Need-add-v Inv-loop μ-loop
 add-v c = search needs
@@ -90,19 +90,19 @@ loop-again c =
     let write-row = c .before .before .write-row in
     let own = c .before .before .before .before .own in
     let turn = c .before .before .before .before .before in
-    (omega arith, left-more _ _ _ (room (first turn)) _ _ _ _ (next turn) _ _ (rw (own .ensures) at (write-row .ensures)))
+    (omega arith, left-more (next turn) (rw (own .ensures) at (write-row .ensures)))
 
 same-length : tie.Need-same-length Inv-loop μ-loop
 same-length c =
     let first = c .before .before .before .before in
-    left-length _ _ _ (room first) _ _ _ (c .before .loop .inv .1)
+    left-length (c .before .loop .inv .1)
     ∙ wrote-length (omega (arith, all-room (start first))) (first .write-line .ensures)
 
 returns : tie.Need-returns Inv-loop μ-loop
 returns c =
     let first = c .before .before .before .before in
     let args = start first .args in
-    let behind = left-none _ _ _ (room first) _ _ (rw (rows-end _ _ _ (c .loop-test .left)) at (c .before .loop .inv .1)) in
+    let behind = left-none (rw (rows-end _ _ _ (c .loop-test .left)) at (c .before .loop .inv .1)) in
     let all = wrote-then (all-room (start first)) (first .write-line .ensures) behind in
     wrote-over _ (rw (← text-is (args .n) (args .starts .now) (args .neighbours .now)) at all) .0
 

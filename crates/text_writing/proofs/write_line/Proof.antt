@@ -32,18 +32,18 @@ start₃ c = start₂ (c .before .before .before .before)
 left₁ : (c : tie.After-write-byte) → (let args = start₁ c .args in
     LeftOf (start₁ c) (c .write-byte .last .0) (c .write-byte .result) (field (args .a) ++ (field (args .b) ++ (10 ∷ []))))
 unfolding lineOf
-left₁ c = left-more _ _ _ (start₁ c .pre) _ _ (_ ∷ []) _ (left-all _ _ _) _ _ (c .write-byte .ensures)
+left₁ c = left-more (left-all (start₁ c .pre)) (c .write-byte .ensures)
 
 -- behind the first field the second and the line feed
 left₂ : (c : tie.After-write-field)
     → LeftOf (start₂ c) (c .write-field .last .0) (c .write-field .result) (field (start₂ c .args .b) ++ (10 ∷ []))
 left₂ c =
-    left-more _ _ _ (start₂ c .pre) _ _ (field _) _ (left₁ (c .before .before .before .before)) _ _ (c .write-field .ensures)
+    left-more (left₁ (c .before .before .before .before)) (c .write-field .ensures)
 
 -- behind the second the line feed alone
 left₃ : (c : tie.After-write-field2) → LeftOf (start₃ c) (c .write-field2 .last .0) (c .write-field2 .result) (10 ∷ [])
 left₃ c =
-    left-more _ _ _ (start₃ c .pre) _ _ (field _) _ (left₂ (c .before .before .before .before)) _ _ (c .write-field2 .ensures)
+    left-more (left₂ (c .before .before .before .before)) (c .write-field2 .ensures)
 
 write-byte-requires : tie.Need-write-byte-requires
 unfolding lineOf
@@ -52,17 +52,17 @@ write-byte-requires c κs = search needs
 write-field-requires : tie.Need-write-field-requires
 write-field-requires c κs =
     let letter = c .before .before .before in
-    left-fits _ _ _ (start₁ letter .pre) _ _ (field _) _ (left₁ letter)
+    left-fits (field _) _ (left₁ letter)
 
 write-field-requires-2 : tie.Need-write-field-requires-2
 write-field-requires-2 c κs =
     let first = c .before .before .before in
-    left-fits _ _ _ (start₂ first .pre) _ _ (field _) _ (left₂ first)
+    left-fits (field _) _ (left₂ first)
 
 write-byte-requires-2 : tie.Need-write-byte-requires-2
 write-byte-requires-2 c κs =
     let second = c .before .before .before in
-    left-fits _ _ _ (start₃ second .pre) _ _ (10 ∷ []) [] (left₃ second)
+    left-fits (10 ∷ []) [] (left₃ second)
 
 same-length : tie.Need-same-length
 same-length c = search needs
@@ -71,8 +71,7 @@ returns : tie.Need-returns
 returns c =
     let line-feed = c .before .before in
     let second = line-feed .before .before .before .before in
-    let room = start₃ second .pre in
-    left-none _ _ _ room _ _ (left-more _ _ _ room _ _ (10 ∷ []) [] (left₃ second) _ _ (line-feed .write-byte2 .ensures))
+    left-none (left-more (left₃ second) (line-feed .write-byte2 .ensures))
 
 pub write-line-spec : {M : Type 1} → statement M
 write-line-spec =
