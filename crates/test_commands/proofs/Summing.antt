@@ -3,20 +3,34 @@
 use mathlib.Core.Path.{_≡_, refl, sym, ap, _∙_}
 use mathlib.Core.List.{List}
 use Prim.Native.Nat.{ℕ, _+_, _*_, _%_, _≤_, _<_}
+use native.Mathlib.Nat.{mod-lt}
+use native.Mathlib.Omega.{arith}
 use borrow.Author.Tests.{lt-ltb, le-ltb}
+use lib.Dec.{lit≤}
 use lib.ListN.{length, getD, drop, set, drop-of-length-le}
 use Rattle.model.proofs.Loops.{drop-next}
 use Rattle.test_commands.specs.Sums.{sumFrom, checksum, replaced}
 
--- one entry more
-pub sum-turn : (l : List ℕ) (i s : ℕ) → i < length l → sumFrom s (drop i l) ≡ checksum l → sumFrom ((s * 31 + getD l i 0) % 1000000007) (drop (i + 1) l) ≡ checksum l
-unfolding sumFrom
-sum-turn l i s h e = sym (ap (sumFrom s) (drop-next l i h)) ∙ e
+-- the sum over the first i entries: continued over the others, it is the sum over all
+pub record Summed (list : List ℕ) (sum i : ℕ) : Type 0 where
+  pub within : i ≤ length list
+  pub small : sum < 1000000007
+  pub continued : sumFrom sum (drop i list) ≡ checksum list
 
--- no entry left
-pub sum-end : (l : List ℕ) (i s : ℕ) → length l ≤ i → sumFrom s (drop i l) ≡ checksum l → s ≡ checksum l
-unfolding sumFrom
-sum-end l i s h e = sym (ap (sumFrom s) (drop-of-length-le l h)) ∙ e
+module _ {list : List ℕ} {sum i : ℕ} (summed : Summed list sum i) where
+  -- one entry more
+  pub summed-more : i < length list → Summed list ((sum * 31 + getD list i 0) % 1000000007) (i + 1)
+  unfolding sumFrom
+  summed-more h = record {
+    within = omega arith;
+    small = mod-lt _ (lit≤ tt);
+    continued = sym (ap (sumFrom sum) (drop-next list i h)) ∙ summed .continued;
+  }
+
+  -- no entry left
+  pub summed-all : length list ≤ i → sum ≡ checksum list
+  unfolding sumFrom
+  summed-all h = sym (ap (sumFrom sum) (drop-of-length-le list h)) ∙ summed .continued
 
 -- there is such an entry; there is none
 pub replaced-there : (l : List ℕ) (i x : ℕ) → i < length l → set l i x ≡ replaced l i x

@@ -51,7 +51,7 @@ pub fn at_most(x: u64, limit: usize) -> usize
     limit
 }
 
-// Sums that tell where in the list an entry stands.
+// Sums that depend on every entry and on its place.
 pub fn sum8(list: &[u8]) -> u64
     ensures { λ r. ⌜ r ≡ checksum (now (list .entry)) ⌝ }
 {
@@ -88,7 +88,7 @@ pub fn sum32(list: &[u32]) -> u64
     sum
 }
 
-// Prints a letter and numbers, parted by commas.
+// Prints a letter and numbers, separated by commas.
 pub fn print_line(letter: u8, numbers: &[u64]) {
     io::write_all(1, &[letter]);
     let mut i = 0;
@@ -100,7 +100,7 @@ pub fn print_line(letter: u8, numbers: &[u64]) {
     io::write_all(1, b"\n");
 }
 
-// Prints a letter and the first k entries of a list, or all where there are fewer, parted by commas.
+// Prints a letter and the first k entries of a list, or all where there are fewer, separated by commas.
 pub fn print_entries(letter: u8, list: &[u16], k: u64) {
     let end = at_most(k, list.len());
     io::write_all(1, &[letter]);
@@ -133,7 +133,7 @@ pub fn print_built(answer: Counting, full: &[u16], low: &[u16], report: &[u16], 
     }
 }
 
-// What asking or walking answers: report, route and hub; and the sum of the list that it leaves.
+// Prints the answer of asking or walking: report, route and hub. Its last number is a sum of the list that the call may write to.
 pub fn print_answer(letter: u8, answer: Asking, sum: u64) {
     match answer {
         Asking::Refused(k) => print_line(letter, &[refusal_number(k) as u64, 0, 0, 0, sum]),

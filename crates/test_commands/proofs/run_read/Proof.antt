@@ -1,7 +1,6 @@
--- `test_commands::run_read` ends: the parts that it lends are no longer than their lists.
+-- `test_commands::run_read` ends: each part that it lends is no longer than its list.
 -- Assumes nothing.
-use mathlib.Core.Path.{sym}
-use lib.Seq.{length-take-le}
+use lib.ListN.{length-take}
 use native.Mathlib.Omega.{arith}
 use borrow.Author.Needs.{needs}
 use Rattle.test_commands.proofs.run_read.Statement.{statement}
@@ -41,15 +40,13 @@ slice-relend-prefix-read-survey : tie.Need-slice-relend-prefix-read-survey
 slice-relend-prefix-read-survey c = search needs
 
 slice-aggregate-read-survey : tie.Need-slice-aggregate-read-survey
-slice-aggregate-read-survey c =
-    sym (length-take-le _ _ (omega arith))
+slice-aggregate-read-survey c = simp length-take (omega arith)
 
 slice-relend-prefix-read-survey-2 : tie.Need-slice-relend-prefix-read-survey-2
 slice-relend-prefix-read-survey-2 c = search needs
 
 slice-aggregate-read-survey-2 : tie.Need-slice-aggregate-read-survey-2
-slice-aggregate-read-survey-2 c =
-    sym (length-take-le _ _ (omega arith))
+slice-aggregate-read-survey-2 c = simp length-take (omega arith)
 
 read-survey-requires : tie.Need-read-survey-requires
 read-survey-requires c κs = search needs

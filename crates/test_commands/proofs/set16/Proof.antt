@@ -1,9 +1,8 @@
 -- `test_commands::set16` meets its contract: by whether there is such an entry.
 -- Assumes nothing.
-use native.Mathlib.Omega.{arith}
 use mathlib.Core.Path.{refl}
-use Rattle.test_commands.proofs.Summing.{replaced-there, replaced-past}
 use borrow.Author.Needs.{needs}
+use Rattle.test_commands.proofs.Summing.{replaced-there, replaced-past}
 use Rattle.test_commands.proofs.set16.Statement.{statement}
 use Rattle.test_commands.proofs.set16.Tie as tie
 
