@@ -1,8 +1,7 @@
--- `test_calls::run_ask` ends: the parts that it lends are no longer than their lists.
+-- `test_calls::run_ask` ends: each part that it lends is no longer than its list.
 -- Assumes nothing.
-use mathlib.Core.Path.{sym}
 use native.Mathlib.Omega.{arith}
-use lib.Seq.{length-take-le}
+use lib.ListN.{length-take}
 use borrow.Author.Needs.{needs}
 use Rattle.test_calls.proofs.run_ask.Statement.{statement}
 use Rattle.test_calls.proofs.run_ask.Tie as tie
@@ -29,16 +28,13 @@ element-copy-out-ask : tie.Need-element-copy-out-ask
 element-copy-out-ask c = search needs
 
 slice-aggregate-ask : tie.Need-slice-aggregate-ask
-slice-aggregate-ask c =
-    sym (length-take-le _ _ (omega arith))
+slice-aggregate-ask c = simp length-take (omega arith)
 
 slice-aggregate-ask-2 : tie.Need-slice-aggregate-ask-2
-slice-aggregate-ask-2 c =
-    sym (length-take-le _ _ (omega arith))
+slice-aggregate-ask-2 c = simp length-take (omega arith)
 
 slice-aggregate-ask-3 : tie.Need-slice-aggregate-ask-3
-slice-aggregate-ask-3 c =
-    sym (length-take-le _ _ (omega arith))
+slice-aggregate-ask-3 c = simp length-take (omega arith)
 
 ask-requires : tie.Need-ask-requires
 ask-requires c κs = search needs

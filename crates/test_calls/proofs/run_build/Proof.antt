@@ -1,8 +1,7 @@
--- `test_calls::run_build` ends: the parts that it lends are no longer than their lists.
+-- `test_calls::run_build` ends: each part that it lends is no longer than its list.
 -- Assumes nothing.
-use mathlib.Core.Path.{sym}
 use native.Mathlib.Omega.{arith}
-use lib.Seq.{length-take-le}
+use lib.ListN.{length-take}
 use borrow.Author.Needs.{needs}
 use Rattle.test_calls.proofs.run_build.Statement.{statement}
 use Rattle.test_calls.proofs.run_build.Tie as tie
@@ -47,40 +46,34 @@ element-copy-out-build : tie.Need-element-copy-out-build
 element-copy-out-build c = search needs
 
 slice-aggregate-build : tie.Need-slice-aggregate-build
-slice-aggregate-build c =
-    sym (length-take-le _ _ (omega arith))
+slice-aggregate-build c = simp length-take (omega arith)
 
 slice-aggregate-build-2 : tie.Need-slice-aggregate-build-2
-slice-aggregate-build-2 c =
-    sym (length-take-le _ _ (omega arith))
+slice-aggregate-build-2 c = simp length-take (omega arith)
 
 slice-relend-prefix-build : tie.Need-slice-relend-prefix-build
 slice-relend-prefix-build c = search needs
 
 slice-aggregate-build-3 : tie.Need-slice-aggregate-build-3
-slice-aggregate-build-3 c =
-    sym (length-take-le _ _ (omega arith))
+slice-aggregate-build-3 c = simp length-take (omega arith)
 
 slice-relend-prefix-build-2 : tie.Need-slice-relend-prefix-build-2
 slice-relend-prefix-build-2 c = search needs
 
 slice-aggregate-build-4 : tie.Need-slice-aggregate-build-4
-slice-aggregate-build-4 c =
-    sym (length-take-le _ _ (omega arith))
+slice-aggregate-build-4 c = simp length-take (omega arith)
 
 slice-relend-prefix-build-3 : tie.Need-slice-relend-prefix-build-3
 slice-relend-prefix-build-3 c = search needs
 
 slice-aggregate-build-5 : tie.Need-slice-aggregate-build-5
-slice-aggregate-build-5 c =
-    sym (length-take-le _ _ (omega arith))
+slice-aggregate-build-5 c = simp length-take (omega arith)
 
 slice-relend-prefix-build-4 : tie.Need-slice-relend-prefix-build-4
 slice-relend-prefix-build-4 c = search needs
 
 slice-aggregate-build-6 : tie.Need-slice-aggregate-build-6
-slice-aggregate-build-6 c =
-    sym (length-take-le _ _ (omega arith))
+slice-aggregate-build-6 c = simp length-take (omega arith)
 
 build-requires : tie.Need-build-requires
 build-requires c κs = search needs

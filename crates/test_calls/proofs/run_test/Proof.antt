@@ -1,8 +1,7 @@
--- `test_calls::run_test` ends: the parts that it lends are no longer than their lists.
+-- `test_calls::run_test` ends: each part that it lends is no longer than its list.
 -- Assumes nothing.
-use mathlib.Core.Path.{sym}
 use native.Mathlib.Omega.{arith}
-use lib.Seq.{length-take-le}
+use lib.ListN.{length-take}
 use borrow.Author.Needs.{needs}
 use Rattle.test_calls.proofs.run_test.Statement.{statement}
 use Rattle.test_calls.proofs.run_test.Tie as tie
@@ -23,12 +22,10 @@ element-copy-out-test : tie.Need-element-copy-out-test
 element-copy-out-test c = search needs
 
 slice-aggregate-test : tie.Need-slice-aggregate-test
-slice-aggregate-test c =
-    sym (length-take-le _ _ (omega arith))
+slice-aggregate-test c = simp length-take (omega arith)
 
 slice-aggregate-test-2 : tie.Need-slice-aggregate-test-2
-slice-aggregate-test-2 c =
-    sym (length-take-le _ _ (omega arith))
+slice-aggregate-test-2 c = simp length-take (omega arith)
 
 test-requires : tie.Need-test-requires
 test-requires c κs = search needs

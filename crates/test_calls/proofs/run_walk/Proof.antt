@@ -1,8 +1,7 @@
--- `test_calls::run_walk` ends: the parts that it lends are no longer than their lists.
+-- `test_calls::run_walk` ends: each part that it lends is no longer than its list.
 -- Assumes nothing.
-use mathlib.Core.Path.{sym}
 use native.Mathlib.Omega.{arith}
-use lib.Seq.{length-take-le}
+use lib.ListN.{length-take}
 use borrow.Author.Needs.{needs}
 use Rattle.test_calls.proofs.run_walk.Statement.{statement}
 use Rattle.test_calls.proofs.run_walk.Tie as tie
@@ -47,31 +46,25 @@ element-copy-out-write-walk : tie.Need-element-copy-out-write-walk
 element-copy-out-write-walk c = search needs
 
 slice-aggregate-write-walk : tie.Need-slice-aggregate-write-walk
-slice-aggregate-write-walk c =
-    sym (length-take-le _ _ (omega arith))
+slice-aggregate-write-walk c = simp length-take (omega arith)
 
 slice-aggregate-write-walk-2 : tie.Need-slice-aggregate-write-walk-2
-slice-aggregate-write-walk-2 c =
-    sym (length-take-le _ _ (omega arith))
+slice-aggregate-write-walk-2 c = simp length-take (omega arith)
 
 slice-aggregate-write-walk-3 : tie.Need-slice-aggregate-write-walk-3
-slice-aggregate-write-walk-3 c =
-    sym (length-take-le _ _ (omega arith))
+slice-aggregate-write-walk-3 c = simp length-take (omega arith)
 
 slice-aggregate-write-walk-4 : tie.Need-slice-aggregate-write-walk-4
-slice-aggregate-write-walk-4 c =
-    sym (length-take-le _ _ (omega arith))
+slice-aggregate-write-walk-4 c = simp length-take (omega arith)
 
 slice-aggregate-write-walk-5 : tie.Need-slice-aggregate-write-walk-5
-slice-aggregate-write-walk-5 c =
-    sym (length-take-le _ _ (omega arith))
+slice-aggregate-write-walk-5 c = simp length-take (omega arith)
 
 slice-relend-prefix-write-walk : tie.Need-slice-relend-prefix-write-walk
 slice-relend-prefix-write-walk c = search needs
 
 slice-aggregate-write-walk-6 : tie.Need-slice-aggregate-write-walk-6
-slice-aggregate-write-walk-6 c =
-    sym (length-take-le _ _ (omega arith))
+slice-aggregate-write-walk-6 c = simp length-take (omega arith)
 
 write-walk-requires : tie.Need-write-walk-requires
 write-walk-requires c κs = search needs
