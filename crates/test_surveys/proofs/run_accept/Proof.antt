@@ -1,8 +1,7 @@
 -- `test_surveys::run_accept` ends.
 -- Assumes nothing.
-use mathlib.Core.Path.{sym}
 use native.Mathlib.Omega.{arith}
-use lib.Seq.{length-take-le}
+use lib.ListN.{length-take}
 use borrow.Author.Needs.{needs}
 use Rattle.test_surveys.proofs.run_accept.Statement.{statement}
 use Rattle.test_surveys.proofs.run_accept.Tie as tie
@@ -17,12 +16,10 @@ at-most-requires-2 : tie.Need-at-most-requires-2
 at-most-requires-2 c κs = search needs
 
 slice-aggregate-accept : tie.Need-slice-aggregate-accept
-slice-aggregate-accept c =
-    sym (length-take-le _ _ (omega arith))
+slice-aggregate-accept c = simp length-take (omega arith)
 
 slice-aggregate-accept-2 : tie.Need-slice-aggregate-accept-2
-slice-aggregate-accept-2 c =
-    sym (length-take-le _ _ (omega arith))
+slice-aggregate-accept-2 c = simp length-take (omega arith)
 
 accept-requires : tie.Need-accept-requires
 accept-requires c κs = search needs

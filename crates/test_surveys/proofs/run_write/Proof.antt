@@ -1,8 +1,7 @@
 -- `test_surveys::run_write` ends.
 -- Assumes nothing.
-use mathlib.Core.Path.{sym}
 use native.Mathlib.Omega.{arith}
-use lib.Seq.{length-take-le}
+use lib.ListN.{length-take}
 use borrow.Author.Needs.{needs}
 use Rattle.test_surveys.proofs.run_write.Statement.{statement}
 use Rattle.test_surveys.proofs.run_write.Tie as tie
@@ -20,19 +19,16 @@ at-most-requires-3 : tie.Need-at-most-requires-3
 at-most-requires-3 c κs = search needs
 
 slice-aggregate-write-survey : tie.Need-slice-aggregate-write-survey
-slice-aggregate-write-survey c =
-    sym (length-take-le _ _ (omega arith))
+slice-aggregate-write-survey c = simp length-take (omega arith)
 
 slice-aggregate-write-survey-2 : tie.Need-slice-aggregate-write-survey-2
-slice-aggregate-write-survey-2 c =
-    sym (length-take-le _ _ (omega arith))
+slice-aggregate-write-survey-2 c = simp length-take (omega arith)
 
 slice-relend-prefix-write-survey : tie.Need-slice-relend-prefix-write-survey
 slice-relend-prefix-write-survey c = search needs
 
 slice-aggregate-write-survey-3 : tie.Need-slice-aggregate-write-survey-3
-slice-aggregate-write-survey-3 c =
-    sym (length-take-le _ _ (omega arith))
+slice-aggregate-write-survey-3 c = simp length-take (omega arith)
 
 write-survey-requires : tie.Need-write-survey-requires
 write-survey-requires c κs = search needs
