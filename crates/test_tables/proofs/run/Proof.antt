@@ -1,16 +1,16 @@
--- `test_tables::run` ends: each turn leaves fewer.
+-- `test_tables::run` ends: each turn leaves one fewer.
 -- Assumes nothing.
 use borrow.Author.Needs.{needs}
 use Rattle.test_tables.proofs.run.Statement.{statement}
 use Rattle.test_tables.proofs.run.Tie as tie
 
 abbrev Inv-loop : tie.InvT-loop
-Inv-loop script numbers₀ starts₀ neighbours₀ full₀ low₀ report₀ hubs₀ walk₀ at₀ turns₀ numbers starts neighbours full low report hubs walk at turns =
-    Unit {0}
+Inv-loop script numbers₀ starts₀ neighbours₀ full₀ low₀ report₀ hubs₀ walk₀ at₀ turns₀
+    numbers starts neighbours full low report hubs walk at turns = Unit {0}
 
 abbrev μ-loop : tie.MeasureT-loop
-μ-loop script numbers₀ starts₀ neighbours₀ full₀ low₀ report₀ hubs₀ walk₀ at₀ turns₀ numbers starts neighbours full low report hubs walk at turns =
-    turns
+μ-loop script numbers₀ starts₀ neighbours₀ full₀ low₀ report₀ hubs₀ walk₀ at₀ turns₀
+    numbers starts neighbours full low report hubs walk at turns = turns
 
 loop-holds : tie.Need-loop-holds Inv-loop μ-loop
 loop-holds c = search needs
