@@ -1,4 +1,4 @@
--- The test for an accepted survey and its facts say the same, and what they give for the graph.
+-- An accepted survey as a test and as facts, each from the other; and what the facts say of its graph.
 -- Assumes nothing.
 use mathlib.Core.Path.{_≡_, refl, sym, ap, _∙_, subst}
 use mathlib.Core.Logic.{_⊎_, inl, inr}
@@ -40,7 +40,8 @@ module _ (n : ℕ) (starts neighbours : List ℕ) where
       let t3 : T (A && B && C) = and-l (A && B && C) D t4 in
       let t2 : T (A && B) = and-l (A && B) C t3 in
       let own-facts : (v x : ℕ) → v < n → T (has x (G v)) → T (own v x) =
-      λ v x h m. of-all (λ x. own v x) (G v) (of-all (λ v. all (λ x. own v x) (G v)) (upTo n) (and-r (A && B && C && D && E && F) H t) v (has-upTo n v h)) x m in
+      λ v x h m. of-all (λ x. own v x) (G v)
+      (of-all (λ v. all (λ x. own v x) (G v)) (upTo n) (and-r (A && B && C && D && E && F) H t) v (has-upTo n v h)) x m in
       record {
         first = eqb→eq (getD starts 0 0) 0 (and-l A B t2);
         rising = λ v h. leb→le (getD starts v 0) (getD starts (v + 1) 0)
@@ -49,9 +50,11 @@ module _ (n : ℕ) (starts neighbours : List ℕ) where
         few-links = leb→le (last / 2) 16384 (and-r (A && B && C) D t4);
         within = leb→le last (length neighbours) (and-r (A && B && C && D) E t5);
         sorted = λ v h. of-all (λ v. ascending (G v)) (upTo n) (and-r (A && B && C && D && E) F t6) v (has-upTo n v h);
-        loopless = λ v x h m e. T-not (eqb x v) (and-r (ltb x n) (not (eqb x v)) (and-l (ltb x n && not (eqb x v)) (has v (G x)) (own-facts v x h m))) (eq-T x v e);
+        loopless = λ v x h m e. T-not (eqb x v)
+            (and-r (ltb x n) (not (eqb x v)) (and-l (ltb x n && not (eqb x v)) (has v (G x)) (own-facts v x h m))) (eq-T x v e);
         graph = record {
-          below = λ v x h m. ltb→lt x n (and-l (ltb x n) (not (eqb x v)) (and-l (ltb x n && not (eqb x v)) (has v (G x)) (own-facts v x h m)));
+          below =
+              λ v x h m. ltb→lt x n (and-l (ltb x n) (not (eqb x v)) (and-l (ltb x n && not (eqb x v)) (has v (G x)) (own-facts v x h m)));
           symmetric = λ v x h m. and-r (ltb x n && not (eqb x v)) (has v (G x)) (own-facts v x h m);
         };
       }
@@ -89,7 +92,7 @@ module _ (n : ℕ) (starts neighbours : List ℕ) where
 
 -- ---- the same for acceptance
 
--- from 1 to a limit: not outside
+-- n is not outside exactly where it is from 1 to the limit
 pub in-range : (most n : ℕ) → 1 ≤ n → n ≤ most → outside most n ≡ false
 in-range most n p q = or-false (ltb n 1) (ltb most n) (le-ltb n 1 p) (le-ltb most n q)
 
@@ -113,8 +116,9 @@ unfolding badSize
 size-bounds = of-in-range 1024
 
 module _ (n : ℕ) (starts neighbours : List ℕ) where
-  -- the three tests passed
-  pub tests-facts : badSize n ≡ false → ltb (length starts) (n + 1) ≡ false → not (isSurvey n starts neighbours) ≡ false → Accepted n starts neighbours
+  -- the facts, where the three tests are passed
+  pub tests-facts : badSize n ≡ false → ltb (length starts) (n + 1) ≡ false → not (isSurvey n starts neighbours) ≡ false
+      → Accepted n starts neighbours
   tests-facts size room lists = let b = size-bounds n size in record {
     some-node = b .0;
     size = b .1;
@@ -188,9 +192,10 @@ module _ (n : ℕ) (G : Graph) where
   linked-ends a b h t = linked-is a b t .second
 
   pub linked-sym : (a b : ℕ) → T (linked n G a b) → T (linked n G b a)
-  linked-sym a b t = let l = linked-is a b t in is-linked b a (record { first = l .second; second = l .first; there = l .back; back = l .there })
+  linked-sym a b t =
+      let l = linked-is a b t in is-linked b a (record { first = l .second; second = l .first; there = l .back; back = l .there })
 
-  -- where neighbours lie below n and stand at each other, a neighbour is linked
+  -- in a graph, each neighbour is linked
   pub linked-of : IsGraph n G → (a b : ℕ) → a < n → T (has b (G a)) → T (linked n G a b)
   linked-of g a b h m = is-linked a b (record { first = h; second = g .below a b h m; there = m; back = g .symmetric a b h m })
 
@@ -202,7 +207,8 @@ module _ (n : ℕ) (starts neighbours : List ℕ) (acc : Accepted n starts neigh
   no-loop a t = let l = linked-is n (neighboursOf starts neighbours) a a t in acc .lists .loopless a a (l .first) (l .there) refl
 
   -- the neighbour count is the number of linked nodes
-  pub degree : (v : ℕ) → v < n → length (keep (linked n (neighboursOf starts neighbours) v) (upTo n)) ≡ length (neighboursOf starts neighbours v)
+  pub degree : (v : ℕ) → v < n
+      → length (keep (linked n (neighboursOf starts neighbours) v) (upTo n)) ≡ length (neighboursOf starts neighbours v)
   degree v h =
       let G : Graph = neighboursOf starts neighbours in
       ap length (

@@ -1,4 +1,4 @@
--- The report table of a survey: none exactly where no chain joins the pair, and else at most two above the fewest links.
+-- The report table of a survey: none exactly where no chain joins the pair, else from the fewest links to two more.
 -- Assumes nothing. Holds for every threshold s.
 use mathlib.Core.Path.{_≡_, refl, sym, ap, _∙_, subst}
 use mathlib.Core.Logic.{_⊎_, inl, inr}
@@ -84,7 +84,8 @@ split E high {a = a} {b = c} (link {k = k} {b = b} t r) = go (passes (high a)) (
     go : T (high a) ⊎ (T (high a) → ⊥) → Split E high k b c → Split E high (suc k) a c
     go (inl h) rest = through a 0 (suc k) h here (link t r) (zero-add (suc k))
     go (inr f) (lows p q l) =
-        lows (not-T (high a) f) q (link (and-i (not (high a) && not (high b)) (E a b) (and-i (not (high a)) (not (high b)) (not-T (high a) f) p) t) l)
+        lows (not-T (high a) f) q
+        (link (and-i (not (high a) && not (high b)) (E a b) (and-i (not (high a)) (not (high b)) (not-T (high a) f) p) t) l)
     go (inr f) (through w i j h p q e) = through w (suc i) j h (link t p) q (suc-add i j ∙ ap suc e)
 
 -- ---- the survey's tables
@@ -100,8 +101,9 @@ module _ (n s : ℕ) (G : Graph) (g : IsGraph n G) where
   report-entry a b ha hb =
       entry-table n (reportEntry n (fullTable n s G) (lowTable n s G) (hubs n s G)) a b ha hb
 
-  -- a chain of as many links as a route through a hub has
-  via-chain : (a b h : ℕ) → a < n → b < n → h < n → (via n (fullTable n s G) a b h ≡ none → ⊥) → Chain (linked n G) (via n (fullTable n s G) a b h) a b
+  -- a route through a hub, if there is one, is a chain of as many links
+  via-chain : (a b h : ℕ) → a < n → b < n → h < n → (via n (fullTable n s G) a b h ≡ none → ⊥)
+      → Chain (linked n G) (via n (fullTable n s G) a b h) a b
   unfolding via
   via-chain a b h ha hb hh f = go (sum-is x y) f
     where
@@ -112,11 +114,13 @@ module _ (n s : ℕ) (G : Graph) (g : IsGraph n G) where
       y = entryAt n (fullTable n s G) h b
 
       go : {z : ℕ} → Sum x y z → (f : z ≡ none → ⊥) → Chain (linked n G) z a b
-      go (whole p q e) f = subst (λ (k : ℕ). Chain (linked n G) k a b) (sym e) (append (turn (linked-sym n G) (full-is n s G g h a hh ha p .1 .0)) (full-is n s G g h b hh hb q .1 .0))
+      go (whole p q e) f = subst (λ (k : ℕ). Chain (linked n G) k a b) (sym e)
+          (append (turn (linked-sym n G) (full-is n s G g h a hh ha p .1 .0)) (full-is n s G g h b hh hb q .1 .0))
       go (part e p) f = absurd (f e)
 
   -- a report that is not none is the number of links of some chain
-  pub report-chain : (a b : ℕ) → a < n → b < n → (entryAt n (reportTable n s G) a b ≡ none → ⊥) → Chain (linked n G) (entryAt n (reportTable n s G) a b) a b
+  pub report-chain : (a b : ℕ) → a < n → b < n → (entryAt n (reportTable n s G) a b ≡ none → ⊥)
+      → Chain (linked n G) (entryAt n (reportTable n s G) a b) a b
   unfolding routes
   report-chain a b ha hb = go (eqb a b) refl (report-entry a b ha hb)
     where
@@ -129,13 +133,19 @@ module _ (n s : ℕ) (G : Graph) (g : IsGraph n G) where
       some-route : (routes a b ≡ none → ⊥) → Chain (linked n G) (routes a b) a b
       some-route f = at (least-cases (via n full a b) low (hubs n s G))
         where
-          at : (routes a b ≡ low) ⊎ ((h : ℕ) × T (has h (hubs n s G)) × (routes a b ≡ via n full a b h)) → Chain (linked n G) (routes a b) a b
-          at (inl e) = subst (λ (k : ℕ). Chain (linked n G) k a b) (sym e) (widen (low-widen n s G g) (low-is n s G g a b ha hb (λ q. f (e ∙ q)) .2 .0))
-          at (inr r) = subst (λ (k : ℕ). Chain (linked n G) k a b) (sym (r .2)) (via-chain a b (r .0) ha hb (hubs-below n G s (r .0) (r .1)) (λ q. f (r .2 ∙ q)))
+          at : (routes a b ≡ low) ⊎ ((h : ℕ) × T (has h (hubs n s G)) × (routes a b ≡ via n full a b h))
+              → Chain (linked n G) (routes a b) a b
+          at (inl e) =
+              subst (λ (k : ℕ). Chain (linked n G) k a b) (sym e)
+              (widen (low-widen n s G g) (low-is n s G g a b ha hb (λ q. f (e ∙ q)) .2 .0))
+          at (inr r) = subst (λ (k : ℕ). Chain (linked n G) k a b) (sym (r .2))
+              (via-chain a b (r .0) ha hb (hubs-below n G s (r .0) (r .1)) (λ q. f (r .2 ∙ q)))
 
       go : (t : Bool) → eqb a b ≡ t → entryAt n (reportTable n s G) a b ≡ (if t then 0 else routes a b)
           → (entryAt n (reportTable n s G) a b ≡ none → ⊥) → Chain (linked n G) (entryAt n (reportTable n s G) a b) a b
-      go true q e f = subst (λ (k : ℕ). Chain (linked n G) k a b) (sym e) (subst (λ (z : ℕ). Chain (linked n G) 0 a z) (eqb→eq a b (subst T (sym q) tt)) here)
+      go true q e f =
+          subst (λ (k : ℕ). Chain (linked n G) k a b) (sym e)
+          (subst (λ (z : ℕ). Chain (linked n G) 0 a z) (eqb→eq a b (subst T (sym q) tt)) here)
       go false q e f = subst (λ (k : ℕ). Chain (linked n G) k a b) (sym e) (some-route (λ z. f (e ∙ z)))
 
   -- where a chain of k links joins the pair, the report is at most k + 2
@@ -152,7 +162,7 @@ module _ (n s : ℕ) (G : Graph) (g : IsGraph n G) where
       hs : List ℕ
       hs = hubs n s G
 
-      -- a hub with no link or one to the high node w
+      -- a hub that is the high node w or is linked to it
       spoke : (w : ℕ) → w < n → T (isHigh s G w) → (h : ℕ) × (h < n) × T (has h (hubs n s G)) × (e : ℕ) × (e ≤ 1) × Chain (linked n G) e h w
       spoke w hw t = at (high-linked n s G g w hw t)
         where
@@ -172,7 +182,9 @@ module _ (n s : ℕ) (G : Graph) (g : IsGraph n G) where
           let cb = append (r .5) q in
           let fa = full-joined n s G g h a (r .3 + i) (r .1) ha (r .2) ca in
           let fb = full-joined n s G g h b (r .3 + j) (r .1) hb (r .2) cb in
-          le-trans (least-at (via n full a b) low hs h (r .2)) (bound (sum-is (entryAt n full h a) (entryAt n full h b)) (r .3) (r .4) e (fa .1 .1 (r .3 + i) ca, fa .0) (fb .1 .1 (r .3 + j) cb, fb .0))
+          le-trans (least-at (via n full a b) low hs h (r .2))
+          (bound (sum-is (entryAt n full h a) (entryAt n full h b)) (r .3) (r .4) e (fa .1 .1 (r .3 + i) ca, fa .0)
+          (fb .1 .1 (r .3 + j) cb, fb .0))
         where
           bound : {x y z : ℕ} → Sum x y z → (d : ℕ) → d ≤ 1 → i + j ≡ k → (x ≤ d + i) × (x < n) → (y ≤ d + j) × (y < n) → z ≤ k + 2
           bound (whole p q e) d l f xs ys = omega arith
@@ -184,7 +196,8 @@ module _ (n s : ℕ) (G : Graph) (g : IsGraph n G) where
       go false e = subst (λ (x : ℕ). x ≤ k + 2) (sym e) (near (split (linked n G) (isHigh s G) c))
 
 -- none exactly where no chain joins the pair; else at least the fewest links, and at most two more
-pub allowed : (n s : ℕ) (G : Graph) → IsGraph n G → n ≤ 1024 → (a b : ℕ) → a < n → b < n → Allowed (linked n G) a b (entryAt n (reportTable n s G) a b)
+pub allowed : (n s : ℕ) (G : Graph) → IsGraph n G → n ≤ 1024 → (a b : ℕ) → a < n → b < n
+    → Allowed (linked n G) a b (entryAt n (reportTable n s G) a b)
 allowed n s G g size a b ha hb = record {
   no-route = (λ e k c. far k c e, λ f. at (passes (eqb r none)) f);
   near = λ d m. (m .1 r (report-chain n s G g a b ha hb (λ e. far d (m .0) e)), report-near n s G g a b d size ha hb (m .0));

@@ -1,4 +1,4 @@
--- Ascending lists: a list of numbers below n that ascends is what membership in it keeps of the numbers below n.
+-- Laws of ascending lists. An ascending list of numbers below n is what the test of membership in it keeps of all numbers below n.
 -- Assumes nothing.
 use mathlib.Core.Path.{_≡_, refl, sym, ap, _∙_, subst}
 use mathlib.Core.Logic.{_⊎_, inl, inr}
@@ -19,7 +19,7 @@ unfolding ascending
 ascending-tail x [] t = tt
 ascending-tail x (y ∷ ys) t = and-r (ltb x y) (ascending (y ∷ ys)) t
 
--- the first is less than all others
+-- the first entry is less than all others
 pub ascending-above : (x : ℕ) (xs : List ℕ) → T (ascending (x ∷ xs)) → (y : ℕ) → T (has y xs) → x < y
 unfolding ascending has
 ascending-above x [] t y h = absurd h
@@ -42,20 +42,24 @@ unfolding from keep ascending
 keep-from-ascending p k zero = tt
 keep-from-ascending p k (suc m) = go (p k) (keep-from-ascending p (suc k) m)
   where
-    go : (b : Bool) → T (ascending (keep p (from (suc k) m))) → T (ascending (if b then k ∷ keep p (from (suc k) m) else keep p (from (suc k) m)))
-    go true t = ascending-cons k (keep p (from (suc k) m)) (λ y h. let i = of-from (suc k) m y (of-keep p (from (suc k) m) y h .0) in i .0) t
+    go : (b : Bool) → T (ascending (keep p (from (suc k) m)))
+        → T (ascending (if b then k ∷ keep p (from (suc k) m) else keep p (from (suc k) m)))
+    go true t =
+        ascending-cons k (keep p (from (suc k) m)) (λ y h. let i = of-from (suc k) m y (of-keep p (from (suc k) m) y h .0) in i .0) t
     go false t = t
 
 pub keep-ascending : (p : ℕ → Bool) (n : ℕ) → T (ascending (keep p (upTo n)))
 unfolding upTo
 keep-ascending p n = keep-from-ascending p 0 n
 
-member-keep : (l : List ℕ) (k m : ℕ) → T (ascending l) → ((x : ℕ) → T (has x l) → (k ≤ x) × (x < k + m)) → keep (λ x. has x l) (from k m) ≡ l
+member-keep : (l : List ℕ) (k m : ℕ) → T (ascending l) → ((x : ℕ) → T (has x l) → (k ≤ x) × (x < k + m))
+    → keep (λ x. has x l) (from k m) ≡ l
 unfolding from has keep
 member-keep [] k zero t f = refl
 member-keep (y ∷ ys) k zero t f = let b = f y (has-head y ys) in absurd (omega arith)
 member-keep [] k (suc m) t f = keep-none (λ x. false) (from (suc k) m) (λ x h b. b)
-member-keep (y ∷ ys) k (suc m) t f = go (eq-or k y) (λ g. member-keep ys (suc k) m (ascending-tail y ys t) g) (λ g. member-keep (y ∷ ys) (suc k) m t g)
+member-keep (y ∷ ys) k (suc m) t f =
+    go (eq-or k y) (λ g. member-keep ys (suc k) m (ascending-tail y ys t) g) (λ g. member-keep (y ∷ ys) (suc k) m t g)
   where
     up : (x : ℕ) → T (has x ys) → y < x
     up = ascending-above y ys t
@@ -114,7 +118,7 @@ getD-has [] i h = absurd (omega arith)
 getD-has (x ∷ l) zero h = has-head x l
 getD-has (x ∷ l) (suc i) h = has-tail (getD l i 0) x l (getD-has l i (le-of-suc-le-suc h))
 
--- a member of an ascending list stands behind as many entries as are smaller
+-- before a member of an ascending list stand as many entries as are smaller
 pub standing : (l : List ℕ) (v : ℕ) → T (ascending l) → T (has v l)
     → (length (keep (λ u. ltb u v) l) < length l) × (getD l (length (keep (λ u. ltb u v) l)) 0 ≡ v)
 unfolding keep
@@ -126,13 +130,15 @@ standing (x ∷ l) v t h = go (of-cons v x l h) (λ r. standing l v (ascending-t
         → (length (if ltb x v then x ∷ keep (λ u. ltb u v) l else keep (λ u. ltb u v) l) < suc (length l))
         × (getD (x ∷ l) (length (if ltb x v then x ∷ keep (λ u. ltb u v) l else keep (λ u. ltb u v) l)) 0 ≡ v)
     go (inl e) rec =
-        let none : keep (λ u. ltb u v) l ≡ [] = keep-none (λ u. ltb u v) l (λ y m s. let a = ascending-above x l t y m in let b = ltb→lt y v s in omega arith) in
+        let none : keep (λ u. ltb u v) l ≡ [] =
+        keep-none (λ u. ltb u v) l (λ y m s. let a = ascending-above x l t y m in let b = ltb→lt y v s in omega arith) in
         let f : ltb x v ≡ false = no-false (ltb x v) (λ s. let b = ltb→lt x v s in omega arith) in
         rw (f, none) (suc-le-suc zero-le, sym e)
     go (inr r) rec = let k = rec r in rw (T-true (ltb x v) (lt→ltb x v (ascending-above x l t v r))) (suc-le-suc (k .0), k .1)
 
--- below v + 1 there is one more than below v where v is a member, and as many where it is not
-pub below-more : (l : List ℕ) (v : ℕ) → T (ascending l) → T (has v l) → length (keep (λ u. ltb u (v + 1)) l) ≡ length (keep (λ u. ltb u v) l) + 1
+-- where v is a member, one entry more is below v + 1 than below v
+pub below-more : (l : List ℕ) (v : ℕ) → T (ascending l) → T (has v l)
+    → length (keep (λ u. ltb u (v + 1)) l) ≡ length (keep (λ u. ltb u v) l) + 1
 unfolding keep
 below-more [] v t h = absurd (none-in v h)
 below-more (x ∷ l) v t h = go (of-cons v x l h) (λ r. below-more l v (ascending-tail x l t) r)
@@ -146,14 +152,20 @@ below-more (x ∷ l) v t h = go (of-cons v x l h) (λ r. below-more l v (ascendi
     go : (v ≡ x) ⊎ T (has v l) → (T (has v l) → length A ≡ length B + 1)
         → length (if ltb x (v + 1) then x ∷ A else A) ≡ length (if ltb x v then x ∷ B else B) + 1
     go (inl e) rec =
-        let a : A ≡ [] = keep-none (λ u. ltb u (v + 1)) l (λ y m s. let p = ascending-above x l t y m in let q = ltb→lt y (v + 1) s in omega arith) in
+        let a : A ≡ [] = keep-none (λ u. ltb u (v + 1)) l
+        (λ y m s. let p = ascending-above x l t y m in let q = ltb→lt y (v + 1) s in omega arith) in
         let b : B ≡ [] = keep-none (λ u. ltb u v) l (λ y m s. let p = ascending-above x l t y m in let q = ltb→lt y v s in omega arith) in
-        rw (T-true (ltb x (v + 1)) (lt→ltb x (v + 1) (omega arith)), no-false (ltb x v) (λ s. let q = ltb→lt x v s in omega arith), a, b) refl
+        rw (
+          T-true (ltb x (v + 1)) (lt→ltb x (v + 1) (omega arith)),
+          no-false (ltb x v) (λ s. let q = ltb→lt x v s in omega arith),
+          a,
+          b,
+        ) refl
     go (inr r) rec =
         let p = ascending-above x l t v r in
         rw (T-true (ltb x (v + 1)) (lt→ltb x (v + 1) (omega arith)), T-true (ltb x v) (lt→ltb x v p)) (omega (arith, rec r))
 
--- the entries before one of an ascending list are less
+-- in an ascending list, the entries before x are less than x
 pub ascending-front : (k : List ℕ) (x : ℕ) (l : List ℕ) → T (ascending (k ++ x ∷ l)) → (y : ℕ) → T (has y k) → y < x
 ascending-front [] x l t y h = absurd (none-in y h)
 ascending-front (z ∷ k) x l t y h = go (of-cons y z k h) (λ r. ascending-front k x l (ascending-tail z (k ++ x ∷ l) t) y r)

@@ -31,18 +31,20 @@ use Rattle.model.proofs.Covering.{hubs-below}
 use Rattle.model.proofs.Entries.{entry-front}
 use Rattle.model.proofs.TableLaws.{full-is, full-joined, low-is, low-joined, low-ends, both-low, low-widen, fewest-unique}
 use Rattle.model.proofs.Allowance.{routes, report-entry, least-cases}
-use Rattle.model.proofs.Walks.{Chosen, to-itself, to-none, to-low, to-hub, bad-itself, bad-hub, chosen, Sound, steps-given, join-given, attains, via-sum, fit-long, route-sound}
+use Rattle.model.proofs.Walks.{Chosen, to-itself, to-none, to-low, to-hub, bad-itself, bad-hub, chosen}
+use Rattle.model.proofs.Walks.{Sound, steps-given, join-given, attains, via-sum, fit-long, route-sound}
 
 -- nodes that fit are given out with the answer as it is
 fits : (w : ℕ) (x : Answer) (k : List ℕ) → length k ≤ w → fit w x (some k) .answer ≡ answered x
 fits w x k l = ap (λ (r : AfterWalking). r .answer) (fit-long w x k l)
 
-fits-sound : (E : Edges) (a b w : ℕ) (x : Answer) (o : Option (List ℕ)) → Sound E (x .report) a b o → IsSome o → x .report < w → fit w x o .answer ≡ answered x
+fits-sound : (E : Edges) (a b w : ℕ) (x : Answer) (o : Option (List ℕ)) → Sound E (x .report) a b o → IsSome o → x .report < w
+    → fit w x o .answer ≡ answered x
 fits-sound E a b w x missing s m l = absurd m
 fits-sound E a b w x (some k) s m l = fits w x k (subst (λ (j : ℕ). j ≤ w) (sym (s .1)) l)
 
 module _ (n s : ℕ) (G : Graph) (g : IsGraph n G) (size : n ≤ 1024) (full low report : List ℕ) (built : AreBuilt n s G full low report) where
-  -- the laws of the tables, for lists whose fronts they are
+  -- the laws of the tables, for lists that begin with them
   full-at : (h b : ℕ) → h < n → b < n → entryAt n full h b ≡ entryAt n (fullTable n s G) h b
   full-at = entry-front n full (fullTable n s G) (built .full-front)
 
@@ -52,7 +54,8 @@ module _ (n s : ℕ) (G : Graph) (g : IsGraph n G) (size : n ≤ 1024) (full low
   pub report-at : (a b : ℕ) → a < n → b < n → entryAt n report a b ≡ entryAt n (reportTable n s G) a b
   report-at = entry-front n report (reportTable n s G) (built .report-front)
 
-  full-is′ : (h b : ℕ) → h < n → b < n → (entryAt n full h b ≡ none → ⊥) → T (has h (hubs n s G)) × Fewest (linked n G) h b (entryAt n full h b)
+  full-is′ : (h b : ℕ) → h < n → b < n → (entryAt n full h b ≡ none → ⊥)
+      → T (has h (hubs n s G)) × Fewest (linked n G) h b (entryAt n full h b)
   full-is′ h b hh hb f =
       let e = full-at h b hh hb in
       let i = full-is n s G g h b hh hb (λ q. f (e ∙ q)) in
@@ -82,7 +85,7 @@ module _ (n s : ℕ) (G : Graph) (g : IsGraph n G) (size : n ≤ 1024) (full low
   unfolding via
   via-at a b h ha hb hh = ap₂ sum (full-at h a hh ha) (full-at h b hh hb)
 
-  -- a node's way on towards a hub
+  -- from a node, a next one on the way to a hub
   full-next : (h v d : ℕ) → h < n → v < n → suc d < none → entryAt n full h v ≡ suc d
       → (u : ℕ) × T (has u (G v)) × T true × (entryAt n full h u ≡ d)
   full-next h v d hh hv z e =
@@ -109,7 +112,7 @@ module _ (n s : ℕ) (G : Graph) (g : IsGraph n G) (size : n ≤ 1024) (full low
       clash : 0 ≡ none → ⊥
       clash q = omega arith
 
-  -- and towards b among the low nodes
+  -- and one on the way to b among the low nodes
   low-next : (b v d : ℕ) → b < n → v < n → suc d < none → entryAt n low v b ≡ suc d
       → (u : ℕ) × T (has u (G v)) × T (isLow s G u) × (entryAt n low u b ≡ d)
   low-next b v d hb hv z e = at (f .0) f
@@ -139,7 +142,7 @@ module _ (n s : ℕ) (G : Graph) (g : IsGraph n G) (size : n ≤ 1024) (full low
       clash q = omega arith
 
   module _ (a b : ℕ) (ha : a < n) (hb : b < n) where
-    -- a = b has report 0
+    -- the report of a node to itself is 0
     zero-report : a ≡ b → entryAt n report a b ≡ 0
     zero-report e = at (eqb a b) (eq-T a b e) (report-entry′ a b ha hb)
       where
@@ -147,8 +150,9 @@ module _ (n s : ℕ) (G : Graph) (g : IsGraph n G) (size : n ≤ 1024) (full low
         at true m q = q
         at false m q = absurd m
 
-    -- a node that attains a report which is not none is a hub
-    pub attaining-hub : (h : ℕ) → h < n → (entryAt n report a b ≡ none → ⊥) → via n full a b h ≡ entryAt n report a b → T (has h (hubs n s G))
+    -- a node that attains the report is a hub, if the report is not none
+    pub attaining-hub : (h : ℕ) → h < n → (entryAt n report a b ≡ none → ⊥) → via n full a b h ≡ entryAt n report a b
+        → T (has h (hubs n s G))
     attaining-hub h hh f e = let v = via-sum (λ x. true) n full a b h (entryAt n report a b) e f in full-is′ h a hh ha (v .0) .0
 
   -- the hubs that count: every hub that attains the report is among them
@@ -179,7 +183,8 @@ module _ (n s : ℕ) (G : Graph) (g : IsGraph n G) (size : n ≤ 1024) (full low
             hit h l t (found lo hi s least) q = omega arith
             hit h l t (nothing q miss) p = miss h zero-le (omega arith) t
 
-            cases : (routes n s G g a b ≡ entryAt n (lowTable n s G) a b) ⊎ ((h : ℕ) × T (has h (hubs n s G)) × (routes n s G g a b ≡ via n (fullTable n s G) a b h)) → ⊥
+            cases : (routes n s G g a b ≡ entryAt n (lowTable n s G) a b)
+                ⊎ ((h : ℕ) × T (has h (hubs n s G)) × (routes n s G g a b ≡ via n (fullTable n s G) a b h)) → ⊥
             cases (inl q) = y (low-at a b ha hb ∙ sym (e ∙ q))
             cases (inr c) =
                 let h = c .0 in
@@ -238,7 +243,8 @@ module _ (n s : ℕ) (G : Graph) (g : IsGraph n G) (size : n ≤ 1024) (full low
             clash q = omega arith
         at (to-none x e) = fits w (withRoute none NoRoute) [] zero-le
         at (to-low x f e) =
-            fits-sound (linked n G) a b w (withRoute r Low) (byLow n s G low a b) (route-sound n s G g full low a b ha hb isHub report (withRoute r Low) (to-low x f e) f)
+            fits-sound (linked n G) a b w (withRoute r Low) (byLow n s G low a b)
+            (route-sound n s G g full low a b ha hb isHub report (withRoute r Low) (to-low x f e) f)
             (low-given (λ q. f (sym e ∙ q))) (roomy f)
         at (to-hub x f y z) =
             let i = attains isHub n full a b r z in
@@ -265,7 +271,8 @@ module _ (n s : ℕ) (G : Graph) (g : IsGraph n G) (size : n ≤ 1024) (full low
         → (h : ℕ) → h < n → (entryAt n report a b ≡ none → ⊥) → via n full a b h ≡ entryAt n report a b → T (listed n list h)
     unfolding listed hubList
     listed-right list q h hh f e =
-        subst (λ (l : List ℕ). T (has h l)) (sym q) (has-append h (hubs n s G) (replicate (n - length (hubs n s G)) none) (attaining-hub a b ha hb h hh f e))
+        subst (λ (l : List ℕ). T (has h l)) (sym q)
+        (has-append h (hubs n s G) (replicate (n - length (hubs n s G)) none) (attaining-hub a b ha hb h hh f e))
 
     -- the hubs that count make no difference, as long as each hub that attains the report is among them
     counted-same : (p q : ℕ → Bool)
@@ -290,7 +297,8 @@ module _ (n s : ℕ) (G : Graph) (g : IsGraph n G) (size : n ≤ 1024) (full low
         at (inl e) = rw (T-true (eqb R none) (eq-T R none e)) refl
         at (inr f) = ap (λ (h : ℕ). choose a b R (entryAt n low a b) h) (one p fp f ∙ sym (one q fq f))
 
-    -- a hub list lent or not makes no difference
-    pub listed-same : (list : List ℕ) → take n list ≡ hubList n s G → pairBy (listed n list) n full low report a b ≡ pair n full low report a b
+    -- it makes no difference whether a hub list is lent
+    pub listed-same : (list : List ℕ) → take n list ≡ hubList n s G
+        → pairBy (listed n list) n full low report a b ≡ pair n full low report a b
     unfolding pair
     listed-same list e = counted-same (listed n list) (taken n full a b) (listed-right list e) taken-right

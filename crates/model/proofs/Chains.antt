@@ -13,10 +13,11 @@ use lib.ListN.{length}
 use Rattle.model.specs.Basics.{none, upTo, has, any, keep, firstOf}
 use Rattle.model.specs.Graph.{Edges, Chain, here, link, Fewest, Walked, stop, go, reach, fewest, Unjoined}
 use Rattle.model.proofs.Tests.{or-l, or-r, or-e}
-use Rattle.model.proofs.Lists.{has-head, of-single, any-of, of-any, has-keep, of-keep, has-upTo, of-upTo, First, found, nothing, first-below, keep-grows, keep-length, length-upTo, length-pos}
+use Rattle.model.proofs.Lists.{has-head, of-single, any-of, of-any, has-keep, of-keep, has-upTo, of-upTo, First}
+use Rattle.model.proofs.Lists.{found, nothing, first-below, keep-grows, keep-length, length-upTo, length-pos}
 
 module _ {E : Edges} where
-  -- a link more at the end
+  -- one link more at the end
   pub snoc : {k a b c : ℕ} → Chain E k a b → T (E b c) → Chain E (suc k) a c
   snoc here t = link t here
   snoc (link s r) t = link s (snoc r t)
@@ -49,7 +50,7 @@ module _ {E : Edges} where
   widen f here = here
   widen f (link t r) = link (f _ _ t) (widen f r)
 
-  -- a chain written out as its list of nodes has one link fewer than nodes, and each chain can be written out
+  -- a chain that is written out as its list of nodes has one link fewer than nodes; and each chain can be written out
   pub walked-chain : {l : List ℕ} {a b : ℕ} → Walked E l a b → (k : ℕ) × (length l ≡ suc k) × Chain E k a b
   walked-chain stop = (0, refl, here)
   walked-chain (go t w) = let c = walked-chain w in (suc (c .0), ap suc (c .1), link t (c .2))
@@ -59,15 +60,17 @@ module _ {E : Edges} where
   chain-walked (link {a = a} t c) = let w = chain-walked c in (a ∷ w .0, ap suc (w .1), go t (w .2))
 
 module _ (E : Edges) (n a : ℕ) where
-  -- a node is reached with k + 1 links if it is with k, or is linked to one that is
-  grown : (k v : ℕ) → T (has v (reach E n a (suc k))) → (v < n) × (T (has v (reach E n a k)) ⊎ ((u : ℕ) × T (has u (reach E n a k)) × T (E u v)))
+  -- a node that is reached with k + 1 links is reached with k, or linked from one that is
+  grown : (k v : ℕ) → T (has v (reach E n a (suc k)))
+      → (v < n) × (T (has v (reach E n a k)) ⊎ ((u : ℕ) × T (has u (reach E n a k)) × T (E u v)))
   unfolding reach
   grown k v h =
       let r = reach E n a k in
       let i = of-keep (λ v. has v r || any (λ u. E u v) r) (upTo n) v h in
       (of-upTo n v (i .0), at (or-e (has v r) (any (λ u. E u v) r) (i .1)))
     where
-      at : T (has v (reach E n a k)) ⊎ T (any (λ u. E u v) (reach E n a k)) → T (has v (reach E n a k)) ⊎ ((u : ℕ) × T (has u (reach E n a k)) × T (E u v))
+      at : T (has v (reach E n a k)) ⊎ T (any (λ u. E u v) (reach E n a k))
+          → T (has v (reach E n a k)) ⊎ ((u : ℕ) × T (has u (reach E n a k)) × T (E u v))
       at (inl s) = inl s
       at (inr s) = inr (of-any (λ u. E u v) (reach E n a k) s)
 
@@ -100,7 +103,7 @@ module _ (E : Edges) (n a : ℕ) where
     inside h here = h
     inside h (link t r) = inside (ends _ _ h t) r
 
-    -- and the other way round
+    -- and the other end of a chain of k links is reached with k
     complete : (k v : ℕ) → Chain E k a v → T (has v (reach E n a k))
     unfolding reach
     complete zero v c = subst (λ (z : ℕ). T (has z (a ∷ []))) (chain-zero c) (has-head a [])
@@ -137,8 +140,11 @@ module _ (E : Edges) (n a : ℕ) where
     -- each layer adds a node until one adds nothing
     layers : (k : ℕ) → ((j : ℕ) × (j < k) × Stable j) ⊎ (k < count k)
     unfolding count Stable
-    layers zero = inr (length-pos a (keep (λ v. has v (reach E n a 0)) (upTo n)) (has-keep (λ v. has v (reach E n a 0)) (upTo n) a (has-upTo n a start) (starts 0)))
-    layers (suc k) = at (layers k) (keep-grows (λ v. has v (reach E n a k)) (λ v. has v (reach E n a (suc k))) (upTo n) (λ v b h. stay k v (of-upTo n v b) h))
+    layers zero = inr (length-pos a (keep (λ v. has v (reach E n a 0)) (upTo n))
+        (has-keep (λ v. has v (reach E n a 0)) (upTo n) a (has-upTo n a start) (starts 0)))
+    layers (suc k) =
+        at (layers k) (keep-grows (λ v. has v (reach E n a k)) (λ v. has v (reach E n a (suc k))) (upTo n)
+        (λ v b h. stay k v (of-upTo n v b) h))
       where
         at : ((j : ℕ) × (j < k) × Stable j) ⊎ (k < count k)
             → ((v : ℕ) → T (has v (upTo n)) → T (has v (reach E n a (suc k))) → T (has v (reach E n a k))) ⊎ (count k < count (suc k))
@@ -184,7 +190,8 @@ module _ (E : Edges) (n a : ℕ) (ends : (u v : ℕ) → u < n → T (E u v) →
   pub fewest-is : (b : ℕ) → (fewest E n a b ≡ none → ⊥) → Fewest E a b (fewest E n a b)
   fewest-is b h = at (fewest-cases E n a ends start b)
     where
-      at : ((fewest E n a b < n) × Fewest E a b (fewest E n a b)) ⊎ ((fewest E n a b ≡ none) × Unjoined E a b) → Fewest E a b (fewest E n a b)
+      at : ((fewest E n a b < n) × Fewest E a b (fewest E n a b)) ⊎ ((fewest E n a b ≡ none) × Unjoined E a b)
+          → Fewest E a b (fewest E n a b)
       at (inl s) = s .1
       at (inr s) = absurd (h (s .0))
 

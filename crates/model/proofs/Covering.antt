@@ -15,7 +15,8 @@ use Rattle.model.specs.Survey.{Graph, ascending, IsGraph}
 use Rattle.model.specs.Graph.{linked}
 use Rattle.model.specs.Hubs.{isHigh, closed, gain, best, greedy, hubs}
 use Rattle.model.proofs.Tests.{passes}
-use Rattle.model.proofs.Lists.{has-head, has-tail, of-cons, all-of, of-all, has-keep, of-keep, has-upTo, of-upTo, First, found, nothing, first-below, first-is, keep-split, keep-length, length-upTo, length-pos}
+use Rattle.model.proofs.Lists.{has-head, has-tail, of-cons, all-of, of-all, has-keep, of-keep, has-upTo, of-upTo, First}
+use Rattle.model.proofs.Lists.{found, nothing, first-below, first-is, keep-split, keep-length, length-upTo, length-pos}
 use Rattle.model.proofs.Ascending.{ascending-tail, ascending-above}
 use Rattle.model.proofs.Acceptance.{linked-of, linked-sym}
 
@@ -91,7 +92,8 @@ module _ (n : ℕ) (G : Graph) where
 
   pub best-of : (U : List ℕ) (v : ℕ) → Best U v → best n G U ≡ v
   unfolding best top
-  best-of U v b = first-is (top U) none n v (b .below) (most→top U v (b .most)) (λ y h t. clash y (b .ties y h) (top→most U y t v (b .below)))
+  best-of U v b =
+      first-is (top U) none n v (b .below) (most→top U v (b .most)) (λ y h t. clash y (b .ties y h) (top→most U y t v (b .below)))
     where
       clash : (y : ℕ) → gain G U y < gain G U v → gain G U v ≤ gain G U y → ⊥
       clash y p q = omega arith
@@ -101,7 +103,8 @@ module _ (n : ℕ) (G : Graph) where
   unfolding gain closed
   best-gains u U h =
       let b = best-is (u ∷ U) (le-trans (suc-le-suc zero-le) h) in
-      le-trans (length-pos u (keep (λ x. has x (closed G u)) (u ∷ U)) (has-keep (λ x. has x (closed G u)) (u ∷ U) u (has-head u U) (has-head u (G u))))
+      le-trans (length-pos u (keep (λ x. has x (closed G u)) (u ∷ U))
+      (has-keep (λ x. has x (closed G u)) (u ∷ U) u (has-head u U) (has-head u (G u))))
       (b .most u h)
 
   pub greedy-covers : (turns : ℕ) (U : List ℕ) → length U ≤ turns → ((u : ℕ) → T (has u U) → u < n)
@@ -128,7 +131,8 @@ module _ (n : ℕ) (G : Graph) where
       at : T (has u (closed G h)) ⊎ (T (has u (closed G h)) → ⊥)
           → (T (has u rest) → (g : ℕ) × (g < n) × T (has g (greedy n G turns rest)) × T (has u (closed G g)))
           → (g : ℕ) × (g < n) × T (has g (h ∷ greedy n G turns rest)) × T (has u (closed G g))
-      at (inl c) rec = (h, best-is (x ∷ U) (le-trans (suc-le-suc zero-le) (b x (has-head x U))) .below, has-head h (greedy n G turns rest), c)
+      at (inl c) rec =
+          (h, best-is (x ∷ U) (le-trans (suc-le-suc zero-le) (b x (has-head x U))) .below, has-head h (greedy n G turns rest), c)
       at (inr c) rec =
           let r = rec (has-keep left (x ∷ U) u m (not-T (has u (closed G h)) c)) in
           (r .0, r .1, has-tail (r .0) h (greedy n G turns rest) (r .2), r .3)
@@ -143,7 +147,8 @@ module _ (n : ℕ) (G : Graph) where
   unfolding greedy has
   greedy-below zero U b h m = absurd m
   greedy-below (suc turns) [] b h m = absurd m
-  greedy-below (suc turns) (x ∷ U) b h m = at (of-cons h k (greedy n G turns rest) m) (λ r. greedy-below turns rest (λ v s. b v (of-keep left (x ∷ U) v s .0)) h r)
+  greedy-below (suc turns) (x ∷ U) b h m =
+      at (of-cons h k (greedy n G turns rest) m) (λ r. greedy-below turns rest (λ v s. b v (of-keep left (x ∷ U) v s .0)) h r)
     where
       k : ℕ
       k = best n G (x ∷ U)
@@ -185,7 +190,8 @@ pub high-linked : (n s : ℕ) (G : Graph) → IsGraph n G → (v : ℕ) → v < 
 unfolding closed
 high-linked n s G g v b t = at (hubs-cover n G s v b t)
   where
-    at : ((h : ℕ) × (h < n) × T (has h (hubs n s G)) × T (has v (closed G h))) → T (has v (hubs n s G)) ⊎ ((h : ℕ) × T (has h (hubs n s G)) × T (linked n G v h))
+    at : ((h : ℕ) × (h < n) × T (has h (hubs n s G)) × T (has v (closed G h)))
+        → T (has v (hubs n s G)) ⊎ ((h : ℕ) × T (has h (hubs n s G)) × T (linked n G v h))
     at c = side (of-cons v (c .0) (G (c .0)) (c .3))
       where
         side : (v ≡ c .0) ⊎ T (has v (G (c .0))) → T (has v (hubs n s G)) ⊎ ((h : ℕ) × T (has h (hubs n s G)) × T (linked n G v h))
@@ -222,7 +228,8 @@ module _ (n : ℕ) (G : Graph) where
   greedy-apart zero U b h f m = m
   greedy-apart (suc turns) [] b h f m = m
   greedy-apart (suc turns) (x ∷ U) b h f m =
-      at (of-cons h k (greedy n G turns rest) m) (λ r. greedy-apart turns rest (λ v s. b v (of-keep left (x ∷ U) v s .0)) h (λ u s. f u (of-keep left (x ∷ U) u s .0)) r)
+      at (of-cons h k (greedy n G turns rest) m)
+      (λ r. greedy-apart turns rest (λ v s. b v (of-keep left (x ∷ U) v s .0)) h (λ u s. f u (of-keep left (x ∷ U) u s .0)) r)
     where
       k : ℕ
       k = best n G (x ∷ U)
@@ -234,7 +241,8 @@ module _ (n : ℕ) (G : Graph) where
       rest = keep left (x ∷ U)
 
       at : (h ≡ k) ⊎ T (has h (greedy n G turns rest)) → (T (has h (greedy n G turns rest)) → ⊥) → ⊥
-      at (inl e) rec = let c = best-covers x U (b x (has-head x U)) in f (c .0) (c .1) (subst (λ (z : ℕ). T (has (c .0) (closed G z))) (sym e) (c .2))
+      at (inl e) rec =
+          let c = best-covers x U (b x (has-head x U)) in f (c .0) (c .1) (subst (λ (z : ℕ). T (has (c .0) (closed G z))) (sym e) (c .2))
       at (inr r) rec = rec r
 
   greedy-distinct : (turns : ℕ) (U : List ℕ) → ((u : ℕ) → T (has u U) → u < n) → distinct (greedy n G turns U)

@@ -1,4 +1,4 @@
--- Demand 3 for the calls themselves, refusals and all: an accepted survey, and tables built from it.
+-- Demand 3 for the calls themselves, with their refusals: for an accepted survey, and tables built from it.
 -- Assumes nothing.
 use mathlib.Core.Path.{_≡_, refl, sym, ap, _∙_, subst}
 use mathlib.Core.Logic.{_⊎_, ⊎-elim, _↔_}
@@ -96,7 +96,7 @@ given-out-sound E a b w (walked y l g m room) x e f =
       chain = subst (λ (k : ℕ). Chain E k a b) (omega (arith, i .1, c)) (i .2);
     }
 
--- whatever is lent, a walk given out is a chain of the survey's links, of exactly the reported length
+-- whatever is lent, a walk that is given out is a chain of the survey's links, of exactly the reported length
 pub walking-sound : (n : ℕ) (starts neighbours full low report : List ℕ) (a b w : ℕ)
     → WalkSound (linked n (neighboursOf starts neighbours)) a b (walking n starts neighbours full low report a b w)
 unfolding walking refuseWalk pair
@@ -134,7 +134,8 @@ asking-passed n full low report a b x =
   where
     P : Outcome Answer → Type 0
     P o = o ≡ answered x
-        → (n * n ≤ length full) × (n * n ≤ length low) × (n * n ≤ length report) × (a < n) × (b < n) × (pair n full low report a b ≡ answered x)
+        → (n * n ≤ length full) × (n * n ≤ length low) × (n * n ≤ length report) × (a < n) × (b < n)
+        × (pair n full low report a b ≡ answered x)
 
 short-fit : (w : ℕ) (x : Answer) (l : List ℕ) → (fit w x (some l) .answer ≡ refused 8) ↔ (w < length l)
 unfolding refuseWalk
@@ -165,7 +166,8 @@ module _ (n : ℕ) (starts neighbours : List ℕ) (acc : Accepted n starts neigh
   }
 
   -- building into lists that are long enough
-  pub building-answers : (full low report list : List ℕ) → n * n ≤ length full → n * n ≤ length low → n * n ≤ length report → n ≤ length list
+  pub building-answers : (full low report list : List ℕ) → n * n ≤ length full → n * n ≤ length low → n * n ≤ length report
+      → n ≤ length list
       → building n starts neighbours full low report list ≡ built n (threshold n) G full low report list
   unfolding building
   building-answers full low report list hf hl hr hh =
@@ -177,8 +179,9 @@ module _ (n : ℕ) (starts neighbours : List ℕ) (acc : Accepted n starts neigh
         is-survey,
       ) refl
 
-  -- tables that are long enough, and two nodes below n: what is left of asking and walking
-  module _ (full low report : List ℕ) (hf : n * n ≤ length full) (hl : n * n ≤ length low) (hr : n * n ≤ length report) (a b : ℕ) (ha : a < n) (hb : b < n) where
+  -- with tables that are long enough and two nodes below n, all tests of asking and walking are passed
+  module _ (full low report : List ℕ) (hf : n * n ≤ length full) (hl : n * n ≤ length low) (hr : n * n ≤ length report) (a b : ℕ)
+      (ha : a < n) (hb : b < n) where
     below : (leb n a || leb n b) ≡ false
     below = or-false (leb n a) (leb n b) (lt-leb n a ha) (lt-leb n b hb)
 
@@ -189,7 +192,8 @@ module _ (n : ℕ) (starts neighbours : List ℕ) (acc : Accepted n starts neigh
     unfolding asking
     asks = rw (good-size n (acc .some-node) (acc .size), fits, below) refl
 
-    pub walks : (w : ℕ) → walking n starts neighbours full low report a b w ≡ walkOf w n (threshold n) G full low a b (pair n full low report a b)
+    pub walks : (w : ℕ)
+        → walking n starts neighbours full low report a b w ≡ walkOf w n (threshold n) G full low a b (pair n full low report a b)
     unfolding walking
     walks w = rw (good-size n (acc .some-node) (acc .size), le-ltb (length starts) (n + 1) (acc .room), fits, is-survey, below) refl
 
@@ -213,7 +217,8 @@ module _ (n : ℕ) (starts neighbours : List ℕ) (acc : Accepted n starts neigh
       (λ q. i .0 (j .0 (sym (ap (λ (y : AfterWalking). y .answer) o) ∙ q)), λ h. ap (λ (y : AfterWalking). y .answer) o ∙ j .1 (i .1 h))
 
   -- tables built with any threshold
-  module _ (s : ℕ) (full low report : List ℕ) (own : AreBuilt n s (neighboursOf starts neighbours) full low report) (a b : ℕ) (ha : a < n) (hb : b < n) where
+  module _ (s : ℕ) (full low report : List ℕ) (own : AreBuilt n s (neighboursOf starts neighbours) full low report) (a b : ℕ)
+      (ha : a < n) (hb : b < n) where
     hf : n * n ≤ length full
     hf = full-room n s G full low report own
 
@@ -228,8 +233,13 @@ module _ (n : ℕ) (starts neighbours : List ℕ) (acc : Accepted n starts neigh
     unfolding pair
     asking-answers =
         let g = acc .lists .graph in
-        let i = pair-built n s G g (acc .size) full low report own a b ha hb (taken n full a b) (taken-right n s G g (acc .size) full low report own a b ha hb) in
-        (withRoute (entryAt n report a b) (i .0), asks full low report hf hl hr a b ha hb ∙ i .1, report-at n s G g (acc .size) full low report own a b ha hb)
+        let i =
+        pair-built n s G g (acc .size) full low report own a b ha hb (taken n full a b)
+        (taken-right n s G g (acc .size) full low report own a b ha hb) in (
+          withRoute (entryAt n report a b) (i .0),
+          asks full low report hf hl hr a b ha hb ∙ i .1,
+          report-at n s G g (acc .size) full low report own a b ha hb,
+        )
 
     -- the report is none exactly where no chain joins the pair, else from the fewest links to two more
     pub asking-allowed : AllowedAnswer (linked n G) a b (asking n full low report a b)
@@ -240,8 +250,9 @@ module _ (n : ℕ) (starts neighbours : List ℕ) (acc : Accepted n starts neigh
     }
 
   -- and writing the walk answers as asking does, if the walk list has report + 1 entries or there is no route
-  walking-answers : (full low report : List ℕ) → AreBuilt n (threshold n) (neighboursOf starts neighbours) full low report → (a b : ℕ) → a < n → b < n
-      → (w : ℕ) → WalkAnswers w (asking n full low report a b) (walking n starts neighbours full low report a b w)
+  walking-answers : (full low report : List ℕ) → AreBuilt n (threshold n) (neighboursOf starts neighbours) full low report
+      → (a b : ℕ) → a < n → b < n → (w : ℕ)
+      → WalkAnswers w (asking n full low report a b) (walking n starts neighbours full low report a b w)
   unfolding pair
   walking-answers full low report own a b ha hb w x e room =
       let s = threshold n in
@@ -279,7 +290,8 @@ building-right n starts neighbours full low report list =
     picked P (badSize n) _ _ (λ _ k e. never e) (λ size.
     picked P (shortLists n (length starts) (length full) (length low) (length report) (length list)) _ _ (λ _ k e. never e) (λ room.
     picked P (not (isSurvey n starts neighbours)) _ _ (λ _ k e. never e) (λ lists k e.
-    let some-room = of-or-false (ltb (length starts) (n + 1)) _ (of-or-false (ltb (length starts) (n + 1) || shortTables n (length full) (length low) (length report)) _ room .0) .0 in
+    let some-room = of-or-false (ltb (length starts) (n + 1)) _
+    (of-or-false (ltb (length starts) (n + 1) || shortTables n (length full) (length low) (length report)) _ room .0) .0 in
     record {
       survey = tests-facts n starts neighbours size some-room lists;
       tables = built-right n (threshold n) (neighboursOf starts neighbours) full low report list;

@@ -53,7 +53,8 @@ module _ (n : ℕ) (f : ℕ → ℕ → ℕ) where
   pub length-rows : (k m : ℕ) → length (rows k m) ≡ m * n
   unfolding rows from gather rowsOf
   length-rows k zero = sym (zero-mul n)
-  length-rows k (suc m) = length-append (map (f k) (upTo n)) (rows (suc k) m) ∙ omega (arith, length-row (f k) n, length-rows (suc k) m, suc-mul m n)
+  length-rows k (suc m) =
+      length-append (map (f k) (upTo n)) (rows (suc k) m) ∙ omega (arith, length-row (f k) n, length-rows (suc k) m, suc-mul m n)
 
   getD-rows : (k m i j : ℕ) → i < m → j < n → getD (rows k m) (i * n + j) 0 ≡ f (k + i) j
   unfolding rows from gather rowsOf

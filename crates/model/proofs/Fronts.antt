@@ -1,5 +1,5 @@
--- A text's front decides: no line has more than 24 bytes, so what follows the bytes of one line more than the links allowed is not
--- looked at, except for whether there is any.
+-- The front of a text decides. No line has more than 24 bytes, so the first line and the link lines that the limit allows have a greatest
+-- length; of what follows, reading only looks whether there is any.
 -- Assumes nothing.
 use mathlib.Core.Path.{_≡_, refl, sym, ap, ap₂, _∙_}
 use mathlib.Core.Bool.{Bool, true, false, _||_}
@@ -24,7 +24,8 @@ use Rattle.model.proofs.Lines.{length-line, line-complete, line-sound}
 
 pub data FrontLine (letter : ℕ) (text : List ℕ) (k : ℕ) : Type 0 where
   no-line : line letter text ≡ missing → line letter (take k text) ≡ missing → FrontLine letter text k
-  same-line : (x y : ℕ) (rest : List ℕ) (j : ℕ) → k ≤ j + 24 → line letter text ≡ some (x, y, rest) → line letter (take k text) ≡ some (x, y, take j rest) → FrontLine letter text k
+  same-line : (x y : ℕ) (rest : List ℕ) (j : ℕ) → k ≤ j + 24 → line letter text ≡ some (x, y, rest)
+      → line letter (take k text) ≡ some (x, y, take j rest) → FrontLine letter text k
 
 pub line-few : (letter x y : ℕ) → x < 10 ^ 10 → y < 10 ^ 10 → length (lineOf letter x y) ≤ 24
 line-few letter x y hx hy = omega (arith, length-line letter x y, length-le 9 x hx, length-le 9 y hy)
@@ -32,12 +33,14 @@ line-few letter x y hx hy = omega (arith, length-line letter x y, length-le 9 x 
 line-front : (letter : ℕ) → 44 < letter → (text : List ℕ) (k : ℕ) → 24 ≤ k → FrontLine letter text k
 line-front letter after text k h = at (line letter text) refl (line letter (take k text)) refl
   where
-    at : (o : Option (ℕ × ℕ × List ℕ)) → line letter text ≡ o → (f : Option (ℕ × ℕ × List ℕ)) → line letter (take k text) ≡ f → FrontLine letter text k
+    at : (o : Option (ℕ × ℕ × List ℕ)) → line letter text ≡ o → (f : Option (ℕ × ℕ × List ℕ)) → line letter (take k text) ≡ f
+        → FrontLine letter text k
     at missing e missing g = no-line e g
     at missing e (some l) g =
         let s = line-sound letter (take k text) (l .0) (l .1) (l .2) g in
         let whole : text ≡ lineOf letter (l .0) (l .1) ++ (l .2 ++ drop k text) =
-        sym (take-append-drop k text) ∙ ap (λ (t : List ℕ). t ++ drop k text) (s .is-text) ∙ append-assoc (lineOf letter (l .0) (l .1)) (l .2) (drop k text) in
+        sym (take-append-drop k text) ∙ ap (λ (t : List ℕ). t ++ drop k text) (s .is-text)
+        ∙ append-assoc (lineOf letter (l .0) (l .1)) (l .2) (drop k text) in
         let f = ap (line letter) whole ∙ line-complete letter after (l .0) (l .1) (s .small-x) (s .small-y) (l .2 ++ drop k text) in
         absurd (let z : _≡_ {A = ℕ} 0 1 = cc in omega arith)
     at (some l) e f g =
@@ -53,7 +56,8 @@ line-front letter after text k h = at (line letter text) refl (line letter (take
 -- ---- the link lines
 
 -- the tests of a line look at its numbers only
-link-same : (n : ℕ) (given : ℕ → ℕ → Bool) (x y : ℕ) (r r′ : List ℕ) (next : ℕ → ℕ → List ℕ → Outcome (List (ℕ × ℕ))) → next x y r ≡ next x y r′
+link-same : (n : ℕ) (given : ℕ → ℕ → Bool) (x y : ℕ) (r r′ : List ℕ) (next : ℕ → ℕ → List ℕ → Outcome (List (ℕ × ℕ)))
+    → next x y r ≡ next x y r′
     → readOn next (linkOf n given (some (x, y, r))) ≡ readOn next (linkOf n given (some (x, y, r′)))
 unfolding linkOf readOn
 link-same n given x y r r′ next e = at (leb n x || leb n y) (eqb x y) (given x y)
@@ -66,7 +70,8 @@ link-same n given x y r r′ next e = at (leb n x || leb n y) (eqb x y) (given x
     at false false true = refl
     at false false false = ap (onLinks (x, y)) e
 
-links-front : (n m : ℕ) (done : List (ℕ × ℕ)) (text : List ℕ) (k : ℕ) → 24 * m < k → readLinks n m done (take k text) ≡ readLinks n m done text
+links-front : (n m : ℕ) (done : List (ℕ × ℕ)) (text : List ℕ) (k : ℕ) → 24 * m < k
+    → readLinks n m done (take k text) ≡ readLinks n m done text
 unfolding readLinks
 links-front n zero done text zero h = absurd (omega arith)
 links-front n zero done [] (suc k) h = refl
@@ -79,7 +84,9 @@ links-front n (suc m) done (c ∷ text) (suc k) h =
     next : ℕ → ℕ → List ℕ → Outcome (List (ℕ × ℕ))
     next a b rest = readLinks n m ((a, b) ∷ done) rest
 
-    at : FrontLine 76 (c ∷ text) (suc k) → ((a b : ℕ) (rest : List ℕ) (j : ℕ) → 24 * m < j → readLinks n m ((a, b) ∷ done) (take j rest) ≡ readLinks n m ((a, b) ∷ done) rest)
+    at : FrontLine 76 (c ∷ text) (suc k)
+        → ((a b : ℕ) (rest : List ℕ) (j : ℕ) → 24 * m < j
+        → readLinks n m ((a, b) ∷ done) (take j rest) ≡ readLinks n m ((a, b) ∷ done) rest)
         → readOn next (linkOf n (named done) (line 76 (take (suc k) (c ∷ text)))) ≡ readOn next (linkOf n (named done) (line 76 (c ∷ text)))
     at (no-line e f) rec = ap (λ (o : Option (ℕ × ℕ × List ℕ)). readOn next (linkOf n (named done) o)) (f ∙ sym e)
     at (same-line x y rest j i e f) rec =
@@ -102,7 +109,7 @@ counts-same N M p q x y r r′ e = at (outside N x) (ltb M y) refl (ltb p (x + 1
     at false false m true = refl
     at false false m false = ap (parsed x) (e (ltb-false M y m))
 
--- what a text says within limits, its front says
+-- within limits, a text says what its front says
 pub parse-front : (N M p q : ℕ) (text : List ℕ) (k : ℕ) → 24 * (M + 1) < k → parse N M p q (take k text) ≡ parse N M p q text
 unfolding parse
 parse-front N M p q text k h = at (line-front 83 (omega arith) text k (omega arith))
@@ -119,7 +126,7 @@ pub reading-front : (text : List ℕ) (p q k : ℕ) → 24 * (16384 + 1) < k →
 unfolding reading
 reading-front text p q k h = ap (readingOf p q) (parse-front 1024 16384 p q text k h)
 
--- and its listing is that of its first 49,177
+-- and its listing is that of its first 49,177 bytes
 pub listing-front : (text : List ℕ) (k : ℕ) → 24 * (2048 + 1) < k → listing (take k text) ≡ listing text
 unfolding listing
 listing-front text k h = ap listingText (parse-front 128 2048 (128 + 1) (2 * 2048) text k h)

@@ -1,4 +1,4 @@
--- A text begins with the line `letter,x,y` exactly where it is that line's text and something after it, for x and y of at most ten
+-- A text begins with the line `letter,x,y` exactly where it is that line's text with any text after it. x and y have at most ten
 -- digits.
 -- Assumes nothing.
 use mathlib.Core.Path.{_≡_, refl, sym, ap, ap₂, _∙_, subst}
@@ -121,8 +121,10 @@ module _ (letter : ℕ) (after : 44 < letter) (x y : ℕ) (hx : x < 10 ^ 10) (hy
   unfolding body
   body-free h =
       ⊎-elim (λ e. omega arith) (λ h. ⊎-elim (λ e. omega arith) (λ h.
-      ⊎-elim (λ r. digits-free 10 x (omega arith) r) (λ r. ⊎-elim (λ e. omega arith) (λ r. digits-free 10 y (omega arith) r) (of-cons 10 44 (digits y) r))
-      (of-append 10 (digits x) (44 ∷ digits y) h)) (of-cons 10 44 (digits x ++ 44 ∷ digits y) h)) (of-cons 10 letter (44 ∷ (digits x ++ 44 ∷ digits y)) h)
+      ⊎-elim (λ r. digits-free 10 x (omega arith) r)
+      (λ r. ⊎-elim (λ e. omega arith) (λ r. digits-free 10 y (omega arith) r) (of-cons 10 44 (digits y) r))
+      (of-append 10 (digits x) (44 ∷ digits y) h)) (of-cons 10 44 (digits x ++ 44 ∷ digits y) h))
+      (of-cons 10 letter (44 ∷ (digits x ++ 44 ∷ digits y)) h)
 
   line-body : lineOf letter x y ++ rest ≡ body ++ 10 ∷ rest
   unfolding body
@@ -207,7 +209,8 @@ line-sound letter text x y rest e = at (cut 10 text) refl e
     at missing c e = absurd (let z : _≡_ {A = ℕ} 0 1 = cc in omega arith)
     at (some p) c e = two (twoNumbers letter (split 44 (p .0))) refl e
       where
-        two : (o : Option (ℕ × ℕ)) → twoNumbers letter (split 44 (p .0)) ≡ o → withRest (p .1) o ≡ some (x, y, rest) → IsLine letter text x y rest
+        two : (o : Option (ℕ × ℕ)) → twoNumbers letter (split 44 (p .0)) ≡ o → withRest (p .1) o ≡ some (x, y, rest)
+            → IsLine letter text x y rest
         two missing t e = absurd (let z : _≡_ {A = ℕ} 0 1 = cc in omega arith)
         two (some xy) t e =
             let q : _≡_ {A = ℕ × ℕ × List ℕ} (xy .0, xy .1, p .1) (x, y, rest) = cc in

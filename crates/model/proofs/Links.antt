@@ -1,4 +1,4 @@
--- The link lines: reading takes them exactly where they name links that are new, one for each line.
+-- The link lines. Reading accepts them exactly where each line names a link that is new.
 -- Assumes nothing.
 use mathlib.Core.Path.{_≡_, refl, sym, ap, ap₂, _∙_, subst}
 use mathlib.Core.Bool.{Bool, true, false, _||_}
@@ -38,9 +38,14 @@ module _ (n : ℕ) (given : ℕ → ℕ → Bool) where
   pub link-taken : (l : ℕ × ℕ × List ℕ) → Fresh n given (l .0) (l .1) → linkOf n given (some l) ≡ answered l
   unfolding linkOf
   link-taken l f =
-      rw (or-false (leb n (l .0)) (leb n (l .1)) (lt-leb n (l .0) (f .below-a)) (lt-leb n (l .1) (f .below-b)), ne-eqb (l .0) (l .1) (f .different), f .new) refl
+      rw (
+        or-false (leb n (l .0)) (leb n (l .1)) (lt-leb n (l .0) (f .below-a)) (lt-leb n (l .1) (f .below-b)),
+        ne-eqb (l .0) (l .1) (f .different),
+        f .new,
+      ) refl
 
-  pub of-link-taken : (o : Option (ℕ × ℕ × List ℕ)) (x : ℕ × ℕ × List ℕ) → linkOf n given o ≡ answered x → (o ≡ some x) × Fresh n given (x .0) (x .1)
+  pub of-link-taken : (o : Option (ℕ × ℕ × List ℕ)) (x : ℕ × ℕ × List ℕ) → linkOf n given o ≡ answered x
+      → (o ≡ some x) × Fresh n given (x .0) (x .1)
   unfolding linkOf
   of-link-taken missing x e = never e
   of-link-taken (some l) x e = four (leb n (l .0) || leb n (l .1)) refl e
@@ -52,16 +57,21 @@ module _ (n : ℕ) (given : ℕ → ℕ → Bool) where
           → if_then_else_ {A = Outcome (ℕ × ℕ × List ℕ)} t (refused 6) (answered l) ≡ answered x → Taken
       six b d true q e = never e
       six b d false q e =
-          let i : l ≡ x = cc in
-          (ap some i, subst (λ (y : ℕ × ℕ × List ℕ). Fresh n given (y .0) (y .1)) i (record { below-a = b .0; below-b = b .1; different = d; new = q }))
+          let i : l ≡ x = cc in (
+            ap some i,
+            subst (λ (y : ℕ × ℕ × List ℕ). Fresh n given (y .0) (y .1)) i
+                (record { below-a = b .0; below-b = b .1; different = d; new = q }),
+          )
 
       five : (l .0 < n) × (l .1 < n) → (t : Bool) → eqb (l .0) (l .1) ≡ t
-          → if_then_else_ {A = Outcome (ℕ × ℕ × List ℕ)} t (refused 5) (if given (l .0) (l .1) then refused 6 else answered l) ≡ answered x → Taken
+          → if_then_else_ {A = Outcome (ℕ × ℕ × List ℕ)} t (refused 5) (if given (l .0) (l .1) then refused 6 else answered l) ≡ answered x
+          → Taken
       five b true q e = never e
       five b false q e = six b (eqb-false (l .0) (l .1) q) (given (l .0) (l .1)) refl e
 
       four : (t : Bool) → (leb n (l .0) || leb n (l .1)) ≡ t
-          → if_then_else_ {A = Outcome (ℕ × ℕ × List ℕ)} t (refused 4) (if eqb (l .0) (l .1) then refused 5 else if given (l .0) (l .1) then refused 6 else answered l) ≡ answered x
+          → if_then_else_ {A = Outcome (ℕ × ℕ × List ℕ)} t (refused 4)
+          (if eqb (l .0) (l .1) then refused 5 else if given (l .0) (l .1) then refused 6 else answered l) ≡ answered x
           → Taken
       four true q e = never e
       four false q e =
@@ -70,7 +80,8 @@ module _ (n : ℕ) (given : ℕ → ℕ → Bool) where
 
 -- ---- all lines
 
-pub links-complete : (n : ℕ) → n ≤ 10 ^ 10 → (ls done : List (ℕ × ℕ)) → AllFresh n done ls → readLinks n (length ls) done (linkLines ls) ≡ answered ls
+pub links-complete : (n : ℕ) → n ≤ 10 ^ 10 → (ls done : List (ℕ × ℕ)) → AllFresh n done ls
+    → readLinks n (length ls) done (linkLines ls) ≡ answered ls
 unfolding readLinks readOn linkLines gather lineOf onLinks
 links-complete n le [] done f = refl
 links-complete n le (l ∷ ls) done f =
@@ -86,19 +97,22 @@ pub record LinesRead (n m : ℕ) (done : List (ℕ × ℕ)) (text : List ℕ) (l
   pub count : length ls ≡ m
   pub fresh : AllFresh n done ls
 
-pub links-sound : (n m : ℕ) (done : List (ℕ × ℕ)) (text : List ℕ) (ls : List (ℕ × ℕ)) → readLinks n m done text ≡ answered ls → LinesRead n m done text ls
+pub links-sound : (n m : ℕ) (done : List (ℕ × ℕ)) (text : List ℕ) (ls : List (ℕ × ℕ)) → readLinks n m done text ≡ answered ls
+    → LinesRead n m done text ls
 unfolding readLinks readOn onLinks linkLines gather
 links-sound n zero done [] ls e =
     let q : _≡_ {A = List (ℕ × ℕ)} [] ls = cc in
     subst (λ (k : List (ℕ × ℕ)). LinesRead n zero done [] k) q (record { is-text = refl; count = refl; fresh = tt })
 links-sound n zero done (c ∷ text) ls e = never e
 links-sound n (suc m) done [] ls e = never e
-links-sound n (suc m) done (c ∷ text) ls e = at (linkOf n (named done) (line 76 (c ∷ text))) refl e (λ a b rest ks. links-sound n m ((a, b) ∷ done) rest ks)
+links-sound n (suc m) done (c ∷ text) ls e =
+    at (linkOf n (named done) (line 76 (c ∷ text))) refl e (λ a b rest ks. links-sound n m ((a, b) ∷ done) rest ks)
   where
     next : ℕ → ℕ → List ℕ → Outcome (List (ℕ × ℕ))
     next a b rest = readLinks n m ((a, b) ∷ done) rest
 
-    more : (l : ℕ × ℕ) (rest : List ℕ) (o : Outcome (List (ℕ × ℕ))) → IsLine 76 (c ∷ text) (l .0) (l .1) rest → Fresh n (named done) (l .0) (l .1)
+    more : (l : ℕ × ℕ) (rest : List ℕ) (o : Outcome (List (ℕ × ℕ))) → IsLine 76 (c ∷ text) (l .0) (l .1) rest
+        → Fresh n (named done) (l .0) (l .1)
         → onLinks l o ≡ answered ls
         → ((ks : List (ℕ × ℕ)) → o ≡ answered ks → LinesRead n m (l ∷ done) rest ks) → LinesRead n (suc m) done (c ∷ text) ls
     more l rest (refused k) t f e rec = never e
@@ -112,12 +126,14 @@ links-sound n (suc m) done (c ∷ text) ls e = at (linkOf n (named done) (line 7
         })
 
     at : (o : Outcome (ℕ × ℕ × List ℕ)) → linkOf n (named done) (line 76 (c ∷ text)) ≡ o → readOn next o ≡ answered ls
-        → ((a b : ℕ) (rest : List ℕ) (ks : List (ℕ × ℕ)) → readLinks n m ((a, b) ∷ done) rest ≡ answered ks → LinesRead n m ((a, b) ∷ done) rest ks)
+        → ((a b : ℕ) (rest : List ℕ) (ks : List (ℕ × ℕ)) → readLinks n m ((a, b) ∷ done) rest ≡ answered ks
+        → LinesRead n m ((a, b) ∷ done) rest ks)
         → LinesRead n (suc m) done (c ∷ text) ls
     at (refused k) q e rec = never e
     at (answered x) q e rec =
         let t = of-link-taken n (named done) (line 76 (c ∷ text)) x q in
-        more (x .0, x .1) (x .2) (next (x .0) (x .1) (x .2)) (line-sound 76 (c ∷ text) (x .0) (x .1) (x .2) (t .0)) (t .1) e (λ ks. rec (x .0) (x .1) (x .2) ks)
+        more (x .0, x .1) (x .2) (next (x .0) (x .1) (x .2)) (line-sound 76 (c ∷ text) (x .0) (x .1) (x .2) (t .0)) (t .1) e
+        (λ ks. rec (x .0) (x .1) (x .2) ks)
 
 -- ---- the whole text
 
@@ -141,7 +157,8 @@ module _ (N M p q : ℕ) where
         or-false (ltb p (n + 1)) (ltb q (2 * m)) (le-ltb p (n + 1) (w .room)) (le-ltb q (2 * m) (w .list-room)),
       ) refl
 
-  pub of-first-taken : (o : Option (ℕ × ℕ × List ℕ)) (x : ℕ × ℕ × List ℕ) → countsOf N M p q o ≡ answered x → (o ≡ some x) × Within N M p q (x .0) (x .1)
+  pub of-first-taken : (o : Option (ℕ × ℕ × List ℕ)) (x : ℕ × ℕ × List ℕ) → countsOf N M p q o ≡ answered x
+      → (o ≡ some x) × Within N M p q (x .0) (x .1)
   unfolding countsOf
   of-first-taken missing x e = never e
   of-first-taken (some f) x e = two (outside N n) refl e
@@ -172,17 +189,19 @@ module _ (N M p q : ℕ) where
           )
 
       three : (1 ≤ n) × (n ≤ N) → (t : Bool) → ltb M m ≡ t
-          → if_then_else_ {A = Outcome (ℕ × ℕ × List ℕ)} t (refused 3) (if ltb p (n + 1) || ltb q (2 * m) then refused 8 else answered f) ≡ answered x → Taken
+          → if_then_else_ {A = Outcome (ℕ × ℕ × List ℕ)} t (refused 3) (if ltb p (n + 1) || ltb q (2 * m) then refused 8 else answered f)
+          ≡ answered x → Taken
       three s true k e = never e
       three s false k e = eight s (ltb-false M m k) (ltb p (n + 1) || ltb q (2 * m)) refl e
 
       two : (t : Bool) → outside N n ≡ t
-          → if_then_else_ {A = Outcome (ℕ × ℕ × List ℕ)} t (refused 2) (if ltb M m then refused 3 else if ltb p (n + 1) || ltb q (2 * m) then refused 8 else answered f) ≡ answered x
+          → if_then_else_ {A = Outcome (ℕ × ℕ × List ℕ)} t (refused 2)
+          (if ltb M m then refused 3 else if ltb p (n + 1) || ltb q (2 * m) then refused 8 else answered f) ≡ answered x
           → Taken
       two true k e = never e
       two false k e = three (of-in-range N n k) (ltb M m) refl e
 
--- what a text says that is taken, with lists of p and q entries: it is the text of its links, which are within the limits
+-- a text that is accepted, with lists of p and q entries: its counts are within the limits, it is the text of its links, and each is new
 pub record TextRead (mostNodes mostLinks p q : ℕ) (text : List ℕ) (x : Parsed) : Type 0 where
   pub within : Within mostNodes mostLinks p q (x .nodes) (length (x .links))
   pub is-text : text ≡ surveyText (x .nodes) (length (x .links)) (x .links)

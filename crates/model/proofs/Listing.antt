@@ -37,11 +37,13 @@ pub links-graph : (n : ℕ) (ls : List (ℕ × ℕ)) → IsGraph n (graphOf n ls
 unfolding graphOf
 links-graph n ls = record {
   below = λ v x h m. of-upTo n x (of-keep (named ls v) (upTo n) x m .0);
-  symmetric = λ v x h m. has-keep (named ls x) (upTo n) v (has-upTo n v h) (subst T (named-sym ls v x) (of-keep (named ls v) (upTo n) x m .1));
+  symmetric =
+      λ v x h m. has-keep (named ls x) (upTo n) v (has-upTo n v h) (subst T (named-sym ls v x) (of-keep (named ls v) (upTo n) x m .1));
 }
 
--- the pairs below n, one node's after the other's
-pub by-pairs : {B : Type 0} (f : ℕ × ℕ → List B) (n : ℕ) → gather f (pairsBelow n) ≡ gather (λ a. gather (λ b. f (a, b)) (keep (λ b. ltb a b) (upTo n))) (upTo n)
+-- the pairs below n, ordered by their first node
+pub by-pairs : {B : Type 0} (f : ℕ × ℕ → List B) (n : ℕ)
+    → gather f (pairsBelow n) ≡ gather (λ a. gather (λ b. f (a, b)) (keep (λ b. ltb a b) (upTo n))) (upTo n)
 unfolding pairsBelow ordered
 by-pairs f n =
     gather-gather f (λ a. map (λ b. (a, b)) (keep (λ b. ltb a b) (upTo n))) (upTo n)
@@ -68,7 +70,8 @@ module _ (text : List ℕ) (x : Parsed) (e : parse 128 2048 (128 + 1) (2 * 2048)
   size : x .nodes ≤ 1024
   size = omega (arith, parse-sound 128 2048 (128 + 1) (2 * 2048) text x e .within .size)
 
-  reply-is : (a b : ℕ) → a < x .nodes → b < x .nodes → (reply a b ≡ answered (valueIn (reply a b))) × (valueIn (reply a b) .report ≡ entryAt n (reportTable n s G) a b)
+  reply-is : (a b : ℕ) → a < x .nodes → b < x .nodes
+      → (reply a b ≡ answered (valueIn (reply a b))) × (valueIn (reply a b) .report ≡ entryAt n (reportTable n s G) a b)
   unfolding reply pair valueIn
   reply-is a b ha hb =
       let g = links-graph n (x .links) in
@@ -76,8 +79,12 @@ module _ (text : List ℕ) (x : Parsed) (e : parse 128 2048 (128 + 1) (2 * 2048)
       let full = fullTable n s G in
       let low = lowTable n s G in
       let report = reportTable n s G in
-      let i = pair-built n s G g size full low report own a b ha hb (taken n full a b) (taken-right n s G g size full low report own a b ha hb) in
-      (i .1 ∙ ap answered (sym (ap valueIn (i .1))), ap (λ (o : Outcome Answer). valueIn o .report) (i .1) ∙ report-at n s G g size full low report own a b ha hb)
+      let i =
+      pair-built n s G g size full low report own a b ha hb (taken n full a b)
+      (taken-right n s G g size full low report own a b ha hb) in (
+        i .1 ∙ ap answered (sym (ap valueIn (i .1))),
+        ap (λ (o : Outcome Answer). valueIn o .report) (i .1) ∙ report-at n s G g size full low report own a b ha hb,
+      )
 
   -- the first line, then for each a < b in order a line with an allowed report and a route
   pub listing-lines : (f : ℕ → ℕ → Answer)
@@ -93,5 +100,6 @@ module _ (text : List ℕ) (x : Parsed) (e : parse 128 2048 (128 + 1) (2 * 2048)
         ap (pairLine (a, b)) (reply-is a b (of-upTo n a ma) (of-upTo n b (of-keep (λ b. ltb a b) (upTo n) b mb .0)) .0)))
         ∙ sym (by-pairs (λ p. pairLine p (answered (valueIn (reply (p .0) (p .1))))) n)
         ),
-    λ a b ha hb. subst (λ (r : ℕ). Allowed (linked n G) a b r) (sym (reply-is a b ha hb .1)) (allowed n s G (links-graph n (x .links)) size a b ha hb),
+    λ a b ha hb. subst (λ (r : ℕ). Allowed (linked n G) a b r) (sym (reply-is a b ha hb .1))
+        (allowed n s G (links-graph n (x .links)) size a b ha hb),
   )

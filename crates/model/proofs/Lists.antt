@@ -233,18 +233,19 @@ unfolding has
 length-pos x [] h = absurd h
 length-pos x (y ∷ ys) h = suc-le-suc zero-le
 
--- what a test keeps and what it leaves make the list
+-- what a test keeps and what it drops are together as many as the list has
 pub keep-split : (p : ℕ → Bool) (l : List ℕ) → length (keep p l) + length (keep (λ x. not (p x)) l) ≡ length l
 unfolding keep
 keep-split p [] = refl
 keep-split p (y ∷ ys) = go (p y) (keep-split p ys)
   where
     go : (b : Bool) → length (keep p ys) + length (keep (λ x. not (p x)) ys) ≡ length ys
-        → length (if b then y ∷ keep p ys else keep p ys) + length (if not b then y ∷ keep (λ x. not (p x)) ys else keep (λ x. not (p x)) ys) ≡ suc (length ys)
+        → length (if b then y ∷ keep p ys else keep p ys)
+        + length (if not b then y ∷ keep (λ x. not (p x)) ys else keep (λ x. not (p x)) ys) ≡ suc (length ys)
     go true h = omega arith
     go false h = omega arith
 
--- a number that passes, with none before it, is the one found
+-- a number that passes, and before which none passes, is the one found
 pub first-is : (p : ℕ → Bool) (d n r : ℕ) → r < n → T (p r) → ((y : ℕ) → y < r → T (p y) → ⊥) → firstOf p d (upTo n) ≡ r
 first-is p d n r b t f = at (first-below p d n)
   where
@@ -266,7 +267,8 @@ first-in p d (x ∷ xs) = go (p x) refl (first-in p d xs)
     r = firstOf p d xs
 
     go : (b : Bool) → p x ≡ b → (T (has r xs) × T (p r)) ⊎ ((r ≡ d) × ((y : ℕ) → T (has y xs) → T (p y) → ⊥))
-        → (T (has (if b then x else r) (x ∷ xs)) × T (p (if b then x else r))) ⊎ (((if b then x else r) ≡ d) × ((y : ℕ) → T (has y (x ∷ xs)) → T (p y) → ⊥))
+        → (T (has (if b then x else r) (x ∷ xs)) × T (p (if b then x else r)))
+        ⊎ (((if b then x else r) ≡ d) × ((y : ℕ) → T (has y (x ∷ xs)) → T (p y) → ⊥))
     go true e rest = inl (has-head x xs, subst T (sym e) tt)
     go false e (inl i) = inl (has-tail r x xs (i .0), i .1)
     go false e (inr i) = inr (i .0, λ y h t. at y t (of-cons y x xs h))
@@ -305,7 +307,8 @@ gather-same {B = B} f g (x ∷ l) e = ap₂ (λ (r s : List B). r ++ s) (e x (ha
 pub from-snoc : (k m : ℕ) → from k (suc m) ≡ from k m ++ (k + m) ∷ []
 unfolding from
 from-snoc k zero = ap (λ (x : ℕ). x ∷ []) (sym (add-zero k))
-from-snoc k (suc m) = ap (λ (r : List ℕ). k ∷ r) (from-snoc (suc k) m ∙ ap (λ (x : ℕ). from (suc k) m ++ x ∷ []) (suc-add k m ∙ sym (add-suc k m)))
+from-snoc k (suc m) =
+    ap (λ (r : List ℕ). k ∷ r) (from-snoc (suc k) m ∙ ap (λ (x : ℕ). from (suc k) m ++ x ∷ []) (suc-add k m ∙ sym (add-suc k m)))
 
 -- the numbers below n + 1 are those below n, and n
 pub upTo-suc : (n : ℕ) → upTo (suc n) ≡ upTo n ++ n ∷ []
@@ -334,7 +337,7 @@ keep-same p q (y ∷ ys) f g = go (p y) refl (q y) refl (keep-same p q ys (λ x 
     go false e true h r = absurd (subst T e (g y (has-head y ys) (subst T (sym h) tt)))
     go false e false h r = r
 
--- keeping twice is keeping once
+-- keeping by one test, then by another, is keeping by both
 pub keep-keep : (p q : ℕ → Bool) (l : List ℕ) → keep p (keep q l) ≡ keep (λ x. q x && p x) l
 unfolding keep
 keep-keep p q [] = refl
@@ -401,14 +404,15 @@ unfolding same
 same-eq [] [] t = refl
 same-eq [] (y ∷ l) t = absurd t
 same-eq (x ∷ k) [] t = absurd t
-same-eq (x ∷ k) (y ∷ l) t = ap₂ (λ (z : ℕ) (r : List ℕ). z ∷ r) (eqb→eq x y (and-l (eqb x y) (same k l) t)) (same-eq k l (and-r (eqb x y) (same k l) t))
+same-eq (x ∷ k) (y ∷ l) t =
+    ap₂ (λ (z : ℕ) (r : List ℕ). z ∷ r) (eqb→eq x y (and-l (eqb x y) (same k l) t)) (same-eq k l (and-r (eqb x y) (same k l) t))
 
 pub same-refl : (l : List ℕ) → T (same l l)
 unfolding same
 same-refl [] = tt
 same-refl (x ∷ l) = and-i (eqb x x) (same l l) (eqb-refl x) (same-refl l)
 
--- ---- the numbers below n, parted at v
+-- ---- the numbers below n, split at v
 
 pub from-add : (k m j : ℕ) → from k (m + j) ≡ from k m ++ from (k + m) j
 unfolding from
@@ -462,7 +466,7 @@ pub upTo-add : (u k n : ℕ) → u + k ≡ n → upTo n ≡ upTo u ++ from u k
 unfolding upTo
 upTo-add u k n e = ap (from 0) (sym e) ∙ from-add 0 u k ∙ ap (λ (x : ℕ). from 0 u ++ from x k) (zero-add u)
 
--- where only numbers below n pass, more numbers keep no more
+-- where only numbers below n pass, the numbers from n on add nothing
 pub keep-below : (p : ℕ → Bool) (n m : ℕ) → n ≤ m → ((x : ℕ) → T (p x) → x < n) → keep p (upTo m) ≡ keep p (upTo n)
 keep-below p n m h f =
     let e : upTo m ≡ upTo n ++ from n (m - n) = upTo-add n (m - n) m (omega arith) in

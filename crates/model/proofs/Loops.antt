@@ -1,4 +1,4 @@
--- Laws for loops over a list: what is left of it still says the whole.
+-- Laws for loops over a list: from what is left, the result for the whole list can still be told.
 -- Assumes nothing.
 use mathlib.Core.Path.{_≡_, sym, ap, ap₂, _∙_, subst}
 use mathlib.Core.Logic.{_⊎_, inl, inr}
@@ -19,7 +19,7 @@ use Rattle.model.proofs.Lists.{of-upTo, of-from, from-split, keep-appen
 pub drop-next : (l : List ℕ) (i : ℕ) → i < length l → drop i l ≡ getD l i 0 ∷ drop (i + 1) l
 drop-next l i h = drop-cons l i 0 h ∙ ap (λ (k : ℕ). getD l i 0 ∷ drop k l) (sym (add-one i))
 
--- the first element that passes a test, taken one by one: what is left still says which it is
+-- a search for the first element that passes a test: the elements that are left still say which it is
 module _ (p : ℕ → Bool) (d : ℕ) (l : List ℕ) where
   abbrev pub Searched : ℕ → Type 0
   Searched i = firstOf p d (drop i l) ≡ firstOf p d l
@@ -28,7 +28,8 @@ module _ (p : ℕ → Bool) (d : ℕ) (l : List ℕ) where
   unfolding firstOf
   searched-found i s h e = rw (← s, drop-next l i h, e)
 
-  pub searched-more : (i : ℕ) → firstOf p d (drop i l) ≡ firstOf p d l → i < length l → p (getD l i 0) ≡ false → firstOf p d (drop (i + 1) l) ≡ firstOf p d l
+  pub searched-more : (i : ℕ) → firstOf p d (drop i l) ≡ firstOf p d l → i < length l → p (getD l i 0) ≡ false
+      → firstOf p d (drop (i + 1) l) ≡ firstOf p d l
   unfolding firstOf
   searched-more i s h e = rw (← s, drop-next l i h, e)
 
@@ -44,7 +45,7 @@ below-next P v f p u h = at (eq-or u v)
     at (inl e) = subst P (sym e) p
     at (inr d) = f u (omega arith)
 
--- the lists f x for the numbers from v up to n, one after the other: the first, and the others
+-- the lists f x for the numbers x from v up to n: the first of them, then the others
 pub gather-next : {B : Type 0} (f : ℕ → List B) (n v : ℕ) → v < n → gather f (from v (n - v)) ≡ f v ++ gather f (from (v + 1) (n - (v + 1)))
 unfolding from gather
 gather-next f n v h =

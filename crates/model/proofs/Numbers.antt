@@ -1,4 +1,4 @@
--- Laws of the decimal text of a number: reading it accepts exactly the texts of the numbers of at most ten digits.
+-- Laws of the decimal text of a number. Exactly the texts of numbers of at most ten digits are accepted.
 -- Assumes nothing.
 use mathlib.Core.Path.{_≡_, refl, sym, ap, _∙_, subst}
 use mathlib.Core.Logic.{_⊎_, inl, inr, ⊎-elim}
@@ -33,7 +33,8 @@ within-any (suc f) zero n h k = absurd (not-suc-le-zero k)
 within-any (suc f) (suc g) n h k =
     ⊎-elim
     (λ l. within-small f n l ∙ sym (within-small g n l))
-    (λ l. within-more f n l ∙ ap (λ (t : List ℕ). t ++ ((48 + n % 10) ∷ [])) (within-any f g (n / 10) (omega arith) (omega arith)) ∙ sym (within-more g n l))
+    (λ l. within-more f n l ∙ ap (λ (t : List ℕ). t ++ ((48 + n % 10) ∷ [])) (within-any f g (n / 10) (omega arith) (omega arith))
+    ∙ sym (within-more g n l))
     (lt-or n 10)
 
 pub digits-small : (n : ℕ) → n < 10 → digits n ≡ (48 + n) ∷ []
@@ -65,7 +66,7 @@ length-more n h = ap length (digits-more n h) ∙ length-append (digits (n / 10)
 pub digits-pos : (n : ℕ) → 0 < length (digits n)
 digits-pos n = ⊎-elim (λ l. omega (arith, length-small n l)) (λ l. omega (arith, length-more n l)) (lt-or n 10)
 
--- n has at most k digits exactly where it is below 10 ^ k
+-- n has at most k + 1 digits exactly where it is below 10 ^ (k + 1)
 pub length-le : (k n : ℕ) → n < 10 ^ suc k → length (digits n) ≤ suc k
 length-le zero n h = omega (arith, length-small n (omega (arith, h)))
 length-le (suc k) n h =
@@ -101,7 +102,8 @@ digits-all =
     digits-ind (λ n. T (all isDigit (digits n)))
     (λ n l. rw (digits-small n l) (one-digit (48 + n) (bounds-digit (48 + n) (omega arith) (omega arith))))
     (λ n l ih. rw (digits-more n l)
-    (all-append isDigit (digits (n / 10)) ((48 + n % 10) ∷ []) ih (one-digit (48 + n % 10) (bounds-digit (48 + n % 10) (omega arith) (omega arith)))))
+    (all-append isDigit (digits (n / 10)) ((48 + n % 10) ∷ []) ih
+    (one-digit (48 + n % 10) (bounds-digit (48 + n % 10) (omega arith) (omega arith)))))
 
 -- ---- the value of digits
 
@@ -170,7 +172,8 @@ text-number d ds r =
     let B = leb (length ds) 9 in
     let C = eqb (length ds) 0 || not (eqb d 48) in
     and-i (A && B) C (and-i A B (r .every) (le→leb (length ds) 9 (r .few)))
-    (⊎-elim (λ e. or-l (eqb (length ds) 0) (not (eqb d 48)) (eq-T (length ds) 0 e)) (λ e. or-r (eqb (length ds) 0) (not (eqb d 48)) e) (r .lead))
+    (⊎-elim (λ e. or-l (eqb (length ds) 0) (not (eqb d 48)) (eq-T (length ds) 0 e))
+    (λ e. or-r (eqb (length ds) 0) (not (eqb d 48)) e) (r .lead))
 
 -- digits that the text rule admits are the decimal text of their value
 pub digits-value : (t : List ℕ) → T (isNumber t) → digits (valueOf t) ≡ t
@@ -184,7 +187,8 @@ digits-value (b ∷ c ∷ t) n =
     let r = number-text b (c ∷ t) n in
     let z : 0 * 10 + (b - 48) ≡ b - 48 = omega arith in
     let d = and-l (isDigit b) (all isDigit (c ∷ t)) (r .every) in
-    digits-from (c ∷ t) (0 * 10 + (b - 48)) (omega (arith, not-zero-digit b d (lead (r .lead)))) (and-r (isDigit b) (all isDigit (c ∷ t)) (r .every))
+    digits-from (c ∷ t) (0 * 10 + (b - 48)) (omega (arith, not-zero-digit b d (lead (r .lead))))
+    (and-r (isDigit b) (all isDigit (c ∷ t)) (r .every))
     ∙ ap (λ (x : List ℕ). x ++ c ∷ t) (ap digits z ∙ digits-one b d)
   where
     lead : (length (c ∷ t) ≡ 0) ⊎ T (not (eqb b 48)) → T (not (eqb b 48))

@@ -1,25 +1,26 @@
--- A refusal is no answer; promises of outcomes; the number in an outcome; and how large a refusal's number is.
+-- Laws of outcomes: a refusal is no answer; promises of outcomes; the number in an outcome; how large a refusal's number is.
 -- Assumes nothing.
 use mathlib.Core.Path.{_≡_, sym, subst}
 use Prim.Native.Nat.{ℕ, _<_}
 use native.Mathlib.Omega.{arith}
 use Rattle.model.specs.declared.Refusal.{Refusal}
-use Rattle.model.specs.declared.Refusal.the-variants.{Form, NodeCount, LinkCount, LineNode, EqualEnds, RepeatedLink, LineCount, ShortList, NotSurvey, NoNode, NotAttained, ShortBuffer}
+use Rattle.model.specs.declared.Refusal.the-variants.{Form, NodeCount, LinkCount, LineNode, EqualEnds, RepeatedLink, LineCount}
+use Rattle.model.specs.declared.Refusal.the-variants.{ShortList, NotSurvey, NoNode, NotAttained, ShortBuffer}
 use Rattle.model.specs.Answers.{Outcome, refused, answered, number}
 
 pub never : {A B : Type 0} {k : ℕ} {x : A} → refused k ≡ answered x → B
 never {k = k} {x = x} e = let z : _≡_ {A = ℕ} 0 1 = cc in absurd (omega arith)
 
--- what is promised of an outcome is promised of what a call returned and left, if that is the outcome
+-- what holds of an outcome x holds of what a call returned and left, r, if that is x
 pub promised : {A : Type 0} (P : A → Type 0) {x r : A} → P x → r ≡ x → (r ≡ x) × P r
 promised P h e = (e, subst P (sym e) h)
 
--- a refusal's number, or one that the value has
+-- the number of a refusal, or that of the value
 unfoldable pub numberIn : {A : Type 0} → (A → ℕ) → Outcome A → ℕ
 numberIn f (refused k) = k
 numberIn f (answered x) = f x
 
--- a refusal has a number of one or two digits, and none has 0, which stands for an answer
+-- a refusal's number has one or two digits and is not 0, which stands for an answer
 pub number-bounds : (r : Refusal) → (0 < number r) × (number r < 100)
 number-bounds Form = omega arith
 number-bounds NodeCount = omega arith

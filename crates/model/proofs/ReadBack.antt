@@ -29,7 +29,8 @@ use Rattle.model.proofs.Acceptance.{accepting-facts, accepting-answers,
 use Rattle.model.proofs.Outcomes.{never, numberIn}
 use Rattle.model.proofs.Entries.{getD-same}
 use Rattle.model.proofs.Links.{Fresh, AllFresh, TextRead, parse-complete, parse-sound}
-use Rattle.model.proofs.SurveyLists.{total, total-zero, total-suc, starts-length, neighbours-length, start-at, own-at, gather-below, neighbours-same, starts-same, own-total, own-neighbours, own-starts}
+use Rattle.model.proofs.SurveyLists.{total, total-zero, total-suc, starts-length, neighbours-length, start-at, own-at}
+use Rattle.model.proofs.SurveyLists.{gather-below, neighbours-same, starts-same, own-total, own-neighbours, own-starts}
 use Rattle.model.proofs.Totals.{named-sym, links-total}
 
 -- ---- links that are all new: the nodes they name are below n and different
@@ -60,7 +61,8 @@ named-below n (l ∷ ls) done f a b t = at (or-e (X || Y) (named ls a b) t) (λ 
 
 -- ---- the lists of such links are accepted
 
-module _ (n : ℕ) (ls : List (ℕ × ℕ)) (some-node : 1 ≤ n) (size : n ≤ 1024) (few : length ls ≤ 16384) (f : AllFresh n [] ls) (more others : List ℕ) where
+module _ (n : ℕ) (ls : List (ℕ × ℕ)) (some-node : 1 ≤ n) (size : n ≤ 1024) (few : length ls ≤ 16384) (f : AllFresh n [] ls)
+    (more others : List ℕ) where
   starts : List ℕ
   starts = startsOf n (graphOf n ls) ++ more
 
@@ -78,7 +80,7 @@ module _ (n : ℕ) (ls : List (ℕ × ℕ)) (some-node : 1 ≤ n) (size : n ≤ 
   last : getD starts n 0 ≡ 2 * length ls
   last = start n (omega arith) ∙ links-total n ls f
 
-  -- a neighbour of a node below n is one that a line names with it
+  -- a line names each neighbour of a node below n with that node
   own-named : (v x : ℕ) → v < n → T (has x (neighboursOf starts neighbours v)) → T (named ls v x)
   unfolding graphOf
   own-named v x h m = of-keep (named ls v) (upTo n) x (subst (λ (l : List ℕ). T (has x l)) (own v h) m) .1
@@ -97,10 +99,14 @@ module _ (n : ℕ) (ls : List (ℕ × ℕ)) (some-node : 1 ≤ n) (size : n ≤ 
     room = omega (arith, length-append (startsOf n (graphOf n ls)) more, starts-length n (graphOf n ls));
     lists = record {
       first = start 0 zero-le ∙ total-zero (graphOf n ls);
-      rising = λ v h. let a = start v (omega arith) in let b = start (v + 1) (omega arith) ∙ ap (total (graphOf n ls)) (add-one v) ∙ total-suc (graphOf n ls) v in omega arith;
+      rising = λ v h.
+          let a = start v (omega arith) in
+          let b = start (v + 1) (omega arith) ∙ ap (total (graphOf n ls)) (add-one v) ∙ total-suc (graphOf n ls) v in
+          omega arith;
       even = omega (arith, last);
       few-links = omega (arith, last);
-      within = omega (arith, start n (omega arith), neighbours-length n (graphOf n ls), length-append (neighboursFrom n (graphOf n ls)) others);
+      within =
+          omega (arith, start n (omega arith), neighbours-length n (graphOf n ls), length-append (neighboursFrom n (graphOf n ls)) others);
       sorted = λ v h. subst (λ (l : List ℕ). T (ascending l)) (sym (own v h)) (keep-ascending (named ls v) n);
       loopless = λ v x h m e. named-below n ls [] f v x (own-named v x h m) .2 (sym e);
       graph = record {
@@ -144,15 +150,20 @@ module _ (N M p q : ℕ) (nodes : N ≤ 1024) (links : M ≤ 16384) (text : List
   -- the lists are accepted
   pub read-accepted : Accepted (x .nodes) (readingOf p q (answered x) .starts) (readingOf p q (answered x) .neighbours)
   unfolding readingOf over starts neighbours
-  read-accepted = lists-accepted (x .nodes) (x .links) (facts .within .some-node) (omega (arith, facts .within .size)) (omega (arith, facts .within .few)) (facts .fresh) _ _
+  read-accepted = lists-accepted (x .nodes) (x .links) (facts .within .some-node) (omega (arith, facts .within .size))
+      (omega (arith, facts .within .few)) (facts .fresh) _ _
 
   -- their links are those that the lines name
-  pub read-exactly : (a b : ℕ) → linked (x .nodes) (neighboursOf (readingOf p q (answered x) .starts) (readingOf p q (answered x) .neighbours)) a b ≡ named (x .links) a b
+  pub read-exactly : (a b : ℕ)
+      → linked (x .nodes) (neighboursOf (readingOf p q (answered x) .starts) (readingOf p q (answered x) .neighbours)) a b
+      ≡ named (x .links) a b
   unfolding readingOf over starts neighbours
-  read-exactly = links-exactly (x .nodes) (x .links) (facts .within .some-node) (omega (arith, facts .within .size)) (omega (arith, facts .within .few)) (facts .fresh) _ _
+  read-exactly = links-exactly (x .nodes) (x .links) (facts .within .some-node) (omega (arith, facts .within .size))
+      (omega (arith, facts .within .few)) (facts .fresh) _ _
 
   -- their neighbours are those of the links, past n too
-  pub read-graph : neighboursOf (readingOf p q (answered x) .starts) (readingOf p q (answered x) .neighbours) ≡ graphOf (x .nodes) (x .links)
+  pub read-graph : neighboursOf (readingOf p q (answered x) .starts) (readingOf p q (answered x) .neighbours)
+      ≡ graphOf (x .nodes) (x .links)
   unfolding readingOf over neighboursOf graphOf
   read-graph = fun-ext (λ v. ⊎-elim (inside v) (outside v) (lt-or v (x .nodes)))
     where
@@ -169,14 +180,16 @@ module _ (N M p q : ℕ) (nodes : N ≤ 1024) (links : M ≤ 16384) (text : List
       outside v h =
           let z : getD s (v + 1) 0 - getD s v 0 ≡ 0 = omega (arith, past-starts (x .nodes) (graphOf (x .nodes) (x .links)) p v h) in
           ap (λ (k : ℕ). take k (drop (getD s v 0) l)) z
-          ∙ sym (keep-none (named (x .links) v) (upTo (x .nodes)) (λ y m t. absurd (omega (arith, named-below (x .nodes) (x .links) [] (facts .fresh) v y t .0))))
+          ∙ sym (keep-none (named (x .links) v) (upTo (x .nodes))
+          (λ y m t. absurd (omega (arith, named-below (x .nodes) (x .links) [] (facts .fresh) v y t .0))))
 
 -- what reading accepts is an accepted survey, with exactly the links that the lines name
 pub reading-right : (text : List ℕ) (p q : ℕ) → ReadRight text (reading text p q)
 unfolding reading readingOf
 reading-right text p q x e = at (parse 1024 16384 p q text) refl e
   where
-    at : (o : Outcome Parsed) → parse 1024 16384 p q text ≡ o → readingOf p q o .answer ≡ answered x → IsRead text x (readingOf p q o .starts) (readingOf p q o .neighbours)
+    at : (o : Outcome Parsed) → parse 1024 16384 p q text ≡ o → readingOf p q o .answer ≡ answered x
+        → IsRead text x (readingOf p q o .starts) (readingOf p q o .neighbours)
     at (refused k) h e = never e
     at (answered y) h e =
         let s : _≡_ {A = Size} (record { nodes = y .nodes; links = length (y .links) }) x = cc in
@@ -191,7 +204,8 @@ reading-right text p q x e = at (parse 1024 16384 p q text) refl e
 -- ---- a text that is written: in front of the buffer, or not at all
 
 module _ (text buffer : List ℕ) where
-  pub write-whole : length text ≤ length buffer → writingOf (answered tt) text buffer ≡ record { answer = answered (length text); buffer = over text buffer }
+  pub write-whole : length text ≤ length buffer
+      → writingOf (answered tt) text buffer ≡ record { answer = answered (length text); buffer = over text buffer }
   unfolding writingOf
   write-whole h = rw (le-ltb (length buffer) (length text) h) refl
 
@@ -200,7 +214,8 @@ module _ (text buffer : List ℕ) where
   write-short h = rw (lt-ltb (length buffer) (length text) h) refl
 
   -- the length that is answered is within the buffer
-  pub write-fits : (k : ℕ) (left : List ℕ) → record { answer = answered k; buffer = left } ≡ writingOf (answered tt) text buffer → k ≤ length left
+  pub write-fits : (k : ℕ) (left : List ℕ)
+      → record { answer = answered k; buffer = left } ≡ writingOf (answered tt) text buffer → k ≤ length left
   unfolding over numberIn
   write-fits k left e = ⊎-elim
       (λ h. never (sym (ap (λ (w : AfterWriting). w .answer) (e ∙ write-short h))))
@@ -254,13 +269,15 @@ row-complete a (b ∷ l) v h = at (of-cons v b l h) (λ r. row-complete a l v r)
     X = (eqb a a && eqb b v) || (eqb a v && eqb b a)
 
     at : (v ≡ b) ⊎ T (has v l) → (T (has v l) → T (named (row a l) a v)) → T (X || named (row a l) a v)
-    at (inl e) rec = or-l X (named (row a l) a v) (or-l (eqb a a && eqb b v) (eqb a v && eqb b a) (and-i (eqb a a) (eqb b v) (eq-T a a refl) (eq-T b v (sym e))))
+    at (inl e) rec = or-l X (named (row a l) a v)
+        (or-l (eqb a a && eqb b v) (eqb a v && eqb b a) (and-i (eqb a a) (eqb b v) (eq-T a a refl) (eq-T b v (sym e))))
     at (inr r) rec = or-r X (named (row a l) a v) (rec r)
 
 gather-sound : (f : ℕ → List (ℕ × ℕ)) (l : List ℕ) (u v : ℕ) → T (named (gather f l) u v) → (a : ℕ) × T (has a l) × T (named (f a) u v)
 unfolding gather named
 gather-sound f [] u v t = absurd t
-gather-sound f (x ∷ l) u v t = at (or-e (named (f x) u v) (named (gather f l) u v) (subst T (named-append (f x) (gather f l) u v) t)) (λ r. gather-sound f l u v r)
+gather-sound f (x ∷ l) u v t =
+    at (or-e (named (f x) u v) (named (gather f l) u v) (subst T (named-append (f x) (gather f l) u v) t)) (λ r. gather-sound f l u v r)
   where
     at : T (named (f x) u v) ⊎ T (named (gather f l) u v) → (T (named (gather f l) u v) → (a : ℕ) × T (has a l) × T (named (f a) u v))
         → (a : ℕ) × T (has a (x ∷ l)) × T (named (f a) u v)
@@ -270,20 +287,23 @@ gather-sound f (x ∷ l) u v t = at (or-e (named (f x) u v) (named (gather f l) 
 gather-complete : (f : ℕ → List (ℕ × ℕ)) (l : List ℕ) (a u v : ℕ) → T (has a l) → T (named (f a) u v) → T (named (gather f l) u v)
 unfolding gather
 gather-complete f [] a u v h t = absurd (none-in a h)
-gather-complete f (x ∷ l) a u v h t = subst T (sym (named-append (f x) (gather f l) u v)) (at (of-cons a x l h) (λ r. gather-complete f l a u v r t))
+gather-complete f (x ∷ l) a u v h t =
+    subst T (sym (named-append (f x) (gather f l) u v)) (at (of-cons a x l h) (λ r. gather-complete f l a u v r t))
   where
     at : (a ≡ x) ⊎ T (has a l) → (T (has a l) → T (named (gather f l) u v)) → T (named (f x) u v || named (gather f l) u v)
     at (inl e) rec = or-l (named (f x) u v) (named (gather f l) u v) (subst (λ (k : ℕ). T (named (f k) u v)) e t)
     at (inr r) rec = or-r (named (f x) u v) (named (gather f l) u v) (rec r)
 
--- every pair named before comes before (a, k)
+-- every pair u < v that is named comes before (a, k)
 AllLess : List (ℕ × ℕ) → ℕ → ℕ → Type 0
 AllLess done a k = (u v : ℕ) → T (named done u v) → u < v → (u < a) ⊎ ((u ≡ a) × (v < k))
 
-row-fresh : (n a k : ℕ) (l : List ℕ) (done ks : List (ℕ × ℕ)) → a < n → T (ascending l) → ((b : ℕ) → T (has b l) → (a < b) × (b < n) × (k ≤ b)) → AllLess done a k
+row-fresh : (n a k : ℕ) (l : List ℕ) (done ks : List (ℕ × ℕ)) → a < n → T (ascending l)
+    → ((b : ℕ) → T (has b l) → (a < b) × (b < n) × (k ≤ b)) → AllLess done a k
     → ((done′ : List (ℕ × ℕ)) → AllLess done′ (suc a) 0 → AllFresh n done′ ks) → AllFresh n done (row a l ++ ks)
 unfolding row AllLess named
-row-fresh n a k [] done ks ha asc b less next = next done (λ u v t h. inl (⊎-elim (λ x. omega arith) (λ x. omega (arith, x .0)) (less u v t h)))
+row-fresh n a k [] done ks ha asc b less next =
+    next done (λ u v t h. inl (⊎-elim (λ x. omega arith) (λ x. omega (arith, x .0)) (less u v t h)))
 row-fresh n a k (y ∷ l) done ks ha asc b less next =
     let c = b y (has-head y l) in (
       record {
@@ -319,7 +339,8 @@ row-fresh n a k (y ∷ l) done ks ha asc b less next =
             (or-e X Y s)
         at (inr s) = ⊎-elim (λ x. inl x) (λ x. inr (x .0, omega (arith, x .1, c .2))) (less u v s h)
 
-rows-fresh : (n : ℕ) (G : Graph) (k a : ℕ) (done : List (ℕ × ℕ)) → a + k ≡ n → ((v : ℕ) → v < n → T (ascending (G v))) → ((v x : ℕ) → v < n → T (has x (G v)) → x < n)
+rows-fresh : (n : ℕ) (G : Graph) (k a : ℕ) (done : List (ℕ × ℕ)) → a + k ≡ n → ((v : ℕ) → v < n → T (ascending (G v)))
+    → ((v x : ℕ) → v < n → T (has x (G v)) → x < n)
     → AllLess done a 0 → AllFresh n done (gather (λ a. row a (keep (λ b. ltb a b) (G a))) (from a k))
 unfolding from gather
 rows-fresh n G zero a done e asc b less = tt
@@ -351,7 +372,8 @@ module _ (n : ℕ) (starts′ neighbours′ : List ℕ) (acc : Accepted n starts
       let ha = of-upTo n a (i .1) in
       ⊎-elim
       (λ r. subst (λ (k : ℕ). T (has x (G k))) (sym (r .0)) (of-keep (λ b. ltb a b) (G a) x (r .1) .0))
-      (λ r. subst (λ (k : ℕ). T (has k (G v))) (sym (r .0)) (acc .lists .graph .symmetric a v ha (of-keep (λ b. ltb a b) (G a) v (r .1) .0)))
+      (λ r. subst (λ (k : ℕ). T (has k (G v))) (sym (r .0))
+      (acc .lists .graph .symmetric a v ha (of-keep (λ b. ltb a b) (G a) v (r .1) .0)))
       (row-sound a (keep (λ b. ltb a b) (G a)) v x (i .2))
 
   up-named : (v x : ℕ) → v < n → v < x → T (has x (neighboursOf starts′ neighbours′ v)) → T (named ls v x)
@@ -386,7 +408,8 @@ module _ (n : ℕ) (starts′ neighbours′ : List ℕ) (acc : Accepted n starts
   pub half-count : getD starts′ n 0 / 2 ≡ length (ordered n (neighboursOf starts′ neighbours′))
   half-count = omega (arith, ordered-count)
 
-  pub read-back : (p q : ℕ) → n + 1 ≤ p → getD starts′ n 0 ≤ q → reading (textOf n starts′ neighbours′) p q ≡ asRead n starts′ neighbours′ p q
+  pub read-back : (p q : ℕ) → n + 1 ≤ p → getD starts′ n 0 ≤ q
+      → reading (textOf n starts′ neighbours′) p q ≡ asRead n starts′ neighbours′ p q
   unfolding asRead reading readingOf textOf ls
   read-back p q hp hq =
       let x : Parsed = record { nodes = n; links = ls } in
@@ -404,8 +427,11 @@ module _ (n : ℕ) (starts′ neighbours′ : List ℕ) (acc : Accepted n starts
       }) in
       ap (readingOf p q) r ∙ (λ i. record {
         answer = answered (record { nodes = n; links = sym half-count i });
-        starts = over ((starts-same n (graphOf n ls) G graph-back ∙ own-starts n starts′ neighbours′ (acc .lists) (acc .room)) i) (replicate p 0);
-        neighbours = over ((neighbours-same n (graphOf n ls) G graph-back ∙ own-neighbours n starts′ neighbours′ (acc .lists)) i) (replicate q 0);
+        starts =
+            over ((starts-same n (graphOf n ls) G graph-back ∙ own-starts n starts′ neighbours′ (acc .lists) (acc .room)) i)
+            (replicate p 0);
+        neighbours =
+            over ((neighbours-same n (graphOf n ls) G graph-back ∙ own-neighbours n starts′ neighbours′ (acc .lists)) i) (replicate q 0);
       })
 
   -- a survey's text, in a buffer that is long enough

@@ -39,7 +39,7 @@ use Rattle.model.proofs.Entries.{long-tables}
 use Rattle.model.proofs.Demand.{full-room, low-room, report-room, asks, walks, walking-short, walking-right}
 use Rattle.model.proofs.ReadBack.{all-fresh, half-count, writing-answers}
 
--- two refusals are the same only where their numbers are
+-- equal refusals have equal numbers
 same-number : {A : Type 0} (j k : ℕ) → _≡_ {A = Outcome A} (refused j) (refused k) → j ≡ k
 unfolding numberIn
 same-number {A} j k e = ap (numberIn (λ (x : A). 0)) e
@@ -84,7 +84,8 @@ module _ (n : ℕ) (starts neighbours : List ℕ) (acc : Accepted n starts neigh
       )
 
   -- a buffer of so many bytes is never refused 12
-  pub writing-enough : (buffer : List ℕ) → mostText ≤ length buffer → writing n starts neighbours buffer .answer ≡ answered (length (textOf n starts neighbours))
+  pub writing-enough : (buffer : List ℕ) → mostText ≤ length buffer
+      → writing n starts neighbours buffer .answer ≡ answered (length (textOf n starts neighbours))
   writing-enough buffer h = ap (λ (r : AfterWriting). r .answer) (writing-answers n starts neighbours acc buffer (omega (arith, text-few)))
 
 -- ---- the lists that reading fills
@@ -106,12 +107,14 @@ links-not-eight n (suc m) done (c ∷ text) e = at (line 76 (c ∷ text)) (λ l.
     more l (refused k) f e = f (ap refused (same-number k 8 e))
     more l (answered x) f e = never (sym e)
 
-    at : (o : Option (ℕ × ℕ × List ℕ)) → ((l : ℕ × ℕ × List ℕ) → next (l .0) (l .1) (l .2) ≡ refused 8 → ⊥) → readOn next (linkOf n (named done) o) ≡ refused 8 → ⊥
+    at : (o : Option (ℕ × ℕ × List ℕ)) → ((l : ℕ × ℕ × List ℕ) → next (l .0) (l .1) (l .2) ≡ refused 8 → ⊥)
+        → readOn next (linkOf n (named done) o) ≡ refused 8 → ⊥
     at missing rec = λ e. omega (arith, same-number 1 8 e)
     at (some l) rec =
         picked P (leb n (l .0) || leb n (l .1)) _ _ (λ _ e. omega (arith, same-number 4 8 e)) (λ _.
         picked P (eqb (l .0) (l .1)) _ _ (λ _ e. omega (arith, same-number 5 8 e)) (λ _.
-        picked P (named done (l .0) (l .1)) _ _ (λ _ e. omega (arith, same-number 6 8 e)) (λ _. more l (next (l .0) (l .1) (l .2)) (rec l))))
+        picked P (named done (l .0) (l .1)) _ _ (λ _ e. omega (arith, same-number 6 8 e))
+        (λ _. more l (next (l .0) (l .1) (l .2)) (rec l))))
 
 -- lists of 1,025 and 32,768 entries are never refused 8
 pub reading-enough : (text : List ℕ) (p q : ℕ) → 1025 ≤ p → 32768 ≤ q → reading text p q .answer ≡ refused 8 → ⊥
@@ -152,7 +155,8 @@ module _ (n s : ℕ) (G : Graph) (g : IsGraph n G) where
       let c = subst (λ (o : Option (List ℕ)). Sound (linked n G) (left v) v goal o) e (steps-sound n G g may left goal (left v) v h) .1 in
       ⊎-elim
       (λ k. omega (arith, c, k))
-      (λ k. absurd (let f = sym e ∙ too-long n G g may left goal (left v) v h (omega arith) k in let z : _≡_ {A = ℕ} 0 1 = cc in omega arith))
+      (λ k. absurd (let f = sym e ∙ too-long n G g may left goal (left v) v h (omega arith) k in
+      let z : _≡_ {A = ℕ} 0 1 = cc in omega arith))
       (lt-or (left v) n)
 
   join-few : (p q : Option (List ℕ)) → ((l : List ℕ) → p ≡ some l → length l ≤ n) → ((l : List ℕ) → q ≡ some l → length l ≤ n)
@@ -165,7 +169,8 @@ module _ (n s : ℕ) (G : Graph) (g : IsGraph n G) where
       omega (arith, sym (ap length k) ∙ length-append p (tail (reverse q)), tail-few (reverse q), length-reverse q, f p refl, h q refl)
 
   -- the nodes of a walk are at most 2 n
-  nodes-few : (full low : List ℕ) (a b : ℕ) → a < n → b < n → (t : Route) (l : List ℕ) → walkNodes n s G full low a b t ≡ some l → length l ≤ 2 * n
+  nodes-few : (full low : List ℕ) (a b : ℕ) → a < n → b < n → (t : Route) (l : List ℕ) → walkNodes n s G full low a b t ≡ some l
+      → length l ≤ 2 * n
   unfolding walkNodes byLow toHub
   nodes-few full low a b ha hb Itself l e = let k : a ∷ [] ≡ l = cc in omega (arith, ap length k)
   nodes-few full low a b ha hb Low l e = omega (arith, part-few (isLow s G) (λ x. entryAt n low x b) b a ha l e)
@@ -174,7 +179,7 @@ module _ (n s : ℕ) (G : Graph) (g : IsGraph n G) where
       (part-few (λ x. true) (λ x. entryAt n full h x) h a ha) (part-few (λ x. true) (λ x. entryAt n full h x) h b hb) l e
   nodes-few full low a b ha hb NoRoute l e = let k : [] ≡ l = cc in omega (arith, ap length k)
 
--- a walk list of 2 n entries is refused 8 only together with `starts` or a table
+-- with a walk list of 2 n entries or more, a walk is refused 8 only for `starts` or a table
 pub walking-enough : (n : ℕ) (starts neighbours full low report : List ℕ) (a b w : ℕ) → 2 * n ≤ w
     → walking n starts neighbours full low report a b w .answer ≡ refused 8
     → T (ltb (length starts) (n + 1) || shortTables n (length full) (length low) (length report))
@@ -186,7 +191,8 @@ walking-enough n starts neighbours full low report a b w h =
     picked P (leb n a || leb n b) _ _ (λ _ e. absurd (omega (arith, same-number 10 8 e))) (λ below.
     let i = of-or-false (leb n a) (leb n b) below in
     let g = survey-facts n starts neighbours (not-not (isSurvey n starts neighbours) lists) .graph in
-    answers g (leb-false n a (i .0)) (leb-false n b (i .1)) (chosen a b r (entryAt n low a b) (attaining (taken n full a b) n full a b r))))))
+    answers g (leb-false n a (i .0)) (leb-false n b (i .1))
+    (chosen a b r (entryAt n low a b) (attaining (taken n full a b) n full a b r))))))
   where
     G : Graph
     G = neighboursOf starts neighbours
@@ -205,9 +211,11 @@ walking-enough n starts neighbours full low report a b w h =
     fitted x (some l) f e = never (sym e ∙ ap (λ (y : AfterWalking). y .answer) (fit-long w x l (omega (arith, f l refl))))
 
     walk : IsGraph n G → a < n → b < n → (x : Answer) → P (fit w x (walkNodes n (threshold n) G full low a b (x .route)))
-    walk g ha hb x = fitted x (walkNodes n (threshold n) G full low a b (x .route)) (nodes-few n (threshold n) G g full low a b ha hb (x .route))
+    walk g ha hb x =
+        fitted x (walkNodes n (threshold n) G full low a b (x .route)) (nodes-few n (threshold n) G g full low a b ha hb (x .route))
 
-    answers : IsGraph n G → a < n → b < n → {l k : ℕ} {q : Outcome Answer} → Chosen a b r l k q → P (walkOf w n (threshold n) G full low a b q)
+    answers : IsGraph n G → a < n → b < n → {l k : ℕ} {q : Outcome Answer} → Chosen a b r l k q
+        → P (walkOf w n (threshold n) G full low a b q)
     answers g ha hb (to-itself e z) = walk g ha hb _
     answers g ha hb (to-none x e) = walk g ha hb _
     answers g ha hb (to-low x f e) = walk g ha hb _
@@ -215,7 +223,7 @@ walking-enough n starts neighbours full low report a b w h =
     answers g ha hb (bad-itself e f) = λ q. absurd (omega (arith, same-number 11 8 q))
     answers g ha hb (bad-hub x f y z) = λ q. absurd (omega (arith, same-number 11 8 q))
 
--- with tables built from an accepted survey it is always enough
+-- with tables built from an accepted survey, 2 n entries are always enough
 pub built-enough : (n : ℕ) (starts neighbours : List ℕ) → Accepted n starts neighbours → (full low report : List ℕ)
     → AreBuilt n (threshold n) (neighboursOf starts neighbours) full low report → (a b : ℕ) → a < n → b < n
     → (w : ℕ) → 2 * n ≤ w → walking n starts neighbours full low report a b w .answer ≡ asking n full low report a b
@@ -223,7 +231,8 @@ unfolding walkOf fit refuseWalk
 built-enough n starts neighbours acc full low report own a b ha hb w h =
     ⊎-elim
     (λ z. answers w (inl z) ∙ sym (asked .given))
-    (λ m. ⊎-elim (λ l. answers w (inr l) ∙ sym (asked .given)) (λ l. absurd (found m l (walkNodes n s G full low a b (x .route)) refl)) (lt-or (x .report) w))
+    (λ m. ⊎-elim (λ l. answers w (inr l) ∙ sym (asked .given)) (λ l. absurd (found m l (walkNodes n s G full low a b (x .route)) refl))
+    (lt-or (x .report) w))
     (eq-or (x .report) none)
   where
     s : ℕ
@@ -254,7 +263,7 @@ built-enough n starts neighbours acc full low report own a b ha hb w h =
     short = or-false (ltb (length starts) (n + 1)) (shortTables n (length full) (length low) (length report))
         (le-ltb (length starts) (n + 1) (acc .room)) (long-tables n (length full) (length low) (length report) hf hl hr)
 
-    -- a report of w or more would be that of a walk of more than 2 n nodes
+    -- a report of w or more would have a walk of more than 2 n nodes
     found : (x .report ≡ none → ⊥) → w ≤ x .report → (o : Option (List ℕ)) → walkNodes n s G full low a b (x .route) ≡ o → ⊥
     found m l missing f =
         let v = suc (x .report) in

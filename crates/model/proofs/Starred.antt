@@ -1,5 +1,5 @@
--- The starred cases, as one table that antt computes: what is asked, and what has to be said. A survey is given by its literal text, and
--- each case goes through the definitions that the contracts cite: reading, building, asking a pair, writing a walk, testing.
+-- The starred cases as one table, which antt computes: what is asked, and what has to be answered. A survey is given by its literal text,
+-- and each case goes through the definitions that the contracts cite: reading, building, asking a pair, writing a walk, testing.
 -- Assumes nothing.
 use mathlib.Core.Path.{_≡_, refl}
 use mathlib.Core.List.{List, [], _∷_, map}
@@ -24,7 +24,8 @@ use Rattle.model.specs.Tables.{rowsOf, table, entryAt, fullTable, lowLin
 use Rattle.model.specs.Pair.{withRoute, taken, attaining, choose, pairBy, pair}
 use Rattle.model.specs.Walk.{before, next, steps, byLow, toHub, join, walkNodes}
 use Rattle.model.specs.TwoOrFour.{sources, verdictOf, testResult}
-use Rattle.model.specs.Reading.{named, onLinks, linkOf, readOn, readLinks, parsed, countsOf, parseLinks, parse, graphOf, startsOf, neighboursFrom, AfterReading, readingOf, reading}
+use Rattle.model.specs.Reading.{named, onLinks, linkOf, readOn, readLinks, parsed, countsOf, parseLinks, parse}
+use Rattle.model.specs.Reading.{graphOf, startsOf, neighboursFrom, AfterReading, readingOf, reading}
 use Rattle.model.specs.Building.{AfterBuilding, built, building}
 use Rattle.model.specs.Asking.{asking}
 use Rattle.model.specs.Walking.{AfterWalking, refuseWalk, fit, walkOf, walking}
@@ -66,8 +67,8 @@ tables text =
     let blank = replicate (n * n) none in
     building n (lists text .starts) (lists text .neighbours) blank blank blank (replicate n none)
 
--- what is asked: the threshold of n nodes; a survey's high nodes, and its hub list; a pair's answer; its walk in a list of w entries; the sum
--- of its entries of Full through h; the fewest links between two nodes; the test
+-- what is asked: the threshold of n nodes; a survey's high nodes, and its hub list; a pair's answer; its walk in a list of w entries; the
+-- sum of its entries of Full through h; the fewest links between two nodes; the test
 pub data Question : Type 0 where
   threshold-of : (n : ℕ) → Question
   high-nodes hub-list : String → Question
@@ -108,7 +109,10 @@ starred =
     ∷ (hub-list course, list (0 ∷ none ∷ none ∷ none ∷ none ∷ none ∷ []))
     ∷ (ask course 1 3, report (answered (withRoute 4 (Through 0))))
     ∷ (walk course 1 3 5, walked (record { answer = answered (withRoute 4 (Through 0)); walk = 1 ∷ 5 ∷ 0 ∷ 5 ∷ 3 ∷ [] }))
-    ∷ (walk course 1 3 8, walked (record { answer = answered (withRoute 4 (Through 0)); walk = 1 ∷ 5 ∷ 0 ∷ 5 ∷ 3 ∷ none ∷ none ∷ none ∷ [] }))
+    ∷ (
+      walk course 1 3 8,
+      walked (record { answer = answered (withRoute 4 (Through 0)); walk = 1 ∷ 5 ∷ 0 ∷ 5 ∷ 3 ∷ none ∷ none ∷ none ∷ [] }),
+    )
     ∷ (ask course 5 5, report (answered (withRoute 0 Itself)))
     ∷ (hub-sum course 5 5 0, number 2)
     ∷ (test single, verdict (answered (record { verdict = Short; searches = 1 })))
@@ -121,7 +125,8 @@ pub starred-cases : map (λ c. reply (c .0)) starred ≡ map (λ c. c .1) starre
 unfolding starred reply tables graph size nodesIn lists bytes triangle chain single course
     from upTo has any all keep firstOf gather same over isDigit isNumber valueFrom valueOf
     onFirst split onFront cut twoNumbers withRest lineIn line neighboursOf linked ascending badSize isSurvey accepting
-    bitLength threshold isHigh isLow closed gain best greedy hubs hubList reach fewest rowsOf table entryAt fullTable lowLinks lowTable sum via reportTable
+    bitLength threshold isHigh isLow closed gain best greedy hubs hubList reach fewest rowsOf table entryAt fullTable
+    lowLinks lowTable sum via reportTable
     taken attaining choose pairBy pair before next steps byLow toHub join walkNodes sources verdictOf testResult
     named onLinks linkOf readOn readLinks parsed countsOf parseLinks parse graphOf startsOf neighboursFrom readingOf reading
     built building asking refuseWalk fit walkOf walking testing

@@ -1,5 +1,5 @@
--- The two lists of a graph: they give each node's neighbours back, a survey's lists are those of its own graph, and entries past
--- those used make no difference.
+-- The two lists of a graph. They give each node's neighbours back; a survey's lists are those of its own graph; and entries past those
+-- used make no difference.
 -- Assumes nothing.
 use mathlib.Core.Path.{_≡_, refl, sym, ap, ap₂, _∙_, subst}
 use mathlib.Core.Bool.{Bool, not}
@@ -86,7 +86,7 @@ module _ (n : ℕ) (G H : Graph) (same : (v : ℕ) → v < n → G v ≡ H v) wh
       let b : i < n + 1 = omega (arith, length-row f (n + 1)) in
       getD-row f (n + 1) i 0 b ∙ ap length (gather-below i (omega arith)) ∙ sym (getD-row g (n + 1) i 0 b))
 
--- starts that never fall rise up to the last
+-- where no start is less than the one before, none is above the last
 module _ (n : ℕ) (starts : List ℕ) (rising : (v : ℕ) → v < n → getD starts v 0 ≤ getD starts (v + 1) 0) where
   rises : (k v : ℕ) → v + k ≡ n → getD starts v 0 ≤ getD starts n 0
   rises zero v e = subst (λ (x : ℕ). getD starts v 0 ≤ getD starts x 0) (sym (add-zero v) ∙ e) (omega arith)
@@ -118,7 +118,8 @@ module _ (n : ℕ) (starts neighbours : List ℕ) (s : IsSurvey n starts neighbo
 
   pub own-total : (v : ℕ) → v ≤ n → total (neighboursOf starts neighbours) v ≡ getD starts v 0
   unfolding total
-  own-total v h = ap length (front v h) ∙ length-take (getD starts v 0) neighbours ∙ omega (arith, start-last n starts (s .rising) v h, s .within)
+  own-total v h =
+      ap length (front v h) ∙ length-take (getD starts v 0) neighbours ∙ omega (arith, start-last n starts (s .rising) v h, s .within)
 
   pub own-neighbours : neighboursFrom n (neighboursOf starts neighbours) ≡ take (getD starts n 0) neighbours
   unfolding neighboursFrom
@@ -149,9 +150,10 @@ pub record Agree (n : ℕ) (starts neighbours starts′ neighbours′ : List ℕ
 module _ (n : ℕ) (starts neighbours starts′ neighbours′ : List ℕ) (e : Agree n starts neighbours starts′ neighbours′) where
   same-start : (v : ℕ) → v ≤ n → getD starts v 0 ≡ getD starts′ v 0
   same-start v h =
-      sym (getD-take (n + 1) starts v 0 (omega arith)) ∙ ap (λ (l : List ℕ). getD l v 0) (e .starts-used) ∙ getD-take (n + 1) starts′ v 0 (omega arith)
+      sym (getD-take (n + 1) starts v 0 (omega arith)) ∙ ap (λ (l : List ℕ). getD l v 0) (e .starts-used)
+      ∙ getD-take (n + 1) starts′ v 0 (omega arith)
 
-  -- the same turned round
+  -- the same with the two pairs exchanged
   agree-sym : Agree n starts′ neighbours′ starts neighbours
   agree-sym = record {
     starts-used = sym (e .starts-used);
@@ -183,12 +185,20 @@ module _ (n : ℕ) (starts neighbours starts′ neighbours′ : List ℕ) (e : A
         rising = λ v h. let u = s .rising v h in omega (arith, same-start v (omega arith), same-start (v + 1) (omega arith));
         even = subst (λ (k : ℕ). k % 2 ≡ 0) last (s .even);
         few-links = subst (λ (k : ℕ). k / 2 ≤ 16384) last (s .few-links);
-        within = omega (arith, last, s .within, length-take (getD starts n 0) neighbours, length-take (getD starts n 0) neighbours′, ap length (e .neighbours-used));
+        within = omega (
+          arith,
+          last,
+          s .within,
+          length-take (getD starts n 0) neighbours,
+          length-take (getD starts n 0) neighbours′,
+          ap length (e .neighbours-used),
+        );
         sorted = λ v h. subst (λ (l : List ℕ). T (ascending l)) (past-own′ s v h) (s .sorted v h);
         loopless = λ v x h m. s .loopless v x h (there v x h m);
         graph = record {
           below = λ v x h m. s .graph .below v x h (there v x h m);
-          symmetric = λ v x h m. let t = there v x h m in subst (λ (l : List ℕ). T (has v l)) (past-own′ s x (s .graph .below v x h t)) (s .graph .symmetric v x h t);
+          symmetric = λ v x h m. let t = there v x h m in
+              subst (λ (l : List ℕ). T (has v l)) (past-own′ s x (s .graph .below v x h t)) (s .graph .symmetric v x h t);
         };
       }
 
@@ -196,7 +206,8 @@ module _ (n : ℕ) (starts neighbours starts′ neighbours′ : List ℕ) (e : A
   -- both are accepted, or both are refused with the same number
   pub past-ignored : accepting n starts neighbours ≡ accepting n starts′ neighbours′
   unfolding accepting
-  past-ignored = ap₂ (λ (p q : Bool). if badSize n then refused 2 else if p then refused 8 else if not q then refused 9 else answered tt) short lists
+  past-ignored =
+      ap₂ (λ (p q : Bool). if badSize n then refused 2 else if p then refused 8 else if not q then refused 9 else answered tt) short lists
     where
       size : min (n + 1) (length starts) ≡ min (n + 1) (length starts′)
       size = sym (length-take (n + 1) starts) ∙ ap length (e .starts-used) ∙ length-take (n + 1) starts′
@@ -208,9 +219,11 @@ module _ (n : ℕ) (starts neighbours starts′ neighbours′ : List ℕ) (e : A
 
       lists : isSurvey n starts neighbours ≡ isSurvey n starts′ neighbours′
       lists = same-test (isSurvey n starts neighbours) (isSurvey n starts′ neighbours′)
-          (λ t. survey-test n starts′ neighbours′ (survey-past n starts neighbours starts′ neighbours′ e (survey-facts n starts neighbours t)))
+          (λ t. survey-test n starts′ neighbours′
+          (survey-past n starts neighbours starts′ neighbours′ e (survey-facts n starts neighbours t)))
           (λ t. survey-test n starts neighbours
-          (survey-past n starts′ neighbours′ starts neighbours (agree-sym n starts neighbours starts′ neighbours′ e) (survey-facts n starts′ neighbours′ t)))
+          (survey-past n starts′ neighbours′ starts neighbours (agree-sym n starts neighbours starts′ neighbours′ e)
+          (survey-facts n starts′ neighbours′ t)))
 
   -- and where they are accepted, the nodes have the same neighbours and the same links
   module _ (acc : Accepted n starts neighbours) where

@@ -17,7 +17,7 @@ use Rattle.model.proofs.Chains.{fewest-is, fewest-cases}
 use Rattle.model.proofs.Acceptance.{linked-is, linked-ends}
 use Rattle.model.proofs.Entries.{entry-table}
 
--- tests that agree below n leave the same links
+-- tests that agree on the nodes below n leave the same links
 pub between-same : (p q : ℕ → Bool) (n : ℕ) (G : Graph) → ((v : ℕ) → v < n → p v ≡ q v) → between p (linked n G) ≡ between q (linked n G)
 between-same p q n G e = fun-ext (λ a. fun-ext (λ b. at a b (passes (linked n G a b))))
   where
@@ -29,7 +29,7 @@ between-same p q n G e = fun-ext (λ a. fun-ext (λ b. at a b (passes (linked n 
         none-left true = refl
         none-left false = refl
 
--- all nodes are allowed
+-- the test that every node below n passes leaves all links
 pub all-allowed : (p : ℕ → Bool) (n : ℕ) (G : Graph) → p ≡ (λ v. ltb v n) → between p (linked n G) ≡ linked n G
 all-allowed p n G e =
     between-same p (λ v. true) n G (λ v h. ap (λ (f : ℕ → Bool). f v) e ∙ lt-ltb v n h)
@@ -74,7 +74,7 @@ module _ (n s : ℕ) (G : Graph) (g : IsGraph n G) where
   unfolding fullTable guarded
   full-joined = guarded-joined n (λ h b. has h (hubs n s G)) (linked n G) (linked-ends n G)
 
-  -- low means both ends
+  -- both ends of a low link are low
   pub both-low : (u v : ℕ) → T (lowLinks n s G u v) → T (isLow s G u) × T (isLow s G v)
   unfolding lowLinks
   both-low u v t =

@@ -102,11 +102,11 @@ lt-or x y = go (ltb x y) refl
 pub ltb-same : (x y z w : ℕ) → (x < y → z < w) → (y ≤ x → w ≤ z) → ltb x y ≡ ltb z w
 ltb-same x y z w f g = ⊎-elim (λ l. lt-ltb x y l ∙ sym (lt-ltb z w (f l))) (λ l. le-ltb x y l ∙ sym (le-ltb z w (g l))) (lt-or x y)
 
--- below the next number, where it is not v itself
+-- a number other than v is below v + 1 exactly where it is below v
 pub ltb-next : (x v : ℕ) → (x ≡ v → ⊥) → ltb x v ≡ ltb x (v + 1)
 ltb-next x v d = ltb-same x v x (v + 1) (λ l. omega arith) (λ l. omega arith)
 
--- not at least y: less than y; and the other way
+-- x is not at least y exactly where it is less; and the other way round
 pub not-leb : (x y : ℕ) → not (leb y x) ≡ ltb x y
 not-leb x y = at (lt-or x y)
   where
@@ -117,7 +117,7 @@ not-leb x y = at (lt-or x y)
 pub not-ltb : (x y : ℕ) → not (ltb x y) ≡ leb y x
 not-ltb x y = ap not (sym (not-leb x y)) ∙ Bool·not-not (leb y x)
 
--- what holds of both values holds of the one that a test picks
+-- what holds of each value where the test picks it holds of the one picked
 pub picked : {A : Type 0} (P : A → Type 0) (t : Bool) (x y : A) → (t ≡ true → P x) → (t ≡ false → P y) → P (if t then x else y)
 picked P true x y f g = f refl
 picked P false x y f g = g refl

@@ -1,4 +1,4 @@
--- The neighbours of all nodes are two for each link.
+-- All nodes together have two neighbours for each link.
 -- Assumes nothing.
 use mathlib.Core.Path.{_≡_, refl, sym, ap, ap₂, _∙_, subst, fun-ext}
 use mathlib.Core.Logic.{⊎-elim}
@@ -36,7 +36,8 @@ unfolding keep sumOver bit
 keep-sum p [] = refl
 keep-sum p (x ∷ l) = at (p x) (keep-sum p l)
   where
-    at : (b : Bool) → length (keep p l) ≡ sumOver (λ x. bit (p x)) l → length (if b then x ∷ keep p l else keep p l) ≡ bit b + sumOver (λ x. bit (p x)) l
+    at : (b : Bool) → length (keep p l) ≡ sumOver (λ x. bit (p x)) l
+        → length (if b then x ∷ keep p l else keep p l) ≡ bit b + sumOver (λ x. bit (p x)) l
     at true e = omega (arith, e)
     at false e = omega (arith, e)
 
@@ -54,7 +55,8 @@ sum-zero [] = refl
 sum-zero (x ∷ l) = omega (arith, sum-zero l)
 
 -- a number stands once among k, .., k + m - 1, or not at all
-once-from : (a k m : ℕ) → ((a < k) → sumOver (λ x. bit (eqb a x)) (from k m) ≡ 0) × (k ≤ a → a < k + m → sumOver (λ x. bit (eqb a x)) (from k m) ≡ 1)
+once-from : (a k m : ℕ)
+    → ((a < k) → sumOver (λ x. bit (eqb a x)) (from k m) ≡ 0) × (k ≤ a → a < k + m → sumOver (λ x. bit (eqb a x)) (from k m) ≡ 1)
 unfolding sumOver from bit
 once-from a k zero = (λ h. refl, λ h l. absurd (omega arith))
 once-from a k (suc m) = at (once-from a (suc k) m) (eqb a k) refl
@@ -65,7 +67,8 @@ once-from a k (suc m) = at (once-from a (suc k) m) (eqb a k) refl
     at : ((a < suc k) → R ≡ 0) × (suc k ≤ a → a < suc k + m → R ≡ 1) → (b : Bool) → eqb a k ≡ b
         → ((a < k) → bit b + R ≡ 0) × (k ≤ a → a < k + suc m → bit b + R ≡ 1)
     at i true e = (λ h. let q = eqb-true a k e in absurd (omega arith), λ h l. let q = eqb-true a k e in omega (arith, i .0 (omega arith)))
-    at i false e = (λ h. omega (arith, i .0 (omega arith)), λ h l. let q = eqb-false a k e in omega (arith, i .1 (omega arith) (omega arith)))
+    at i false e =
+        (λ h. omega (arith, i .0 (omega arith)), λ h l. let q = eqb-false a k e in omega (arith, i .1 (omega arith) (omega arith)))
 
 once : (a n : ℕ) → a < n → sumOver (λ x. bit (eqb a x)) (upTo n) ≡ 1
 unfolding upTo
@@ -125,7 +128,8 @@ module _ (n : ℕ) (done : List (ℕ × ℕ)) (l : ℕ × ℕ) (f : Fresh n (nam
   ends u v t = (eqb→eq (l .0) u (and-l (eqb (l .0) u) (eqb (l .1) v) t), eqb→eq (l .1) v (and-r (eqb (l .0) u) (eqb (l .1) v) t))
 
   no-there : (u v : ℕ) → T (there u v) → T (named done u v) → ⊥
-  no-there u v t s = let e = ends u v t in false-no (named done (l .0) (l .1)) (f .new) (subst T (ap₂ (named done) (sym (e .0)) (sym (e .1))) s)
+  no-there u v t s =
+      let e = ends u v t in false-no (named done (l .0) (l .1)) (f .new) (subst T (ap₂ (named done) (sym (e .0)) (sym (e .1))) s)
 
   no-back : (u v : ℕ) → T (back u v) → T (named done u v) → ⊥
   unfolding there back
@@ -135,18 +139,22 @@ module _ (n : ℕ) (done : List (ℕ × ℕ)) (l : ℕ × ℕ) (f : Fresh n (nam
   unfolding there back
   not-both u v s t = let e = ends u v s in let g = ends v u t in f .different (e .0 ∙ sym (g .1))
 
-  -- a new link makes two pairs more
+  -- a new link adds two pairs
   count-more : count (named (l ∷ done)) n ≡ count (named done) n + 2
   unfolding named there back
   count-more =
       let one = count-add (λ u v. there u v || back u v) (named done) (named (l ∷ done)) n (λ u v.
-      either (there u v || back u v) (named done u v) (λ s t. ⊎-elim (λ x. no-there u v x t) (λ x. no-back u v x t) (or-e (there u v) (back u v) s))) in
+      either (there u v || back u v) (named done u v)
+      (λ s t. ⊎-elim (λ x. no-there u v x t) (λ x. no-back u v x t) (or-e (there u v) (back u v) s))) in
       let two = count-add there back (λ u v. there u v || back u v) n (λ u v. either (there u v) (back u v) (not-both u v)) in
       let three = count-one (l .0) (l .1) n (f .below-a) (f .below-b) in
-      let four : count back n ≡ 1 = count-same back (λ u v. eqb (l .1) u && eqb (l .0) v) n (λ u v. and-comm (eqb (l .0) v) (eqb (l .1) u)) ∙ count-one (l .1) (l .0) n (f .below-b) (f .below-a) in
+      let four : count back n ≡ 1 =
+      count-same back (λ u v. eqb (l .1) u && eqb (l .0) v) n (λ u v. and-comm (eqb (l .0) v) (eqb (l .1) u))
+      ∙ count-one (l .1) (l .0) n (f .below-b) (f .below-a) in
       omega (arith, one, two, three, four)
 
-count-all : (n : ℕ) (ls done : List (ℕ × ℕ)) → AllFresh n done ls → count (λ u v. named ls u v || named done u v) n ≡ count (named done) n + 2 * length ls
+count-all : (n : ℕ) (ls done : List (ℕ × ℕ)) → AllFresh n done ls
+    → count (λ u v. named ls u v || named done u v) n ≡ count (named done) n + 2 * length ls
 unfolding named
 count-all n [] done f = omega arith
 count-all n (l ∷ ls) done f =
@@ -154,7 +162,7 @@ count-all n (l ∷ ls) done f =
     sym (or-turned (named ls u v) ((eqb (l .0) u && eqb (l .1) v) || (eqb (l .0) v && eqb (l .1) u)) (named done u v)))
     ∙ omega (arith, count-all n ls (l ∷ done) (f .1), count-more n done l (f .0))
 
--- the two lists of links that are all new have two neighbours for each link
+-- links that are all new give two neighbours each
 pub links-total : (n : ℕ) (ls : List (ℕ × ℕ)) → AllFresh n [] ls → total (graphOf n ls) n ≡ 2 * length ls
 unfolding total graphOf count named
 links-total n ls f =

@@ -41,7 +41,8 @@ module _ (n s : ℕ) (G : Graph) (g : IsGraph n G) (size : n ≤ 1024) where
   unfolding sources isLow
   source-cases = at (first-below (isLow s G) none n)
     where
-      pick : {r : ℕ} → (r ≡ none → Sources (hubs n s G)) → ((r ≡ none → ⊥) → Sources (closed G r)) → (c : Bool) → eqb r none ≡ c → Sources (if c then hubs n s G else closed G r)
+      pick : {r : ℕ} → (r ≡ none → Sources (hubs n s G)) → ((r ≡ none → ⊥) → Sources (closed G r)) → (c : Bool) → eqb r none ≡ c
+          → Sources (if c then hubs n s G else closed G r)
       pick {r} f h true e = f (eqb→eq r none (subst T (sym e) tt))
       pick {r} f h false e = h (eqb-false r none e)
 
@@ -50,7 +51,8 @@ module _ (n s : ℕ) (G : Graph) (g : IsGraph n G) (size : n ≤ 1024) where
       high false f = f tt
 
       at : {r : ℕ} → First (isLow s G) none 0 n r → Sources (if eqb r none then hubs n s G else closed G r)
-      at {r} (found lo hi t least) = pick (λ e. absurd (omega arith)) (λ f. round r (omega arith) t (λ u h. high (isHigh s G u) (λ q. least u zero-le h q))) (eqb r none) refl
+      at {r} (found lo hi t least) = pick (λ e. absurd (omega arith))
+          (λ f. round r (omega arith) t (λ u h. high (isHigh s G u) (λ q. least u zero-le h q))) (eqb r none) refl
       at {r} (nothing e miss) =
           pick (λ q. covers (λ v h. high (isHigh s G v) (λ t. miss v zero-le (omega arith) t))) (λ f. absurd (f e)) (eqb r none) refl
 
@@ -75,20 +77,24 @@ module _ (n s : ℕ) (G : Graph) (g : IsGraph n G) (size : n ≤ 1024) where
       at : ((j : ℕ) × (j ≤ 2) × Chain (linked n G) j c u) → (j : ℕ) × (j ≤ 3) × Chain (linked n G) j u v
       at q = split (split-first (q .2))
         where
-          split : (c ≡ u) ⊎ ((i x : ℕ) × (q .0 ≡ suc i) × T (linked n G c x) × Chain (linked n G) i x u) → (j : ℕ) × (j ≤ 3) × Chain (linked n G) j u v
+          split : (c ≡ u) ⊎ ((i x : ℕ) × (q .0 ≡ suc i) × T (linked n G c x) × Chain (linked n G) i x u)
+              → (j : ℕ) × (j ≤ 3) × Chain (linked n G) j u v
           split (inl e) =
               let r = near c v (has-head c (G c)) hv in
               (r .0, le-trans (r .1) (omega arith), subst (λ (z : ℕ). Chain (linked n G) (r .0) z v) e (r .2))
           split (inr p) =
-              let r = near (p .1) v (has-tail (p .1) c (G c) (linked-has n G c (p .1) (p .3))) hv in
-              (p .0 + r .0, three (p .0) (r .0) (subst (λ (k : ℕ). k ≤ 2) (p .2) (q .1)) (r .1), append (turn (linked-sym n G) (p .4)) (r .2))
+              let r = near (p .1) v (has-tail (p .1) c (G c) (linked-has n G c (p .1) (p .3))) hv in (
+                p .0 + r .0,
+                three (p .0) (r .0) (subst (λ (k : ℕ). k ≤ 2) (p .2) (q .1)) (r .1),
+                append (turn (linked-sym n G) (p .4)) (r .2),
+              )
   within (covers f) near u v hu hv = at (high-linked n s G g u hu (f u hu))
     where
       at : T (has u (hubs n s G)) ⊎ ((h : ℕ) × T (has h (hubs n s G)) × T (linked n G u h)) → (j : ℕ) × (j ≤ 3) × Chain (linked n G) j u v
       at (inl m) = let r = near u v m hv in (r .0, le-trans (r .1) (omega arith), r .2)
       at (inr c) = let r = near (c .0) v (c .1) hv in (suc (r .0), suc-le-suc (r .1), link (c .2) (r .2))
 
-  -- some node is searched from, where there is a node at all
+  -- some node is searched from, if there is a node
   some-source : {hs : List ℕ} → Sources hs → (u : ℕ) → u < n → (h : ℕ) × T (has h hs)
   unfolding closed
   some-source (round c b t l) u hu = (c, has-head c (G c))
@@ -125,7 +131,8 @@ module _ (n s : ℕ) (G : Graph) (g : IsGraph n G) (size : n ≤ 1024) where
           let hv = of-upTo n (j .0) (j .1) in
           let hh = source-below source-cases (i .0) (i .1) in
           is-long (i .0) (j .0) (distance (i .0) (j .0)) hh hv
-          (fewest-is (linked n G) n (i .0) (linked-ends n G) hh (j .0) (f (i .0) (i .1) (j .0) hv)) (ltb→lt 2 (distance (i .0) (j .0)) (j .2))
+          (fewest-is (linked n G) n (i .0) (linked-ends n G) hh (j .0) (f (i .0) (i .1) (j .0) hv))
+          (ltb→lt 2 (distance (i .0) (j .0)) (j .2))
           (λ a b ha hb.
           let q = some-source source-cases a ha in
           let hq = source-below source-cases (q .0) (q .1) in
@@ -197,7 +204,8 @@ module _ (n s : ℕ) (G : Graph) (g : IsGraph n G) (size : n ≤ 1024) where
   unfolding testResult closed isLow
   count-is = (λ v b t l. low v b t l source-cases, λ f. high f source-cases)
     where
-      low : (v : ℕ) → v < n → T (isLow s G v) → ((u : ℕ) → u < v → T (isHigh s G u)) → {hs : List ℕ} → Sources hs → length hs ≡ length (G v) + 1
+      low : (v : ℕ) → v < n → T (isLow s G v) → ((u : ℕ) → u < v → T (isHigh s G u)) → {hs : List ℕ} → Sources hs
+          → length hs ≡ length (G v) + 1
       low v b t l (round u c q m) = ap (λ (x : ℕ). suc (length (G x))) (smallest (lt-or u v) (lt-or v u)) ∙ sym (add-one (length (G v)))
         where
           smallest : (u < v) ⊎ (v ≤ u) → (v < u) ⊎ (u ≤ v) → u ≡ v
@@ -211,10 +219,12 @@ module _ (n s : ℕ) (G : Graph) (g : IsGraph n G) (size : n ≤ 1024) where
       high f (covers g) = refl
 
 -- and no node is searched from twice
-pub sources-distinct : (n s : ℕ) (starts neighbours : List ℕ) → Accepted n starts neighbours → distinct (sources n s (neighboursOf starts neighbours))
+pub sources-distinct : (n s : ℕ) (starts neighbours : List ℕ) → Accepted n starts neighbours
+    → distinct (sources n s (neighboursOf starts neighbours))
 unfolding closed
 sources-distinct n s starts neighbours acc = at (source-cases n s (neighboursOf starts neighbours) (acc .lists .graph) (acc .size))
   where
     at : {hs : List ℕ} → Sources n s (neighboursOf starts neighbours) (acc .lists .graph) (acc .size) hs → distinct hs
-    at (round v b t l) = (λ m. acc .lists .loopless v v b m refl, ascending-distinct (neighboursOf starts neighbours v) (acc .lists .sorted v b))
+    at (round v b t l) =
+        (λ m. acc .lists .loopless v v b m refl, ascending-distinct (neighboursOf starts neighbours v) (acc .lists .sorted v b))
     at (covers f) = hubs-distinct n (neighboursOf starts neighbours) s

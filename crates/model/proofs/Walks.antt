@@ -1,5 +1,5 @@
--- Asking and walking. A walk that is given out is a chain of the survey's links, whatever the tables hold, and no more steps are
--- taken than there are nodes.
+-- Asking and walking. A walk that is given out is a chain of the survey's links, whatever the tables hold; and there are no more steps
+-- than nodes.
 -- Assumes nothing.
 use mathlib.Core.Path.{_≡_, refl, sym, ap, ap₂, _∙_, subst}
 use mathlib.Core.Logic.{_⊎_, inl, inr, ⊎-elim, _↔_}
@@ -42,16 +42,19 @@ pub chosen : (a b r l h : ℕ) → Chosen a b r l h (choose a b r l h)
 unfolding choose
 chosen a b r l h = one (eqb a b) refl
   where
-    four : (a ≡ b → ⊥) → (r ≡ none → ⊥) → (l ≡ r → ⊥) → (t : Bool) → eqb h none ≡ t → Chosen a b r l h (if t then refused 11 else answered (withRoute r (Through h)))
+    four : (a ≡ b → ⊥) → (r ≡ none → ⊥) → (l ≡ r → ⊥) → (t : Bool) → eqb h none ≡ t
+        → Chosen a b r l h (if t then refused 11 else answered (withRoute r (Through h)))
     four x y z true e = bad-hub x y z (eqb-true h none e)
     four x y z false e = to-hub x y z (eqb-false h none e)
 
-    three : (a ≡ b → ⊥) → (r ≡ none → ⊥) → (t : Bool) → eqb l r ≡ t → Chosen a b r l h (if t then answered (withRoute r Low) else if eqb h none then refused 11 else answered (withRoute r (Through h)))
+    three : (a ≡ b → ⊥) → (r ≡ none → ⊥) → (t : Bool) → eqb l r ≡ t
+        → Chosen a b r l h (if t then answered (withRoute r Low) else if eqb h none then refused 11 else answered (withRoute r (Through h)))
     three x y true e = to-low x y (eqb-true l r e)
     three x y false e = four x y (eqb-false l r e) (eqb h none) refl
 
     two : (a ≡ b → ⊥) → (t : Bool) → eqb r none ≡ t
-        → Chosen a b r l h (if t then answered (withRoute none NoRoute) else if eqb l r then answered (withRoute r Low) else if eqb h none then refused 11 else answered (withRoute r (Through h)))
+        → Chosen a b r l h (if t then answered (withRoute none NoRoute) else if eqb l r then answered (withRoute r Low)
+        else if eqb h none then refused 11 else answered (withRoute r (Through h)))
     two x true e = to-none x (eqb-true r none e)
     two x false e = three x (eqb-false r none e) (eqb l r) refl
 
@@ -61,7 +64,8 @@ chosen a b r l h = one (eqb a b) refl
 
     one : (t : Bool) → eqb a b ≡ t
         → Chosen a b r l h (if t then (if eqb r 0 then answered (withRoute 0 Itself) else refused 11)
-        else if eqb r none then answered (withRoute none NoRoute) else if eqb l r then answered (withRoute r Low) else if eqb h none then refused 11 else answered (withRoute r (Through h)))
+        else if eqb r none then answered (withRoute none NoRoute) else if eqb l r then answered (withRoute r Low)
+        else if eqb h none then refused 11 else answered (withRoute r (Through h)))
     one true e = zeroed (eqb-true a b e) (eqb r 0) refl
     one false e = two (eqb-false a b e) (eqb r none) refl
 
@@ -120,12 +124,14 @@ module _ (n : ℕ) (G : Graph) (g : IsGraph n G) (may : ℕ → Bool) (left : �
       add missing t = t
       add (some l) t = tt
 
-      away : (t : Bool) → eqb x none ≡ t → x < n → IsSome (steps G may left goal d x) → IsSome (if t then missing else before v (steps G may left goal d x))
+      away : (t : Bool) → eqb x none ≡ t → x < n → IsSome (steps G may left goal d x)
+          → IsSome (if t then missing else before v (steps G may left goal d x))
       away true e b s = let w : x ≡ none = eqb-true x none e in absurd (omega arith)
       away false e b s = add (steps G may left goal d x) s
 
       at : (T (has x (G v)) × T (p x)) ⊎ ((x ≡ none) × ((y : ℕ) → T (has y (G v)) → T (p y) → ⊥))
-          → (x < n → left x ≡ d → IsSome (steps G may left goal d x)) → IsSome (if eqb x none then missing else before v (steps G may left goal d x))
+          → (x < n → left x ≡ d → IsSome (steps G may left goal d x))
+          → IsSome (if eqb x none then missing else before v (steps G may left goal d x))
       at (inl r) rec =
           let b = g .below v x h (r .0) in
           away (eqb x none) refl b (rec b (eqb→eq (left x) d (and-r (may x) (eqb (left x) d) (r .1))))
@@ -133,20 +139,22 @@ module _ (n : ℕ) (G : Graph) (g : IsGraph n G) (may : ℕ → Bool) (left : �
           let u = next v d h z q in
           absurd (r .1 (u .0) (u .1) (and-i (may (u .0)) (eqb (left (u .0)) d) (u .2) (eq-T (left (u .0)) d (u .3))))
 
--- the way on leads to a node below n
-pub next-below : (n : ℕ) (G : Graph) → IsGraph n G → (may : ℕ → Bool) (left : ℕ → ℕ) (d v : ℕ) → v < n → (next G may left d v ≡ none → ⊥) → next G may left d v < n
+-- the next node, if there is one, is below n
+pub next-below : (n : ℕ) (G : Graph) → IsGraph n G → (may : ℕ → Bool) (left : ℕ → ℕ) (d v : ℕ) → v < n → (next G may left d v ≡ none → ⊥)
+    → next G may left d v < n
 unfolding next
 next-below n G g may left d v h f = at (first-in p none (G v))
   where
     p : ℕ → Bool
     p x = may x && eqb (left x) d
 
-    at : (T (has (firstOf p none (G v)) (G v)) × T (p (firstOf p none (G v)))) ⊎ ((firstOf p none (G v) ≡ none) × ((y : ℕ) → T (has y (G v)) → T (p y) → ⊥))
+    at : (T (has (firstOf p none (G v)) (G v)) × T (p (firstOf p none (G v))))
+        ⊎ ((firstOf p none (G v) ≡ none) × ((y : ℕ) → T (has y (G v)) → T (p y) → ⊥))
         → firstOf p none (G v) < n
     at (inl r) = g .below v (firstOf p none (G v)) h (r .0)
     at (inr r) = absurd (f (r .0))
 
--- steps look at no node of n or more
+-- steps depend only on nodes below n
 module _ (n : ℕ) (G : Graph) (g : IsGraph n G) (may may′ : ℕ → Bool) (left left′ : ℕ → ℕ) (goal : ℕ)
     (same-may : (x : ℕ) → x < n → may x ≡ may′ x) (same-left : (x : ℕ) → x < n → left x ≡ left′ x) where
   next-same : (d v : ℕ) → v < n → next G may left d v ≡ next G may′ left′ d v
@@ -188,7 +196,8 @@ module _ {E : Edges} where
 
   walked-turn : ((u v : ℕ) → T (E u v) → T (E v u)) → {l : List ℕ} {a b : ℕ} → Walked E l a b → Walked E (reverse l) b a
   walked-turn f stop = stop
-  walked-turn f {a = a} {b = c} (go {l = l} t r) = subst (λ (x : List ℕ). Walked E x c a) (sym (reverse-cons a l)) (walked-snoc (walked-turn f r) (f _ _ t))
+  walked-turn f {a = a} {b = c} (go {l = l} t r) =
+      subst (λ (x : List ℕ). Walked E x c a) (sym (reverse-cons a l)) (walked-snoc (walked-turn f r) (f _ _ t))
 
 pub join-sound : (E : Edges) → ((u v : ℕ) → T (E u v) → T (E v u)) → (i j a b h : ℕ) (p q : Option (List ℕ))
     → Sound E i a h p → Sound E j b h q → Sound E (i + j) a b (join p q)
@@ -209,7 +218,7 @@ join-given (some p) (some q) s t = tt
 
 -- ---- how deep the recursion goes
 
--- the calls that `steps` makes of itself
+-- how many calls `steps` makes of itself
 unfoldable pub depth : Graph → (ℕ → Bool) → (ℕ → ℕ) → ℕ → ℕ → ℕ
 depth G may left zero v = 0
 depth G may left (suc d) v =
@@ -217,7 +226,7 @@ depth G may left (suc d) v =
     let more = suc (depth G may left d x) in
     if eqb x none then 0 else more
 
--- each step enters a node with a number of its own, so there are no more steps than nodes
+-- each step enters a node with another number of links left, so there are no more steps than nodes
 module _ (n : ℕ) (G : Graph) (g : IsGraph n G) (may : ℕ → Bool) (left : ℕ → ℕ) where
   under : ℕ → ℕ
   under d = length (keep (λ x. ltb (left x) d) (upTo n))
@@ -234,12 +243,14 @@ module _ (n : ℕ) (G : Graph) (g : IsGraph n G) (may : ℕ → Bool) (left : �
       x = firstOf p none (G v)
 
       more : x < n → left x ≡ d → under d < under (suc d)
-      more b e = side (keep-grows (λ y. ltb (left y) d) (λ y. ltb (left y) (suc d)) (upTo n) (λ y m t. lt→ltb (left y) (suc d) (later y (ltb→lt (left y) d t))))
+      more b e = side (keep-grows (λ y. ltb (left y) d) (λ y. ltb (left y) (suc d)) (upTo n)
+          (λ y m t. lt→ltb (left y) (suc d) (later y (ltb→lt (left y) d t))))
         where
           later : (y : ℕ) → left y < d → left y < suc d
           later y l = omega arith
 
-          side : ((y : ℕ) → T (has y (upTo n)) → T (ltb (left y) (suc d)) → T (ltb (left y) d)) ⊎ (under d < under (suc d)) → under d < under (suc d)
+          side : ((y : ℕ) → T (has y (upTo n)) → T (ltb (left y) (suc d)) → T (ltb (left y) d)) ⊎ (under d < under (suc d))
+              → under d < under (suc d)
           side (inl f) = absurd (let l = ltb→lt (left x) d (f x (has-upTo n x b) (lt→ltb (left x) (suc d) (omega arith))) in omega arith)
           side (inr l) = l
 
@@ -257,7 +268,7 @@ module _ (n : ℕ) (G : Graph) (g : IsGraph n G) (may : ℕ → Bool) (left : �
   unfolding under
   depth-bounded d v h = omega (arith, depth-under d v h, keep-length (λ x. ltb (left x) d) (upTo n), length-upTo n)
 
-  -- a part that is given out takes all its steps; so none of n links or more is, from a node that has as many left
+  -- a part that is found takes all its steps. So there is no part of n links or more from a node that has as many left
   depth-all : (goal d v : ℕ) → IsSome (steps G may left goal d v) → depth G may left d v ≡ d
   unfolding steps depth before
   depth-all goal zero v m = refl
@@ -279,7 +290,8 @@ module _ (n : ℕ) (G : Graph) (g : IsGraph n G) (may : ℕ → Bool) (left : �
   unfolding under
   under-all d v h l = at (keep-grows (λ x. ltb (left x) d) (λ x. true) (upTo n) (λ x m t. tt))
     where
-      at : ((x : ℕ) → T (has x (upTo n)) → T true → T (ltb (left x) d)) ⊎ (length (keep (λ x. ltb (left x) d) (upTo n)) < length (keep (λ x. true) (upTo n)))
+      at : ((x : ℕ) → T (has x (upTo n)) → T true → T (ltb (left x) d))
+          ⊎ (length (keep (λ x. ltb (left x) d) (upTo n)) < length (keep (λ x. true) (upTo n)))
           → length (keep (λ x. ltb (left x) d) (upTo n)) < n
       at (inl f) = absurd (omega (arith, ltb→lt (left v) d (f v (has-upTo n v h) tt)))
       at (inr k) = omega (arith, keep-length (λ x. true) (upTo n), length-upTo n)
@@ -300,12 +312,13 @@ pub data Given-out (E : Edges) (a b w : ℕ) : AfterWalking → Type 0 where
   walked : (x : Answer) (l : List ℕ) → Walked E l a b → length l ≡ suc (x .report) → length l ≤ w
       → Given-out E a b w (record { answer = answered x; walk = l ++ replicate (w - length l) none })
 
--- nodes for which there is no room, and nodes for which there is
+-- the list is too short for the nodes; it is long enough
 pub fit-short : (w : ℕ) (x : Answer) (l : List ℕ) → w < length l → fit w x (some l) ≡ refuseWalk w 8
 unfolding fit
 fit-short w x l h = rw (lt-ltb w (length l) h)
 
-pub fit-long : (w : ℕ) (x : Answer) (l : List ℕ) → length l ≤ w → fit w x (some l) ≡ record { answer = answered x; walk = l ++ replicate (w - length l) none }
+pub fit-long : (w : ℕ) (x : Answer) (l : List ℕ) → length l ≤ w
+    → fit w x (some l) ≡ record { answer = answered x; walk = l ++ replicate (w - length l) none }
 unfolding fit
 fit-long w x l h = rw (le-ltb w (length l) h)
 
@@ -320,11 +333,12 @@ fit-outcome E a b w x (some l) s = ⊎-elim
 fit-none : (E : Edges) (a b w : ℕ) → Given-out E a b w (fit w (withRoute none NoRoute) (some []))
 fit-none E a b w =
     subst (λ (r : AfterWalking). Given-out E a b w r)
-    (sym (fit-long w (withRoute none NoRoute) [] (omega arith) ∙ ap (λ (k : ℕ). record { answer = answered (withRoute none NoRoute); walk = replicate k none }) (sub-zero w)))
+    (sym (fit-long w (withRoute none NoRoute) [] (omega arith)
+    ∙ ap (λ (k : ℕ). record { answer = answered (withRoute none NoRoute); walk = replicate k none }) (sub-zero w)))
     no-way
 
 module _ (isHub : ℕ → Bool) (n : ℕ) (full : List ℕ) (a b : ℕ) where
-  -- a hub that attains a report is below n, counts as a hub, and its two entries add up to the report
+  -- the hub found for a report is below n, counts as a hub, and its two entries add up to the report
   pub attains : (r : ℕ) → (attaining isHub n full a b r ≡ none → ⊥)
       → (attaining isHub n full a b r < n) × T (isHub (attaining isHub n full a b r)) × (via n full a b (attaining isHub n full a b r) ≡ r)
   unfolding attaining
@@ -341,7 +355,7 @@ module _ (isHub : ℕ → Bool) (n : ℕ) (full : List ℕ) (a b : ℕ) where
       )
       at (nothing e miss) d = absurd (d e)
 
-  -- a sum of entries that is not none is the sum of both
+  -- where a sum of two entries is not none, neither entry is, and it is their sum
   pub via-sum : (h z : ℕ) → via n full a b h ≡ z → (z ≡ none → ⊥)
       → (entryAt n full h a ≡ none → ⊥) × (entryAt n full h b ≡ none → ⊥) × (entryAt n full h a + entryAt n full h b ≡ z)
   unfolding via
@@ -370,7 +384,8 @@ module _ (n s : ℕ) (G : Graph) (g : IsGraph n G) (full low : List ℕ) (a b : 
     Chosen-here q = Chosen a b (entryAt n report a b) (entryAt n low a b) (attaining isHub n full a b (entryAt n report a b)) q
 
     -- where the nodes of the route are found, they are a chain of as many links as the report
-    pub route-sound : (x : Answer) → Chosen-here (answered x) → (x .report ≡ none → ⊥) → Sound (linked n G) (x .report) a b (walkNodes n s G full low a b (x .route))
+    pub route-sound : (x : Answer) → Chosen-here (answered x) → (x .report ≡ none → ⊥)
+        → Sound (linked n G) (x .report) a b (walkNodes n s G full low a b (x .route))
     unfolding walkNodes
     route-sound x (to-itself e z) m = (subst (λ (y : ℕ). Walked (linked n G) (a ∷ []) a y) e stop, refl)
     route-sound x (to-none f e) m = absurd (m refl)
@@ -382,7 +397,8 @@ module _ (n s : ℕ) (G : Graph) (g : IsGraph n G) (full low : List ℕ) (a b : 
         subst (λ (d : ℕ). Sound (linked n G) d a b (join (toHub n G full hub a) (toHub n G full hub b))) (e .2) (hub-sound hub)
 
     -- with no route there are no nodes
-    none-found : (x : Answer) → Chosen-here (answered x) → (l : List ℕ) → walkNodes n s G full low a b (x .route) ≡ some l → x .report ≡ none → length l ≡ 0
+    none-found : (x : Answer) → Chosen-here (answered x) → (l : List ℕ) → walkNodes n s G full low a b (x .route) ≡ some l
+        → x .report ≡ none → length l ≡ 0
     unfolding walkNodes
     none-found x (to-itself p q) l e z = absurd (omega arith)
     none-found x (to-none p q) l e z = let k : [] ≡ l = cc in ap length (sym k)
@@ -405,7 +421,8 @@ module _ (n s : ℕ) (G : Graph) (g : IsGraph n G) (full low : List ℕ) (a b : 
     unfolding pairBy walkOf walkNodes refuseWalk
     walk-given-out w = at (chosen a b (entryAt n report a b) (entryAt n low a b) (attaining isHub n full a b (entryAt n report a b)))
       where
-        fitted : (x : Answer) → Chosen-here (answered x) → (x .report ≡ none → ⊥) → Given-out (linked n G) a b w (fit w x (walkNodes n s G full low a b (x .route)))
+        fitted : (x : Answer) → Chosen-here (answered x) → (x .report ≡ none → ⊥)
+            → Given-out (linked n G) a b w (fit w x (walkNodes n s G full low a b (x .route)))
         fitted x c m = fit-outcome (linked n G) a b w x (walkNodes n s G full low a b (x .route)) (route-sound x c m)
 
         some-zero : 0 ≡ none → ⊥

@@ -1,10 +1,11 @@
--- The answers of the open calls: a refusal's number, or a value. An open call is a function that a user calls, without a precondition; a
--- list that is lent to it is a slice argument.
+-- The answers of the open calls: a refusal's number, or a value. An open call is a function that a user calls, and it has no precondition.
+-- A list that is lent to it is a slice argument.
 -- Assumes nothing.
 use mathlib.Core.Bool.{Bool, true, false}
 use Prim.Native.Nat.{ℕ}
 use Rattle.model.specs.declared.Refusal.{Refusal}
-use Rattle.model.specs.declared.Refusal.the-variants.{Form, NodeCount, LinkCount, LineNode, EqualEnds, RepeatedLink, LineCount, ShortList, NotSurvey, NoNode, NotAttained, ShortBuffer}
+use Rattle.model.specs.declared.Refusal.the-variants.{Form, NodeCount, LinkCount, LineNode, EqualEnds, RepeatedLink, LineCount}
+use Rattle.model.specs.declared.Refusal.the-variants.{ShortList, NotSurvey, NoNode, NotAttained, ShortBuffer}
 use Rattle.model.specs.declared.Size.{Size}
 use Rattle.model.specs.declared.Answer.{Answer}
 use Rattle.model.specs.declared.TestResult.{TestResult}
@@ -24,12 +25,12 @@ pub data Outcome (A : Type 0) : Type 0 where
   refused : ℕ → Outcome A
   answered : A → Outcome A
 
--- the value replaced by f of it, a refusal kept (rule 10.1)
+-- f applied to the value; a refusal is kept (rule 10.1)
 abbrev pub mapAnswer : {A B : Type 0} → (A → B) → Outcome A → Outcome B
 mapAnswer f (refused k) = refused k
 mapAnswer f (answered x) = answered (f x)
 
--- what follows an answer, f of its value; a refusal kept: the first refusal is given (rule 10.1)
+-- what f makes of the value; a refusal is kept, so that the first one is given (rule 10.1)
 abbrev pub andThen : {A B : Type 0} → Outcome A → (A → Outcome B) → Outcome B
 andThen (refused k) f = refused k
 andThen (answered x) f = f x
@@ -54,27 +55,27 @@ number NoNode = 10
 number NotAttained = 11
 number ShortBuffer = 12
 
--- what each case of a call's answer stands for: acceptance, rule 10.6
+-- what the cases of a call's answer stand for: of acceptance, rule 10.6
 abbrev pub acceptAnswer : Accepting → Outcome (Unit {0})
 acceptAnswer (accepting.Refused r) = refused (number r)
 acceptAnswer accepting.Accepted = answered tt
 
--- reading, rule 10.5
+-- of reading, rule 10.5
 abbrev pub readAnswer : Reading → Outcome Size
 readAnswer (reading.Refused r) = refused (number r)
 readAnswer (reading.Read s) = answered s
 
--- building, writing back, the listing and the threshold: rules 10.7, 10.11, 11.4 and 10.12
+-- of building, writing back, the listing and the threshold, rules 10.7, 10.11, 11.4 and 10.12
 abbrev pub countAnswer : Counting → Outcome ℕ
 countAnswer (counting.Refused r) = refused (number r)
 countAnswer (counting.Count k) = answered k
 
--- asking a pair and writing a walk: rules 10.8 and 10.9
+-- of asking a pair and writing a walk, rules 10.8 and 10.9
 abbrev pub pairAnswer : Asking → Outcome Answer
 pairAnswer (asking.Refused r) = refused (number r)
 pairAnswer (asking.Answered x) = answered x
 
--- testing, rule 10.10
+-- of testing, rule 10.10
 abbrev pub testAnswer : Testing → Outcome TestResult
 testAnswer (testing.Refused r) = refused (number r)
 testAnswer (testing.Answered x) = answered x

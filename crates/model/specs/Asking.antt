@@ -12,7 +12,7 @@ use Rattle.model.specs.Survey.{badSize}
 use Rattle.model.specs.Tables.{shortTables}
 use Rattle.model.specs.Pair.{pair}
 
--- rule 10.8, in its order; what is left of it, the answer from the tables, is `pair`
+-- rule 10.8: the refusals in their order; then `pair`, which is the rest of the rule: the answer that the tables give, or 11
 unfoldable pub asking : (n : ℕ) (full low report : List ℕ) (a b : ℕ) → Outcome Answer
 asking n full low report a b =
     if badSize n then refused 2

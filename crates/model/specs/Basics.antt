@@ -1,4 +1,4 @@
--- Small functions on tests and lists that the definitions are written with. They state no rule, but for `none` and `over`.
+-- Small functions on tests and lists, of which the definitions are made. Only `none` and `over` state a rule.
 -- Assumes nothing.
 use mathlib.Core.Bool.{Bool, true, false, _&&_, _||_}
 use mathlib.Core.List.{List, [], _∷_, _++_}
@@ -15,7 +15,7 @@ abbrev pub if_then_else_ : {A : Type 0} → Bool → A → A → A
 if_then_else_ true x y = x
 if_then_else_ false x y = y
 
--- the numbers k, k + 1, .. , m of them; and those below n. (A `let` is computed only when it is read.)
+-- m numbers from k on: k, k + 1, ..; and the numbers below n. (A `let` is computed only when it is read.)
 unfoldable pub from : ℕ → ℕ → List ℕ
 from k zero = []
 from k (suc m) = let t = from (suc k) m in k ∷ t
@@ -28,7 +28,7 @@ unfoldable pub has : ℕ → List ℕ → Bool
 has x [] = false
 has x (y ∷ ys) = eqb x y || has x ys
 
--- the test passes at some element; at all of them
+-- the test passes at some element; and at all of them
 unfoldable pub any : (ℕ → Bool) → List ℕ → Bool
 any p [] = false
 any p (x ∷ xs) = p x || any p xs
@@ -59,6 +59,6 @@ same [] (y ∷ ys) = false
 same (x ∷ xs) [] = false
 same (x ∷ xs) (y ∷ ys) = eqb x y && same xs ys
 
--- the front of a lent list replaced, the entries past it kept (rules 10.7 and 10.11)
+-- the front of a lent list is replaced, and the entries past it are kept (rules 10.7 and 10.11)
 unfoldable pub over : List ℕ → List ℕ → List ℕ
 over new old = new ++ drop (length new) old

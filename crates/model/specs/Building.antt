@@ -25,7 +25,8 @@ pub record AfterBuilding : Type 0 where
 abbrev pub buildReturned : Counting → (full low report list : List ℕ) → AfterBuilding
 buildReturned r full low report list = record { answer = countAnswer r; full = full; low = low; report = report; hubs = list }
 
--- rule 10.7, not refused: the tables of rules 5.2 to 5.5 and the hub list of 4.7 in front, the entries past them kept. For any threshold s
+-- rule 10.7, where it is not refused: the tables of rules 5.2 to 5.5 and the hub list of rule 4.7 stand in front, and the entries past them
+-- are kept. For any threshold s
 unfoldable pub built : (n s : ℕ) → Graph → (full low report list : List ℕ) → AfterBuilding
 built n s G full low report list = record {
   answer = answered (length (hubs n s G));
@@ -35,11 +36,11 @@ built n s G full low report list = record {
   hubs = over (hubList n s G) list;
 }
 
--- rule 10.7's 8, by the lengths
+-- rule 10.7: a list is too short (refusal 8); given are the lengths
 abbrev pub shortLists : (n starts full low report list : ℕ) → Bool
 shortLists n starts full low report list = ltb starts (n + 1) || shortTables n full low report || ltb list n
 
--- rule 10.7: 2, 8, 9 with nothing altered; else built with the threshold of rule 4.2
+-- rule 10.7: refused 2, 8 or 9 with nothing altered; else built with the threshold of rule 4.2
 unfoldable pub building : (n : ℕ) (starts neighbours full low report list : List ℕ) → AfterBuilding
 building n starts neighbours full low report list =
     let refuse : ℕ → AfterBuilding = λ r. record { answer = refused r; full = full; low = low; report = report; hubs = list } in

@@ -31,11 +31,11 @@ pub record IsRead (text : List ℕ) (x : Size) (starts neighbours : List ℕ) : 
   pub lines : text ≡ surveyText (x .nodes) (x .links) links
   pub exactly : (a b : ℕ) → linked (x .nodes) (neighboursOf starts neighbours) a b ≡ named links a b
 
--- reading that is not refused (rules 8.1 and 9.3)
+-- the same of what reading answers and leaves, where it is not refused (rules 8.1 and 9.3)
 abbrev pub ReadRight : List ℕ → AfterReading → Type 0
 ReadRight text r = (x : Size) → r .answer ≡ answered x → IsRead text x (r .starts) (r .neighbours)
 
--- a survey as reading leaves it in lists of p and q entries (rule 10.5): n and m, the entries used, and zero past them
+-- a survey as reading leaves it in lists of p and q entries (rule 10.5): the answer n and m, the entries used, and zero past them
 unfoldable pub asRead : (n : ℕ) (starts neighbours : List ℕ) (p q : ℕ) → AfterReading
 asRead n starts neighbours p q = record {
   answer = answered (record { nodes = n; links = getD starts n 0 / 2 });
@@ -43,13 +43,13 @@ asRead n starts neighbours p q = record {
   neighbours = over (take (getD starts n 0) neighbours) (replicate q 0);
 }
 
--- rule 9.2: the text that was written, k bytes, is read back as the same survey into all lists that are long enough
+-- rule 9.2: the text that was written, of k bytes, is read back as the same survey, into any lists that are long enough
 abbrev pub WriteRight : (n : ℕ) (starts neighbours : List ℕ) → AfterWriting → Type 0
 WriteRight n starts neighbours r =
     (k : ℕ) → r .answer ≡ answered k → (p q : ℕ) → n + 1 ≤ p → getD starts n 0 ≤ q
     → reading (take k (r .buffer)) p q ≡ asRead n starts neighbours p q
 
--- building that is not refused (rule 5.6): the survey is accepted, and the tables and the hub list are the ones built from it, with k hubs
+-- rule 5.6, of building that is not refused: the survey is accepted, the tables and the hub list are built from it, and there are k hubs
 pub record IsBuilt (n s : ℕ) (starts neighbours full low report list : List ℕ) (k : ℕ) : Type 0 where
   pub survey : Accepted n starts neighbours
   pub tables : AreBuiltWith n s (neighboursOf starts neighbours) full low report list
@@ -57,7 +57,8 @@ pub record IsBuilt (n s : ℕ) (starts neighbours full low report list : List �
 
 -- the same of what building answers and leaves (rule 5.6)
 abbrev pub BuildRight : (n s : ℕ) (starts neighbours : List ℕ) → AfterBuilding → Type 0
-BuildRight n s starts neighbours r = (k : ℕ) → r .answer ≡ answered k → IsBuilt n s starts neighbours (r .full) (r .low) (r .report) (r .hubs) k
+BuildRight n s starts neighbours r =
+    (k : ℕ) → r .answer ≡ answered k → IsBuilt n s starts neighbours (r .full) (r .low) (r .report) (r .hubs) k
 
 -- rule 9.4: a report is none exactly where no chain joins the pair; else at least the fewest links, and at most two more
 pub record Allowed (E : Edges) (a b r : ℕ) : Type 0 where
@@ -70,7 +71,7 @@ pub record AllowedAnswer (E : Edges) (a b : ℕ) (o : Outcome Answer) : Type 0 w
   pub given : o ≡ answered value
   pub allowed : Allowed E a b (value .report)
 
--- rule 9.4, for every accepted survey, tables built from it with any threshold s, and nodes below n
+-- rule 9.4, for every accepted survey, tables built from it with any threshold s, and two nodes below n
 abbrev pub AskRight : (n : ℕ) (full low report : List ℕ) (a b : ℕ) → Outcome Answer → Type 0
 AskRight n full low report a b o =
     (s : ℕ) (starts neighbours : List ℕ) → Accepted n starts neighbours → AreBuilt n s (neighboursOf starts neighbours) full low report
@@ -90,14 +91,15 @@ pub record IsWalk (E : Edges) (a b r : ℕ) (list : List ℕ) : Type 0 where
 abbrev pub WalkSound : Edges → (a b : ℕ) → AfterWalking → Type 0
 WalkSound E a b r = (x : Answer) → r .answer ≡ answered x → (x .report ≡ none → ⊥) → IsWalk E a b (x .report) (r .walk)
 
--- rules 9.4 and 9.5, for every accepted survey, tables built from it with the threshold s, and nodes below n; r is what writing the walk
--- into a list of w entries leaves
+-- rules 9.4 and 9.5, for an accepted survey, tables built from it with the threshold s, and two nodes below n. r is what writing the walk
+-- into a list of w entries answers and leaves
 abbrev pub WalkRight : (n s : ℕ) (starts neighbours full low report : List ℕ) (a b w : ℕ) → AfterWalking → Type 0
 WalkRight n s starts neighbours full low report a b w r =
     Accepted n starts neighbours → AreBuilt n s (neighboursOf starts neighbours) full low report → a < n → b < n
-    → AllowedAnswer (linked n (neighboursOf starts neighbours)) a b (asking n full low report a b) × WalkAnswers w (asking n full low report a b) r
+    → AllowedAnswer (linked n (neighboursOf starts neighbours)) a b (asking n full low report a b)
+    × WalkAnswers w (asking n full low report a b) r
 
--- rule 9.6: parted exactly when some two nodes are not joined, never short where some two are four or more apart, never long where all are
+-- rule 9.6: parted exactly when some two nodes are not joined; never short where some two are four or more apart; never long where all are
 -- within two
 pub record VerdictRight (n : ℕ) (E : Edges) (v : Verdict) : Type 0 where
   pub parted : (v ≡ Parted) ↔ ((a : ℕ) × (b : ℕ) × (a < n) × (b < n) × Unjoined E a b)

@@ -1,4 +1,4 @@
--- Chains and the fewest links of two nodes: walks in a graph, and their distance.
+-- Chains (walks in a graph), and the fewest links between two nodes (their distance).
 -- Assumes nothing.
 use mathlib.Core.Bool.{Bool, _&&_, _||_}
 use mathlib.Core.List.{List, [], _∷_}
@@ -7,11 +7,11 @@ use lib.Dec.{T, ltb}
 use Rattle.model.specs.Basics.{none, upTo, has, any, keep, firstOf}
 use Rattle.model.specs.Survey.{Graph}
 
--- the links taken: E a b where a and b are linked (rule 8.1)
+-- which nodes are linked: a and b are, where E a b (rule 8.1)
 abbrev pub Edges : Type 0
 Edges = ℕ → ℕ → Bool
 
--- rule 8.1: an edge. Both are nodes, 0 to n - 1, and links are undirected (rule 1.3)
+-- rule 8.1: an edge. Both ends are nodes, 0 to n - 1, and links are undirected (rule 1.3)
 unfoldable pub linked : ℕ → Graph → Edges
 linked n G a b = ltb a n && ltb b n && has b (G a) && has a (G b)
 
@@ -19,8 +19,8 @@ linked n G a b = ltb a n && ltb b n && has b (G a) && has a (G b)
 abbrev pub between : (ℕ → Bool) → Edges → Edges
 between p E a b = p a && p b && E a b
 
--- rule 8.2: a chain, which is a walk in the graph. Chain E k a b is one of k links that joins a and b. (The nodes of a link are below n; a
--- chain of no links is of any number, and every promise of section 9 is of nodes below n.)
+-- rule 8.2: a chain, which is a walk in the graph. Chain E k a b has k links and joins a and b. (The ends of a link are below n. A chain of
+-- no links may stand at any number, but every promise of section 9 is about nodes below n.)
 pub data Chain (E : Edges) : ℕ → ℕ → ℕ → Type 0 where
   here : {a : ℕ} → Chain E 0 a a
   link : {k a b c : ℕ} → T (E a b) → Chain E k b c → Chain E (suc k) a c
@@ -29,7 +29,7 @@ pub data Chain (E : Edges) : ℕ → ℕ → ℕ → Type 0 where
 abbrev pub Unjoined : Edges → ℕ → ℕ → Type 0
 Unjoined E a b = (k : ℕ) → Chain E k a b → ⊥
 
--- rule 8.3: the distance of a and b is d
+-- rule 8.3: d is the least number of links that join a and b, their distance
 abbrev pub Fewest : Edges → ℕ → ℕ → ℕ → Type 0
 Fewest E a b d = Chain E d a b × ((k : ℕ) → Chain E k a b → d ≤ k)
 
@@ -37,8 +37,8 @@ Fewest E a b d = Chain E d a b × ((k : ℕ) → Chain E k a b → d ≤ k)
 abbrev pub WithinTwo : Edges → ℕ → ℕ → Type 0
 WithinTwo E a b = (d : ℕ) × (d ≤ 2) × Fewest E a b d
 
--- rule 8.2: a chain as the list of its nodes, a first, b last, each linked to the next. It has one link fewer than nodes (`walked-chain` and
--- `chain-walked` of proofs/Chains.antt)
+-- rule 8.2: a chain as the list of its nodes: a is the first, b the last, and each is linked to the next. It has one link fewer than nodes
+-- (`walked-chain` and `chain-walked` of proofs/Chains.antt)
 pub data Walked (E : Edges) : List ℕ → ℕ → ℕ → Type 0 where
   stop : {a : ℕ} → Walked E (a ∷ []) a a
   go : {a b c : ℕ} {l : List ℕ} → T (E a b) → Walked E l b c → Walked E (a ∷ l) a c
@@ -50,6 +50,6 @@ unfoldable pub reach : Edges → ℕ → ℕ → ℕ → List ℕ
 reach E n a zero = a ∷ []
 reach E n a (suc k) = let r = reach E n a k in keep (λ v. has v r || any (λ u. E u v) r) (upTo n)
 
--- rule 8.3: the least such k for b; none (rule 5.1) where there is none
+-- rule 8.3: the least k with which b is reached; none (rule 5.1) where no chain reaches it
 unfoldable pub fewest : Edges → ℕ → ℕ → ℕ → ℕ
 fewest E n a b = firstOf (λ k. has b (reach E n a k)) none (upTo n)

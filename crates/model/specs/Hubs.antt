@@ -16,7 +16,7 @@ isHigh s G v = leb s (length (G v))
 unfoldable pub isLow : ℕ → Graph → ℕ → Bool
 isLow s G v = not (isHigh s G v)
 
--- rule 4.5: the closed neighbourhood, of which a hub covers (dominates) every node
+-- rule 4.5: the closed neighbourhood of v: the nodes that v covers (dominates) as a hub
 unfoldable pub closed : Graph → ℕ → List ℕ
 closed G v = v ∷ G v
 
@@ -24,12 +24,12 @@ closed G v = v ∷ G v
 unfoldable pub gain : Graph → List ℕ → ℕ → ℕ
 gain G U v = length (keep (λ u. has u (closed G v)) U)
 
--- rule 4.6: the node, high or low, with most of them; the smallest number on a tie
+-- rule 4.6: the node, high or low, that holds most of U; the smallest number on a tie
 unfoldable pub best : ℕ → Graph → List ℕ → ℕ
 best n G U = firstOf (λ v. all (λ w. leb (gain G U w) (gain G U v)) (upTo n)) none (upTo n)
 
--- rule 4.6: while some node of U is uncovered, the best one is taken and covers. (Each hub covers one or more, so `length U` turns are
--- enough: `greedy-covers` of proofs/Covering.antt)
+-- rule 4.6: while a node of U is uncovered, the best node becomes a hub, and the nodes that it covers leave U. (Each hub covers at least
+-- one, so `length U` turns are enough: `greedy-covers` of proofs/Covering.antt)
 unfoldable pub greedy : ℕ → Graph → ℕ → List ℕ → List ℕ
 greedy n G zero U = []
 greedy n G (suc turns) [] = []

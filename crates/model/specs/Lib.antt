@@ -1,6 +1,6 @@
--- What a reader has to believe: the rules of docs/RULES.md, one by one; each definition names the rule that it states. A rule that has no
--- definition here says there where it shows. The order is that of the rules, except that chains (Graph) stand before the tables that count
--- their links, and Demand, which says what the calls' answers mean, after the calls.
+-- What a reader has to believe: the rules of docs/RULES.md as definitions. Each definition names the rule that it states. A rule that has
+-- no definition says in docs/RULES.md where it shows. The order is that of the rules, with two exceptions: chains (Graph) come before the
+-- tables, which count their links, and what the answers mean (Demand) comes after the calls.
 
 -- small functions on tests and lists; what an answer is
 pub mod Basics

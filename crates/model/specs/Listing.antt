@@ -23,7 +23,7 @@ use Rattle.model.specs.Reading.{Parsed, parse, graphOf}
 unfoldable pub reportText : ℕ → List ℕ
 reportText r = if eqb r none then 45 ∷ [] else digits r
 
--- rule 11.1: a route's text; `low` is 108 111 119. No pair a < b is one node
+-- rule 11.1: a route's text; `low` is 108 111 119. `Itself` does not occur, since a < b
 unfoldable pub routeText : Route → List ℕ
 routeText Itself = []
 routeText Low = 108 ∷ 111 ∷ 119 ∷ []

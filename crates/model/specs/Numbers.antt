@@ -11,7 +11,7 @@ use Rattle.model.specs.Basics.{if_then_else_, all}
 unfoldable pub isDigit : ℕ → Bool
 isDigit c = leb 48 c && leb c 57
 
--- rule 2.3: one to ten digits, no leading zero but in 0 itself
+-- rule 2.3: one to ten digits, without a leading zero, except 0 itself
 unfoldable pub isNumber : List ℕ → Bool
 isNumber [] = false
 isNumber (d ∷ ds) = all isDigit (d ∷ ds) && leb (length ds) 9 && (eqb (length ds) 0 || not (eqb d 48))
@@ -25,13 +25,14 @@ valueFrom v (d ∷ ds) = valueFrom (v * 10 + (d - 48)) ds
 unfoldable pub valueOf : List ℕ → ℕ
 valueOf ds = valueFrom 0 ds
 
--- the decimal text of x: below ten its one digit; otherwise the text of x / 10, then the last digit (rule 2.3). Of at most `most` digits
+-- the decimal text of x, if it has at most `most` digits: one digit where x is below ten; else the text of x / 10, then the last digit
+-- (rule 2.3)
 unfoldable pub digitsWithin : ℕ → ℕ → List ℕ
 digitsWithin zero x = []
 digitsWithin (suc most) x =
     let more = digitsWithin most (x / 10) ++ ((48 + x % 10) ∷ []) in
     if ltb x 10 then (48 + x) ∷ [] else more
 
--- rule 2.3: how a number is written (no number x has more than x + 1 digits)
+-- rule 2.3: how a number is written (x has at most x + 1 digits)
 unfoldable pub digits : ℕ → List ℕ
 digits x = digitsWithin (suc x) x

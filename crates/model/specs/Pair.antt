@@ -16,8 +16,8 @@ use Rattle.model.specs.Tables.{entryAt, via}
 abbrev pub withRoute : ℕ → Route → Answer
 withRoute r t = record { report = r; route = t }
 
--- rules 6.2 and 10.8: the route that attains the report r, where l is the entry of Low and h the hub; 11 where none does, or where a = b and
--- r is not 0
+-- rules 6.2 and 10.8: the report r with the route that attains it, where l is the entry of Low and h the hub that attains r, or none.
+-- Refused 11 where no route attains it, or where a = b and r is not 0
 unfoldable pub choose : (a b r l h : ℕ) → Outcome Answer
 choose a b r l h =
     if eqb a b then (if eqb r 0 then answered (withRoute 0 Itself) else refused 11)

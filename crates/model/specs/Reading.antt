@@ -13,7 +13,7 @@ use Rattle.model.specs.Basics.{if_then_else_, upTo, keep, gather, over}
 use Rattle.model.specs.SurveyText.{line}
 use Rattle.model.specs.Survey.{Graph, outside}
 
--- rule 10.2: n, m and the text behind the first line. The limits, and the lengths p and q of the two lists, are parameters
+-- rule 10.2: n, m and the text after the first line, for any limits and for lists of p and q entries
 unfoldable pub countsOf : (mostNodes mostLinks p q : ℕ) → Option (ℕ × ℕ × List ℕ) → Outcome (ℕ × ℕ × List ℕ)
 countsOf mostNodes mostLinks p q missing = refused 1
 countsOf mostNodes mostLinks p q (some f) =
@@ -22,7 +22,7 @@ countsOf mostNodes mostLinks p q (some f) =
     else if ltb p (f .0 + 1) || ltb q (2 * f .1) then refused 8
     else answered f
 
--- rule 2.5: the link is one of these, ends either way round
+-- rule 2.5: a and b are the ends of one of these links, either way round
 unfoldable pub named : List (ℕ × ℕ) → ℕ → ℕ → Bool
 named [] a b = false
 named (l ∷ ls) a b = eqb (l .0) a && eqb (l .1) b || eqb (l .0) b && eqb (l .1) a || named ls a b
@@ -31,7 +31,7 @@ named (l ∷ ls) a b = eqb (l .0) a && eqb (l .1) b || eqb (l .0) b && eqb (l .1
 unfoldable pub onLinks : ℕ × ℕ → Outcome (List (ℕ × ℕ)) → Outcome (List (ℕ × ℕ))
 onLinks l o = mapAnswer (λ ls. l ∷ ls) o
 
--- rule 10.3: the link that a line names after the links `given`, and the text behind the line
+-- rule 10.3: the link of a line that comes after the links `given`, and the text after the line
 unfoldable pub linkOf : ℕ → (given : ℕ → ℕ → Bool) → Option (ℕ × ℕ × List ℕ) → Outcome (ℕ × ℕ × List ℕ)
 linkOf n given missing = refused 1
 linkOf n given (some l) =
@@ -40,7 +40,7 @@ linkOf n given (some l) =
     else if given (l .0) (l .1) then refused 6
     else answered l
 
--- the link that a line names, in front of those that `next` reads behind it (rule 10.3)
+-- the link that a line names, in front of those that `next` reads after it (rule 10.3)
 unfoldable pub readOn : (next : ℕ → ℕ → List ℕ → Outcome (List (ℕ × ℕ))) → Outcome (ℕ × ℕ × List ℕ) → Outcome (List (ℕ × ℕ))
 readOn next o = andThen o (λ l. onLinks (l .0, l .1) (next (l .0) (l .1) (l .2)))
 
@@ -60,7 +60,7 @@ pub record Parsed : Type 0 where
 unfoldable pub parsed : ℕ → Outcome (List (ℕ × ℕ)) → Outcome Parsed
 parsed n o = mapAnswer (λ ls. record { nodes = n; links = ls }) o
 
--- the link lines behind the first line (rule 2.5)
+-- the link lines after the first line (rule 2.5)
 unfoldable pub parseLinks : Outcome (ℕ × ℕ × List ℕ) → Outcome Parsed
 parseLinks o = andThen o (λ f. parsed (f .0) (readLinks (f .0) (f .1) [] (f .2)))
 
@@ -76,7 +76,7 @@ graphOf n ls v = keep (named ls v) (upTo n)
 unfoldable pub startsOf : ℕ → Graph → List ℕ
 startsOf n G = map (λ v. length (gather G (upTo v))) (upTo (n + 1))
 
--- rule 3.2: one node's neighbours after the other's
+-- rule 3.2: the neighbours of all nodes, one node's after another's
 unfoldable pub neighboursFrom : ℕ → Graph → List ℕ
 neighboursFrom n G = gather G (upTo n)
 
@@ -90,7 +90,7 @@ pub record AfterReading : Type 0 where
 abbrev pub readReturned : read.Reading → List ℕ → List ℕ → AfterReading
 readReturned r s x = record { answer = readAnswer r; starts = s; neighbours = x }
 
--- rule 10.5: lists of p and q entries, all zero where the text is refused, else zero past the entries used
+-- rule 10.5: lists of p and q entries: all zero where the text is refused, else the survey, and zero past the entries used
 unfoldable pub readingOf : (p q : ℕ) → Outcome Parsed → AfterReading
 readingOf p q (refused k) = record { answer = refused k; starts = replicate p 0; neighbours = replicate q 0 }
 readingOf p q (answered x) =

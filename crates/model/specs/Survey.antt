@@ -17,7 +17,7 @@ Graph = ℕ → List ℕ
 unfoldable pub neighboursOf : List ℕ → List ℕ → Graph
 neighboursOf starts neighbours v = take (getD starts (v + 1) 0 - getD starts v 0) (drop (getD starts v 0) neighbours)
 
--- strictly (rule 3.2)
+-- the list ascends strictly (rule 3.2)
 unfoldable pub ascending : List ℕ → Bool
 ascending [] = true
 ascending (x ∷ []) = true
@@ -36,7 +36,7 @@ isSurvey n starts neighbours =
     && all (λ v. ascending (G v)) (upTo n)
     && all (λ v. all (λ x. ltb x n && not (eqb x v) && has v (G x)) (G v)) (upTo n)
 
--- rule 2.4's limits on n; for the listing another limit (rule 11.2)
+-- n is not from 1 to `most`, which is 1,024 by rule 2.4, and 128 for the listing (rule 11.2)
 abbrev pub outside : (most n : ℕ) → Bool
 outside most n = ltb n 1 || ltb most n
 
@@ -44,7 +44,7 @@ outside most n = ltb n 1 || ltb most n
 unfoldable pub badSize : ℕ → Bool
 badSize n = outside 1024 n
 
--- rule 10.6, in its order
+-- rule 10.6: the refusals in their order
 unfoldable pub accepting : ℕ → List ℕ → List ℕ → Outcome (Unit {0})
 accepting n starts neighbours =
     if badSize n then refused 2

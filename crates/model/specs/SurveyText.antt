@@ -13,7 +13,7 @@ unfoldable pub onFirst : ℕ → List (List ℕ) → List (List ℕ)
 onFirst x [] = (x ∷ []) ∷ []
 onFirst x (f ∷ fs) = (x ∷ f) ∷ fs
 
--- rule 2.2: the fields that byte c parts
+-- rule 2.2: the fields that byte c separates
 unfoldable pub split : ℕ → List ℕ → List (List ℕ)
 split c [] = [] ∷ []
 split c (x ∷ xs) = let r = split c xs in if eqb x c then [] ∷ r else onFirst x r
@@ -40,13 +40,13 @@ twoNumbers letter (l ∷ x ∷ y ∷ z ∷ more) = missing
 unfoldable pub withRest : List ℕ → Option (ℕ × ℕ) → Option (ℕ × ℕ × List ℕ)
 withRest rest o = Option·map (λ xy. (xy .0, xy .1, rest)) o
 
--- the same of a line that was cut off (rule 2.1)
+-- the two numbers of a line that was cut off, and the text after it (rule 2.1)
 unfoldable pub lineIn : ℕ → Option (List ℕ × List ℕ) → Option (ℕ × ℕ × List ℕ)
 lineIn letter missing = missing
 lineIn letter (some p) = withRest (p .1) (twoNumbers letter (split 44 (p .0)))
 
--- rules 2.1 to 2.3: the line `letter,x,y` that a text begins with, as x, y and the text after it. Missing where the line has another form or
--- has no end
+-- rules 2.1 to 2.3: the line `letter,x,y` that a text begins with, as x, y and the text after it. Missing where the line has another form
+-- or has no end
 unfoldable pub line : ℕ → List ℕ → Option (ℕ × ℕ × List ℕ)
 line letter text = lineIn letter (cut 10 text)
 

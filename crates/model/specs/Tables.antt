@@ -23,11 +23,11 @@ table n f = rowsOf n f (upTo n)
 unfoldable pub entryAt : ℕ → List ℕ → ℕ → ℕ → ℕ
 entryAt n t a b = getD t (a * n + b) 0
 
--- a table shorter than n × n, by the three lengths (rules 10.7 to 10.9)
+-- one of the three tables, of these lengths, is shorter than n × n (rules 10.7 to 10.9)
 abbrev pub shortTables : ℕ → (full low report : ℕ) → Bool
 shortTables n full low report = ltb full (n * n) || ltb low (n * n) || ltb report (n * n)
 
--- rule 5.2 (the distances from the dominating set), for the hubs hs
+-- rule 5.2: an entry of Full, a distance from the dominating set, for the hubs hs
 abbrev pub fullEntry : ℕ → Graph → (hs : List ℕ) → ℕ → ℕ → ℕ
 fullEntry n G hs h b = if has h hs then fewest (linked n G) n h b else none
 
@@ -43,7 +43,7 @@ fullTable n s G = fullOf n G (hubs n s G)
 unfoldable pub lowLinks : ℕ → ℕ → Graph → Edges
 lowLinks n s G = between (isLow s G) (linked n G)
 
--- rule 5.3 (the distances in the subgraph of the low nodes)
+-- rule 5.3: an entry of Low, a distance in the subgraph of the low nodes
 abbrev pub lowEntry : ℕ → ℕ → Graph → ℕ → ℕ → ℕ
 lowEntry n s G a b = if isLow s G a && isLow s G b then fewest (lowLinks n s G) n a b else none
 
@@ -63,7 +63,7 @@ via n full a b h = sum (entryAt n full h a) (entryAt n full h b)
 abbrev pub least : (ℕ → ℕ) → ℕ → List ℕ → ℕ
 least f x hs = foldr (λ h y. min (f h) y) x hs
 
--- rule 5.5 (the estimated distances). None is above every sum of entries of at most 1,024 nodes
+-- rule 5.5: an entry of Report, an estimated distance. With at most 1,024 nodes, every sum of two distances is less than the number none
 abbrev pub reportEntry : ℕ → (full low hs : List ℕ) → ℕ → ℕ → ℕ
 reportEntry n full low hs a b = if eqb a b then 0 else least (via n full a b) (entryAt n low a b) hs
 
@@ -85,7 +85,7 @@ pub record AreBuilt (n s : ℕ) (G : Graph) (full low report : List ℕ) : Type 
   pub low-front : take (n * n) low ≡ lowTable n s G
   pub report-front : take (n * n) report ≡ reportTable n s G
 
--- rule 5.6: so are the first n of a hub list
+-- rule 5.6: and the first n entries of the hub list are those of rule 4.7
 pub record AreBuiltWith (n s : ℕ) (G : Graph) (full low report list : List ℕ) : Type 0 where
   pub tables : AreBuilt n s G full low report
   pub hubs-front : take n list ≡ hubList n s G

@@ -1,5 +1,5 @@
--- The nodes of a walk, by a route. A part is a segment of the walk. (A walk lists report + 1 nodes: `walking-sound` and `walking-short` of
--- proofs/Demand.antt.)
+-- The nodes of a walk, by its route. A part is a segment of the walk. (A walk lists report + 1 nodes: `walking-sound` and `walking-short`
+-- of proofs/Demand.antt.)
 -- Assumes nothing.
 use mathlib.Core.Bool.{Bool, true, _&&_}
 use mathlib.Core.List.{List, [], _∷_, _++_, reverse, tail}
@@ -13,16 +13,16 @@ use Rattle.model.specs.Survey.{Graph}
 use Rattle.model.specs.Hubs.{isLow}
 use Rattle.model.specs.Tables.{entryAt}
 
--- v, and then the rest of a walk if there is one (rule 6.4)
+-- v in front of the rest of a walk, if there is a rest (rule 6.4)
 unfoldable pub before : ℕ → Option (List ℕ) → Option (List ℕ)
 before v o = Option·map (λ l. v ∷ l) o
 
--- the way on from v: the first neighbour (neighbours ascend, so the smallest) that may be entered and is d links from the goal; none where
--- there is no such (rules 6.5 and 6.6)
+-- the node that follows v: its first neighbour that may be entered and is d links from the goal, or none. Neighbours ascend, so the first
+-- is the smallest (rules 6.5 and 6.6)
 unfoldable pub next : Graph → (ℕ → Bool) → (ℕ → ℕ) → ℕ → ℕ → ℕ
 next G may left d v = firstOf (λ x. may x && eqb (left x) d) none (G v)
 
--- rule 6.7: d steps from v; missing where no step leads on or the steps end elsewhere than at the goal
+-- rule 6.7: the nodes of d steps from v; missing where some step has no next node, or the last node is not the goal
 unfoldable pub steps : Graph → (ℕ → Bool) → (ℕ → ℕ) → ℕ → ℕ → ℕ → Option (List ℕ)
 steps G may left goal zero v = if eqb v goal then some (v ∷ []) else missing
 steps G may left goal (suc d) v =
@@ -44,7 +44,7 @@ join missing q = missing
 join (some p) missing = missing
 join (some p) (some q) = some (p ++ tail (reverse q))
 
--- rule 6.4: the nodes of the walk by a route, in graph G with threshold s; there are none where there is no route
+-- rule 6.4: the nodes of the walk by a route, in graph G with threshold s; no nodes where there is no route
 unfoldable pub walkNodes : ℕ → ℕ → Graph → List ℕ → List ℕ → (a b : ℕ) → Route → Option (List ℕ)
 walkNodes n s G full low a b Itself = some (a ∷ [])
 walkNodes n s G full low a b Low = byLow n s G low a b

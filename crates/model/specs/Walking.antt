@@ -25,24 +25,24 @@ pub record AfterWalking : Type 0 where
 abbrev pub walkReturned : Asking → List ℕ → AfterWalking
 walkReturned r w = record { answer = pairAnswer r; walk = w }
 
--- rule 10.9: refused, a list of w entries is all none
+-- rule 10.9: the walk is refused with number k, and the walk list, of w entries, is all none
 unfoldable pub refuseWalk : ℕ → ℕ → AfterWalking
 refuseWalk w k = record { answer = refused k; walk = replicate w none }
 
--- rule 10.9: 11 where there are no nodes, 8 where the list is shorter than them, else the nodes and none after them. l has report + 1 nodes,
--- or none where there is no route (`walking-short` of proofs/Demand.antt)
+-- rule 10.9: refused 11 where the nodes are missing, 8 where the list has fewer entries than there are nodes; else the nodes, and none
+-- after them. l has report + 1 nodes, and is empty where there is no route (`walking-short` of proofs/Demand.antt)
 unfoldable pub fit : ℕ → Answer → Option (List ℕ) → AfterWalking
 fit w x missing = refuseWalk w 11
 fit w x (some l) =
     if ltb w (length l) then refuseWalk w 8
     else record { answer = answered x; walk = l ++ replicate (w - length l) none }
 
--- rule 10.9: the answer is the pair's
+-- rule 10.9: the answer, or the refusal, is the pair's
 unfoldable pub walkOf : ℕ → (n s : ℕ) → Graph → (full low : List ℕ) (a b : ℕ) → Outcome Answer → AfterWalking
 walkOf w n s G full low a b (refused k) = refuseWalk w k
 walkOf w n s G full low a b (answered x) = fit w x (walkNodes n s G full low a b (x .route))
 
--- rule 10.9, in its order, with the threshold of rule 4.2
+-- rule 10.9: the refusals in their order; then the walk, with the threshold of rule 4.2
 unfoldable pub walking : (n : ℕ) (starts neighbours full low report : List ℕ) (a b w : ℕ) → AfterWalking
 walking n starts neighbours full low report a b w =
     if badSize n then refuseWalk w 2

@@ -23,13 +23,13 @@ pub record AfterWriting : Type 0 where
 abbrev pub writeReturned : Counting → List ℕ → AfterWriting
 writeReturned r b = record { answer = countAnswer r; buffer = b }
 
--- rule 10.11: a text is written in front of the buffer, or is refused 12
+-- rule 10.11: a text is written to the front of the buffer; refused 12 where the buffer is too short
 unfoldable pub writingOf : Outcome (Unit {0}) → (text buffer : List ℕ) → AfterWriting
 writingOf (refused k) text buffer = record { answer = refused k; buffer = buffer }
 writingOf (answered x) text buffer =
     if ltb (length buffer) (length text) then record { answer = refused 12; buffer = buffer }
     else record { answer = answered (length text); buffer = over text buffer }
 
--- rule 10.11: what acceptance refuses; else the survey's text
+-- rule 10.11: refused as acceptance refuses; else the survey's text is written
 unfoldable pub writing : (n : ℕ) (starts neighbours buffer : List ℕ) → AfterWriting
 writing n starts neighbours buffer = writingOf (accepting n starts neighbours) (textOf n starts neighbours) buffer

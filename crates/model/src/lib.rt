@@ -37,7 +37,7 @@ pub struct Size {
     pub links: usize,
 }
 
-// The route, how a report is attained: the pair is one node; a path of low nodes; through a hub; or none, the nodes being unconnected.
+// How a report is attained: the two nodes are one; by low nodes only; through a hub; or not at all, since no chain joins them.
 pub enum Route {
     Itself,
     Low,
@@ -76,7 +76,7 @@ pub enum Reading {
     Read(Size),
 }
 
-// What a call answers whose value is one number: building, the count of hubs; writing back and the listing, the text's length; the
+// What a call answers whose value is one number: the count of hubs (building), the text's length (writing back and the listing), or the
 // threshold.
 pub enum Counting {
     Refused(Refusal),
