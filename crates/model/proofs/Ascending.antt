@@ -136,35 +136,6 @@ standing (x ∷ l) v t h = go (of-cons v x l h) (λ r. standing l v (ascending-t
         rw (f, none) (suc-le-suc zero-le, sym e)
     go (inr r) rec = let k = rec r in rw (T-true (ltb x v) (lt→ltb x v (ascending-above x l t v r))) (suc-le-suc (k .0), k .1)
 
--- where v is a member, one entry more is below v + 1 than below v
-pub below-more : (l : List ℕ) (v : ℕ) → T (ascending l) → T (has v l)
-    → length (keep (λ u. ltb u (v + 1)) l) ≡ length (keep (λ u. ltb u v) l) + 1
-unfolding keep
-below-more [] v t h = absurd (none-in v h)
-below-more (x ∷ l) v t h = go (of-cons v x l h) (λ r. below-more l v (ascending-tail x l t) r)
-  where
-    A : List ℕ
-    A = keep (λ u. ltb u (v + 1)) l
-
-    B : List ℕ
-    B = keep (λ u. ltb u v) l
-
-    go : (v ≡ x) ⊎ T (has v l) → (T (has v l) → length A ≡ length B + 1)
-        → length (if ltb x (v + 1) then x ∷ A else A) ≡ length (if ltb x v then x ∷ B else B) + 1
-    go (inl e) rec =
-        let a : A ≡ [] = keep-none (λ u. ltb u (v + 1)) l
-        (λ y m s. let p = ascending-above x l t y m in let q = ltb→lt y (v + 1) s in omega arith) in
-        let b : B ≡ [] = keep-none (λ u. ltb u v) l (λ y m s. let p = ascending-above x l t y m in let q = ltb→lt y v s in omega arith) in
-        rw (
-          T-true (ltb x (v + 1)) (lt→ltb x (v + 1) (omega arith)),
-          no-false (ltb x v) (λ s. let q = ltb→lt x v s in omega arith),
-          a,
-          b,
-        ) refl
-    go (inr r) rec =
-        let p = ascending-above x l t v r in
-        rw (T-true (ltb x (v + 1)) (lt→ltb x (v + 1) (omega arith)), T-true (ltb x v) (lt→ltb x v p)) (omega (arith, rec r))
-
 -- in an ascending list, the entries before x are less than x
 pub ascending-front : (k : List ℕ) (x : ℕ) (l : List ℕ) → T (ascending (k ++ x ∷ l)) → (y : ℕ) → T (has y k) → y < x
 ascending-front [] x l t y h = absurd (none-in y h)

@@ -304,16 +304,27 @@ unfolding gather
 gather-same f g [] e = refl
 gather-same {B = B} f g (x ∷ l) e = ap₂ (λ (r s : List B). r ++ s) (e x (has-head x l)) (gather-same f g l (λ y m. e y (has-tail y x l m)))
 
-pub from-snoc : (k m : ℕ) → from k (suc m) ≡ from k m ++ (k + m) ∷ []
+-- ---- the numbers below n, split at a place
+
+pub from-add : (k m j : ℕ) → from k (m + j) ≡ from k m ++ from (k + m) j
 unfolding from
-from-snoc k zero = ap (λ (x : ℕ). x ∷ []) (sym (add-zero k))
-from-snoc k (suc m) =
-    ap (λ (r : List ℕ). k ∷ r) (from-snoc (suc k) m ∙ ap (λ (x : ℕ). from (suc k) m ++ x ∷ []) (suc-add k m ∙ sym (add-suc k m)))
+from-add k zero j = ap₂ (λ (a b : ℕ). from a b) (sym (add-zero k)) (zero-add j)
+from-add k (suc m) j =
+    ap (from k) (suc-add m j)
+    ∙ ap (λ (r : List ℕ). k ∷ r) (from-add (suc k) m j ∙ ap (λ (x : ℕ). from (suc k) m ++ from x j) (suc-add k m ∙ sym (add-suc k m)))
+
+pub upTo-add : (u k n : ℕ) → u + k ≡ n → upTo n ≡ upTo u ++ from u k
+unfolding upTo
+upTo-add u k n e = ap (from 0) (sym e) ∙ from-add 0 u k ∙ ap (λ (x : ℕ). from 0 u ++ from x k) (zero-add u)
+
+pub from-split : (v k n : ℕ) → v + suc k ≡ n → upTo n ≡ upTo v ++ v ∷ from (suc v) k
+unfolding from
+from-split v k n e = upTo-add v (suc k) n e
 
 -- the numbers below n + 1 are those below n, and n
 pub upTo-suc : (n : ℕ) → upTo (suc n) ≡ upTo n ++ n ∷ []
-unfolding upTo
-upTo-suc n = from-snoc 0 n ∙ ap (λ (x : ℕ). from 0 n ++ x ∷ []) (zero-add n)
+unfolding from
+upTo-suc n = upTo-add n 1 (suc n) (omega arith)
 
 pub gather-suc : {B : Type 0} (f : ℕ → List B) (n : ℕ) → gather f (upTo (suc n)) ≡ gather f (upTo n) ++ f n
 unfolding gather
@@ -412,19 +423,6 @@ unfolding same
 same-refl [] = tt
 same-refl (x ∷ l) = and-i (eqb x x) (same l l) (eqb-refl x) (same-refl l)
 
--- ---- the numbers below n, split at v
-
-pub from-add : (k m j : ℕ) → from k (m + j) ≡ from k m ++ from (k + m) j
-unfolding from
-from-add k zero j = ap₂ (λ (a b : ℕ). from a b) (sym (add-zero k)) (zero-add j)
-from-add k (suc m) j =
-    ap (from k) (suc-add m j)
-    ∙ ap (λ (r : List ℕ). k ∷ r) (from-add (suc k) m j ∙ ap (λ (x : ℕ). from (suc k) m ++ from x j) (suc-add k m ∙ sym (add-suc k m)))
-
-pub from-split : (v k n : ℕ) → v + suc k ≡ n → upTo n ≡ upTo v ++ v ∷ from (suc v) k
-unfolding upTo from
-from-split v k n e = ap (from 0) (sym e) ∙ from-add 0 v (suc k) ∙ ap (λ (x : ℕ). from 0 v ++ from x (suc k)) (zero-add v)
-
 -- ---- gathering twice
 
 pub gather-gather : {A B C : Type 0} (f : B → List C) (g : A → List B) (l : List A) → gather f (gather g l) ≡ gather (λ x. gather f (g x)) l
@@ -451,21 +449,6 @@ keep-all p (y ∷ ys) f = go (p y) refl (keep-all p ys (λ x h. f x (has-tail x 
     go true e r = ap (λ (t : List ℕ). y ∷ t) r
     go false e r = absurd (subst T e (f y (has-head y ys)))
 
--- what is gathered stands in one of the lists
-pub of-gather : (f : ℕ → List ℕ) (l : List ℕ) (x : ℕ) → T (has x (gather f l)) → (v : ℕ) × T (has v l) × T (has x (f v))
-unfolding gather
-of-gather f [] x h = absurd (none-in x h)
-of-gather f (y ∷ l) x h = go (of-append x (f y) (gather f l) h) (λ r. of-gather f l x r)
-  where
-    go : T (has x (f y)) ⊎ T (has x (gather f l)) → (T (has x (gather f l)) → (v : ℕ) × T (has v l) × T (has x (f v)))
-        → (v : ℕ) × T (has v (y ∷ l)) × T (has x (f v))
-    go (inl r) rec = (y, has-head y l, r)
-    go (inr r) rec = let k = rec r in (k .0, has-tail (k .0) y l (k .1), k .2)
-
-pub upTo-add : (u k n : ℕ) → u + k ≡ n → upTo n ≡ upTo u ++ from u k
-unfolding upTo
-upTo-add u k n e = ap (from 0) (sym e) ∙ from-add 0 u k ∙ ap (λ (x : ℕ). from 0 u ++ from x k) (zero-add u)
-
 -- where only numbers below n pass, the numbers from n on add nothing
 pub keep-below : (p : ℕ → Bool) (n m : ℕ) → n ≤ m → ((x : ℕ) → T (p x) → x < n) → keep p (upTo m) ≡ keep p (upTo n)
 keep-below p n m h f =
@@ -473,7 +456,3 @@ keep-below p n m h f =
     ap (keep p) e ∙ keep-append p (upTo n) (from n (m - n))
     ∙ ap (λ (l : List ℕ). keep p (upTo n) ++ l) (keep-none p (from n (m - n)) (λ x k t. omega (arith, of-from n (m - n) x k, f x t)))
     ∙ append-nil (keep p (upTo n))
-
-pub map-append : {A B : Type 0} (f : A → B) (k l : List A) → map f (k ++ l) ≡ map f k ++ map f l
-map-append f [] l = refl
-map-append {B = B} f (x ∷ k) l = ap (λ (r : List B). f x ∷ r) (map-append f k l)

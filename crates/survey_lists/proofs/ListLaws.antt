@@ -2,7 +2,7 @@
 -- Assumes nothing.
 use mathlib.Core.Path.{_≡_, ap, _∙_}
 use mathlib.Core.Bool.{Bool}
-use mathlib.Core.List.{List, [], _∷_, _++_, map}
+use mathlib.Core.List.{List, [], _∷_, _++_, map, map-append}
 use Prim.Native.Nat.{ℕ, _+_, _-_, _*_, _≤_, _<_}
 use native.Mathlib.Numerals.{add-one}
 use native.Mathlib.Omega.{arith}
@@ -12,7 +12,7 @@ use Rattle.base_lists.proofs.Written.{wrote-none, wrote-one, wrote-then, wrote-
 use Rattle.model.specs.Basics.{from, upTo, keep, gather, over}
 use Rattle.model.specs.Survey.{Graph}
 use Rattle.model.specs.Reading.{startsOf, neighboursFrom}
-use Rattle.model.proofs.Lists.{keep-append, gather-append, gather-suc, map-append, upTo-suc, upTo-add}
+use Rattle.model.proofs.Lists.{keep-append, gather-append, gather-suc, upTo-suc, upTo-add}
 use Rattle.model.proofs.Entries.{length-row}
 use Rattle.base_nodeset.specs.NodeSet.{bit, member, membersFrom}
 use Rattle.base_nodeset.proofs.Bits.{word-bit}

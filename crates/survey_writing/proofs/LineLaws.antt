@@ -1,7 +1,7 @@
 -- A survey's text, row by row and line by line.
 -- Assumes nothing.
 use mathlib.Core.Path.{_≡_, refl, sym, ap, ap₂, _∙_}
-use mathlib.Core.List.{List, [], _∷_, _++_, append-nil}
+use mathlib.Core.List.{List, [], _∷_, _++_, append-nil, map-append}
 use Prim.Native.Nat.{ℕ, _+_, _-_, _*_, _/_, _≤_, _<_}
 use native.Mathlib.Nat.{sub-zero}
 use native.Mathlib.Omega.{arith}
@@ -18,7 +18,7 @@ use Rattle.model.specs.Writing.{textOf, AfterWriting, writeReturned, writingOf,
 use Rattle.model.specs.Demand.{WriteRight}
 use Rattle.model.proofs.Outcomes.{promised}
 use Rattle.model.proofs.Acceptance.{accepting-facts}
-use Rattle.model.proofs.Lists.{keep-append, map-append, gather-append, gather-gather}
+use Rattle.model.proofs.Lists.{keep-append, gather-append, gather-gather}
 use Rattle.model.proofs.Loops.{drop-next, gather-next, gather-end}
 use Rattle.model.proofs.ReadBack.{writing-answers, write-short, writing-right}
 use Rattle.model.proofs.SurveyLists.{start-last}
