@@ -1,7 +1,6 @@
 -- The values of every answer are within the limits of a survey, so that each fits its field of the code.
 -- Assumes nothing.
 use mathlib.Core.Path.{_≡_, refl, subst}
-use mathlib.Core.Bool.{not}
 use mathlib.Core.List.{List}
 use Prim.Native.Nat.{ℕ, _*_, _≤_}
 use native.Mathlib.Nat.{le-trans, mul-le-mul}
@@ -11,15 +10,14 @@ use lib.ListN.{length}
 use Rattle.model.specs.declared.Size.{Size}
 use Rattle.model.specs.declared.TestResult.{TestResult}
 use Rattle.model.specs.Answers.{Outcome, refused, answered, mapAnswer}
-use Rattle.model.specs.Survey.{Graph, neighboursOf, badSize, isSurvey, accepting, Accepted}
+use Rattle.model.specs.Survey.{Graph, neighboursOf, badSize, accepting, Accepted}
 use Rattle.model.specs.Threshold.{threshold, thresholdAnswer, bitLength}
-use Rattle.model.specs.Hubs.{closed, hubs}
+use Rattle.model.specs.Hubs.{closed}
 use Rattle.model.specs.Reading.{Parsed, parse, readingOf, reading}
-use Rattle.model.specs.Building.{AfterBuilding, shortLists, built, building}
 use Rattle.model.specs.TwoOrFour.{sources, testResult}
 use Rattle.model.specs.Testing.{testing}
+use Rattle.model.specs.Demand.{IsBuilt}
 use Rattle.model.specs.Writing.{AfterWriting, textOf, writingOf, writing}
-use Rattle.model.specs.Listing.{listing, writingListing}
 use Rattle.model.proofs.Tests.{picked}
 use Rattle.model.proofs.Outcomes.{never}
 use Rattle.model.proofs.Verdicts.{Sources, round, covers, source-cases}
@@ -30,11 +28,12 @@ use Rattle.model.proofs.Covering.{hubs-length}
 use Rattle.model.proofs.Threshold.{bitLength-is, threshold-is}
 
 -- reading: n and m
-pub read-fits : (text : List ℕ) (p q : ℕ) (x : Size) → reading text p q .answer ≡ answered x → (x .nodes ≤ 1024) × (x .links ≤ 16384)
+pub read-fits : (text : List ℕ) (p q : ℕ) {x : Size} → reading text p q .answer ≡ answered x → (x .nodes ≤ 1024) × (x .links ≤ 16384)
 unfolding reading readingOf
-read-fits text p q x e = at (parse 1024 16384 p q text) refl e
+read-fits text p q {x} = at (parse 1024 16384 p q text) refl
   where
-    at : (o : Outcome Parsed) → parse 1024 16384 p q text ≡ o → readingOf p q o .answer ≡ answered x → (x .nodes ≤ 1024) × (x .links ≤ 16384)
+    at : (o : Outcome Parsed) → parse 1024 16384 p q text ≡ o → readingOf p q o .answer ≡ answered x
+        → (x .nodes ≤ 1024) × (x .links ≤ 16384)
     at (refused k) h e = never e
     at (answered y) h e =
         let r = parse-sound 1024 16384 p q text y h in
@@ -42,15 +41,9 @@ read-fits text p q x e = at (parse 1024 16384 p q text) refl e
         subst (λ (z : Size). (z .nodes ≤ 1024) × (z .links ≤ 16384)) s (r .within .size, r .within .few)
 
 -- building: the count of hubs
-pub hubs-fit : (n : ℕ) (starts neighbours full low report list : List ℕ) (k : ℕ) → building n starts neighbours full low report list .answer ≡ answered k → k ≤ 1024
-unfolding building built
-hubs-fit n starts neighbours full low report list k =
-    let P : AfterBuilding → Type 0 = λ b. b .answer ≡ answered k → k ≤ 1024 in
-    picked P (badSize n) _ _ (λ h e. never e) (λ g.
-    picked P (shortLists n (length starts) (length full) (length low) (length report) (length list)) _ _ (λ h e. never e) (λ h.
-    picked P (not (isSurvey n starts neighbours)) _ _ (λ i e. never e) (λ i e.
-    let j : length (hubs n (threshold n) (neighboursOf starts neighbours)) ≡ k = cc in
-    omega (arith, size-bounds n g .1, hubs-length n (neighboursOf starts neighbours) (threshold n)))))
+pub hubs-fit : {n s : ℕ} {starts neighbours full low report list : List ℕ} {k : ℕ}
+    → IsBuilt n s starts neighbours full low report list k → k ≤ 1024
+hubs-fit {n} {s} {starts} {neighbours} b = omega (arith, b .count, hubs-length n (neighboursOf starts neighbours) s, b .survey .size)
 
 -- the threshold
 few : (n : ℕ) → n ≤ 1024 → threshold n ≤ 1024
@@ -59,33 +52,36 @@ few n h = threshold-is n .least 1024 (small n (bitLength n) h (bitLength-is n .l
     small : (a b : ℕ) → a ≤ 1024 → b ≤ 11 → a * b ≤ 1024 * 1024
     small a b h k = le-trans (mul-le-mul h k) (omega arith)
 
-pub threshold-fits : (n k : ℕ) → thresholdAnswer n ≡ answered k → k ≤ 1024
+pub threshold-fits : (n : ℕ) {k : ℕ} → thresholdAnswer n ≡ answered k → k ≤ 1024
 unfolding thresholdAnswer
-threshold-fits n k =
+threshold-fits n {k} =
     picked (λ (o : Outcome ℕ). o ≡ answered k → k ≤ 1024) (badSize n) _ _ (λ h e. never e) (λ g e.
     let j : threshold n ≡ k = cc in
     omega (arith, few n (size-bounds n g .1)))
 
+-- a text that is written: its length
+pub written-length : (text buffer : List ℕ) {k : ℕ} → writingOf (answered tt) text buffer .answer ≡ answered k → k ≡ length text
+unfolding writingOf
+written-length text buffer {k} =
+    picked (λ (w : AfterWriting). w .answer ≡ answered k → k ≡ length text) (ltb (length buffer) (length text)) _ _
+    (λ i e. never e) (λ i e. cc)
+
 -- writing back: the text's length
-pub text-fits : (n : ℕ) (starts neighbours buffer : List ℕ) (k : ℕ) → writing n starts neighbours buffer .answer ≡ answered k → k ≤ mostText
+pub text-fits : (n : ℕ) (starts neighbours buffer : List ℕ) {k : ℕ} → writing n starts neighbours buffer .answer ≡ answered k → k ≤ mostText
 unfolding writing writingOf
-text-fits n starts neighbours buffer k = at (accepting n starts neighbours) refl
+text-fits n starts neighbours buffer {k} = at (accepting n starts neighbours) refl
   where
-    at : (o : Outcome (Unit {0})) → accepting n starts neighbours ≡ o → writingOf o (textOf n starts neighbours) buffer .answer ≡ answered k → k ≤ mostText
+    text : List ℕ
+    text = textOf n starts neighbours
+
+    at : (o : Outcome (Unit {0})) → accepting n starts neighbours ≡ o → writingOf o text buffer .answer ≡ answered k → k ≤ mostText
     at (refused r) h e = never e
     at (answered x) h e =
-        picked (λ (w : AfterWriting). w .answer ≡ answered k → k ≤ mostText) (ltb (length buffer) (length (textOf n starts neighbours))) _ _ (λ i e. never e) (λ i e.
-        let j : length (textOf n starts neighbours) ≡ k = cc in
-        omega (arith, text-few n starts neighbours (accepting-facts n starts neighbours x h))) e
-
--- the listing's length
-pub listing-fits : (text buffer : List ℕ) (k : ℕ) → writingListing text buffer .answer ≡ answered k → k ≡ length (listing text)
-unfolding writingOf
-listing-fits text buffer k =
-    picked (λ (w : AfterWriting). w .answer ≡ answered k → k ≡ length (listing text)) (ltb (length buffer) (length (listing text))) _ _ (λ i e. never e) (λ i e. cc)
+        omega (arith, written-length text buffer e, text-few n starts neighbours (accepting-facts n starts neighbours x h))
 
 -- testing: the count of searches
-sources-few : (n : ℕ) (starts neighbours : List ℕ) (s : ℕ) → Accepted n starts neighbours → length (sources n s (neighboursOf starts neighbours)) ≤ 1024
+sources-few : (n : ℕ) (starts neighbours : List ℕ) (s : ℕ) → Accepted n starts neighbours
+    → length (sources n s (neighboursOf starts neighbours)) ≤ 1024
 unfolding closed
 sources-few n starts neighbours s acc = at (source-cases n s G (acc .lists .graph) (acc .size))
   where
@@ -96,12 +92,16 @@ sources-few n starts neighbours s acc = at (source-cases n s G (acc .lists .grap
     at (round v h t l) = omega (arith, few-neighbours n starts neighbours acc v h, acc .size)
     at (covers f) = omega (arith, hubs-length n G s, acc .size)
 
-pub searches-fit : (n : ℕ) (starts neighbours : List ℕ) (t : TestResult) → testing n starts neighbours ≡ answered t → t .searches ≤ 1024
+pub searches-fit : (n : ℕ) (starts neighbours : List ℕ) {t : TestResult} → testing n starts neighbours ≡ answered t → t .searches ≤ 1024
 unfolding testing testResult
-searches-fit n starts neighbours t = at (accepting n starts neighbours) refl
+searches-fit n starts neighbours {t} = at (accepting n starts neighbours) refl
   where
-    at : (o : Outcome (Unit {0})) → accepting n starts neighbours ≡ o → mapAnswer (λ _. testResult n (threshold n) (neighboursOf starts neighbours)) o ≡ answered t → t .searches ≤ 1024
+    result : TestResult
+    result = testResult n (threshold n) (neighboursOf starts neighbours)
+
+    at : (o : Outcome (Unit {0})) → accepting n starts neighbours ≡ o → mapAnswer (λ _. result) o ≡ answered t → t .searches ≤ 1024
     at (refused r) h e = never e
     at (answered x) h e =
-        let j : _≡_ {A = TestResult} (testResult n (threshold n) (neighboursOf starts neighbours)) t = cc in
-        subst (λ (y : TestResult). y .searches ≤ 1024) j (sources-few n starts neighbours (threshold n) (accepting-facts n starts neighbours x h))
+        let j : _≡_ {A = TestResult} result t = cc in
+        subst (λ (y : TestResult). y .searches ≤ 1024) j
+        (sources-few n starts neighbours (threshold n) (accepting-facts n starts neighbours x h))

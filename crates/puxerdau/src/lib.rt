@@ -1,6 +1,6 @@
 // The open calls for programs in C and other languages: numbers and slices go in, one number of 64 bits comes back. A slice is a
-// pointer and then a count of entries. `IsCode` (crate `base_answer_codes`, specs/Code.antt) says where a refusal's number and an answer's values stand
-// in that number, and that they are read back from it (`decoded`) as include/puxerdau.h does.
+// pointer and then a count of entries. `IsCode` (crate `base_answer_codes`, specs/Code.antt) says where a refusal's number and an
+// answer's values stand in that number, and that they are read back from it (`decoded`) as include/puxerdau.h does.
 ghost use mathlib.Core.Path.{_≡_};
 ghost use Prim.Native.Nat.{_≤_};
 ghost use lib.ListN.{length};
@@ -16,7 +16,9 @@ ghost use Rattle.model.specs.Testing.{testing};
 ghost use Rattle.model.specs.Listing.{listing, writingListing};
 ghost use Rattle.model.specs.Demand.{ReadRight, WriteRight, BuildRight, AskRight, WalkSound, WalkRight, TestRight};
 ghost use Rattle.listing_writing.specs.Length.{mostListing};
-ghost use Rattle.base_answer_codes.specs.Code.{noField, countField, sizeField, answerField, testField, decoded, noValue, countIn, sizeIn, answerIn, testIn, IsCode, readDecoded, writeDecoded, buildDecoded, walkDecoded};
+ghost use Rattle.base_answer_codes.specs.Code.{noField, countField, sizeField, answerField, testField};
+ghost use Rattle.base_answer_codes.specs.Code.{decoded, noValue, countIn, sizeIn, answerIn, testIn, IsCode};
+ghost use Rattle.base_answer_codes.specs.Code.{readDecoded, writeDecoded, buildDecoded, walkDecoded};
 
 // The threshold of n nodes.
 #[no_mangle]
@@ -29,7 +31,8 @@ pub extern "C" fn puxerdau_threshold(n: usize) -> u64
 // Reads a survey from its text into two lists.
 #[no_mangle]
 pub extern "C" fn puxerdau_read(text: &[u8], starts: &mut [u32], neighbours: &mut [u16]) -> u64
-    ensures { λ r. ⌜ IsCode sizeField sizeIn (reading (now (text .entry)) (length (now (starts .entry))) (length (now (neighbours .entry))) .answer) r ⌝ }
+    ensures { λ r. ⌜ IsCode sizeField sizeIn
+        (reading (now (text .entry)) (length (now (starts .entry))) (length (now (neighbours .entry))) .answer) r ⌝ }
     ensures { λ r. ⌜ readDecoded r (now (starts .exit)) (now (neighbours .exit))
         ≡ reading (now (text .entry)) (length (now (starts .entry))) (length (now (neighbours .entry))) ⌝ }
     ensures { λ r. ⌜ ReadRight (now (text .entry)) (readDecoded r (now (starts .exit)) (now (neighbours .exit))) ⌝ }
@@ -45,8 +48,10 @@ pub extern "C" fn puxerdau_write(
     neighbours: &[u16],
     buffer: &mut [u8],
 ) -> u64
-    ensures { λ r. ⌜ IsCode countField countIn (writing n (now (starts .entry)) (now (neighbours .entry)) (now (buffer .entry)) .answer) r ⌝ }
-    ensures { λ r. ⌜ writeDecoded r (now (buffer .exit)) ≡ writing n (now (starts .entry)) (now (neighbours .entry)) (now (buffer .entry)) ⌝ }
+    ensures { λ r. ⌜ IsCode countField countIn
+        (writing n (now (starts .entry)) (now (neighbours .entry)) (now (buffer .entry)) .answer) r ⌝ }
+    ensures { λ r. ⌜ writeDecoded r (now (buffer .exit))
+        ≡ writing n (now (starts .entry)) (now (neighbours .entry)) (now (buffer .entry)) ⌝ }
     ensures { λ r. ⌜ WriteRight n (now (starts .entry)) (now (neighbours .entry)) (writeDecoded r (now (buffer .exit))) ⌝ }
 {
     base_answer_codes::counting_code(survey_writing::write_survey(n, starts, neighbours, buffer))
@@ -71,9 +76,12 @@ pub extern "C" fn puxerdau_build(
     report: &mut [u16],
     hubs: &mut [u16],
 ) -> u64
-    ensures { λ r. ⌜ IsCode countField countIn (building n (now (starts .entry)) (now (neighbours .entry)) (now (full .entry)) (now (low .entry)) (now (report .entry)) (now (hubs .entry)) .answer) r ⌝ }
+    ensures { λ r. ⌜ IsCode countField countIn
+        (building n (now (starts .entry)) (now (neighbours .entry))
+        (now (full .entry)) (now (low .entry)) (now (report .entry)) (now (hubs .entry)) .answer) r ⌝ }
     ensures { λ r. ⌜ buildDecoded r (now (full .exit)) (now (low .exit)) (now (report .exit)) (now (hubs .exit))
-        ≡ building n (now (starts .entry)) (now (neighbours .entry)) (now (full .entry)) (now (low .entry)) (now (report .entry)) (now (hubs .entry)) ⌝ }
+        ≡ building n (now (starts .entry)) (now (neighbours .entry))
+        (now (full .entry)) (now (low .entry)) (now (report .entry)) (now (hubs .entry)) ⌝ }
     ensures { λ r. ⌜ BuildRight n (threshold n) (now (starts .entry)) (now (neighbours .entry))
         (buildDecoded r (now (full .exit)) (now (low .exit)) (now (report .exit)) (now (hubs .exit))) ⌝ }
 {
@@ -117,12 +125,17 @@ pub extern "C" fn puxerdau_walk(
     b: usize,
     walk: &mut [u16],
 ) -> u64
-    ensures { λ r. ⌜ IsCode answerField answerIn (walking n (now (starts .entry)) (now (neighbours .entry)) (now (full .entry)) (now (low .entry)) (now (report .entry)) a b (length (now (walk .entry))) .answer) r ⌝ }
+    ensures { λ r. ⌜ IsCode answerField answerIn
+        (walking n (now (starts .entry)) (now (neighbours .entry))
+        (now (full .entry)) (now (low .entry)) (now (report .entry)) a b (length (now (walk .entry))) .answer) r ⌝ }
     ensures { λ r. ⌜ walkDecoded r (now (walk .exit))
-        ≡ walking n (now (starts .entry)) (now (neighbours .entry)) (now (full .entry)) (now (low .entry)) (now (report .entry)) a b (length (now (walk .entry))) ⌝ }
-    ensures { λ r. ⌜ WalkSound (linked n (neighboursOf (now (starts .entry)) (now (neighbours .entry)))) a b (walkDecoded r (now (walk .exit))) ⌝ }
-    ensures { λ r. ⌜ WalkRight n (threshold n) (now (starts .entry)) (now (neighbours .entry)) (now (full .entry)) (now (low .entry)) (now (report .entry)) a b
-        (length (now (walk .entry))) (walkDecoded r (now (walk .exit))) ⌝ }
+        ≡ walking n (now (starts .entry)) (now (neighbours .entry))
+        (now (full .entry)) (now (low .entry)) (now (report .entry)) a b (length (now (walk .entry))) ⌝ }
+    ensures { λ r. ⌜ WalkSound (linked n (neighboursOf (now (starts .entry)) (now (neighbours .entry)))) a b
+        (walkDecoded r (now (walk .exit))) ⌝ }
+    ensures { λ r. ⌜ WalkRight n (threshold n) (now (starts .entry)) (now (neighbours .entry))
+        (now (full .entry)) (now (low .entry)) (now (report .entry)) a b (length (now (walk .entry)))
+        (walkDecoded r (now (walk .exit))) ⌝ }
 {
     base_answer_codes::asking_code(walk_writing::write_walk(
         n,

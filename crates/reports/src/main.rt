@@ -1,7 +1,7 @@
 // Prints the listing of the survey text on standard input, or why it is refused.
 use model::Counting;
 
-// Reads a text, and prints its listing by way of a buffer.
+// Reads a text, writes its listing into a buffer, and prints what was written.
 fn list(text: &mut [u8], lines: &mut [u8]) {
     let length = io::read_full(0, text);
     match listing_writing::write_listing(&text[..length], lines) {
@@ -12,7 +12,7 @@ fn list(text: &mut [u8], lines: &mut [u8]) {
     }
 }
 
-// Arrays of these types are lent without a look at their entries, which keeps the check short.
+// The same with two arrays, lent whole, so that the check does not look at their entries.
 fn list_in(text: &mut [u8; 49177], lines: &mut [u8; 146314]) {
     list(text, lines);
 }

@@ -19,7 +19,10 @@ Inv-loop n full low report buffer₀ at i₀ a₀ buffer i a =
 abbrev μ-loop : tie.MeasureT-loop
 μ-loop n full low report buffer₀ at i₀ a₀ buffer i a = n - a
 
-module _ (start : tie.Start Inv-loop μ-loop) where
+module _ (c : tie.At-loop Inv-loop μ-loop) where
+  abbrev start : tie.Start Inv-loop μ-loop
+  start = c .before .before .before .before .before
+
   -- the lines of one node, of the nodes from a on, and of all
   abbrev row : ℕ → List ℕ
   row a = let args = start .args in wholeRow (args .n) (args .full .now) (args .low .now) (args .report .now) a
@@ -30,21 +33,25 @@ module _ (start : tie.Start Inv-loop μ-loop) where
   abbrev all : List ℕ
   all = let args = start .args in pairLines (args .n) (args .full .now) (args .low .now) (args .report .now)
 
+  -- the loop's buffer holds the lines up to its place, and this text is left of it
+  abbrev LeftOf : List ℕ → Type 0
+  LeftOf left = Left (start .args .buffer .now) (c .loop .buffer) (start .args .at) (c .loop .i) all left
+
 -- in a turn the row of the node, and those behind it, are left
-left : (c : tie.In-loop Inv-loop μ-loop) → (
-    let start = c .before .before .before .before .before .before in
-    let loop = c .before .loop in
-    Left (start .args .buffer .now) (loop .buffer) (start .args .at) (loop .i) (all start)
-    (row start (loop .a) ++ rows start (loop .a + 1)))
-left c = subst (Left _ _ _ _ _) (gather-next _ _ _ (c .loop-test .taken)) (c .before .loop .inv .1)
+left : (c : tie.In-loop Inv-loop μ-loop) → (let loop = c .before in
+    LeftOf loop (row loop (loop .loop .a) ++ rows loop (loop .loop .a + 1)))
+left c = subst (LeftOf (c .before)) (gather-next _ _ _ (c .loop-test .taken)) (c .before .loop .inv .1)
 
 loop-holds : tie.Need-loop-holds Inv-loop μ-loop
-loop-holds c = (omega arith, subst (Left _ _ _ _ _) (pairs-rows _ _ _ _) (left-all (c .before .before .before .before .pre .1)))
+loop-holds c =
+    let start = c .before .before .before .before in
+    let args = start .args in
+    (omega arith, rw (← pairs-rows (args .n) (args .full .now) (args .low .now) (args .report .now)) (left-all (start .pre .1)))
 
 write-row-requires : tie.Need-write-row-requires Inv-loop μ-loop
 write-row-requires c κs =
-    let start = c .before .before .before .before .before .before .before in
-    (search needs, left-fits (row start _) _ (left (c .before)))
+    let loop = c .before .before in
+    (search needs, left-fits (row loop _) _ (left (c .before)))
 
 add-a : tie.Need-add-a Inv-loop μ-loop
 add-a c = search needs
@@ -62,7 +69,9 @@ same-length : tie.Need-same-length Inv-loop μ-loop
 same-length c = left-length (c .before .loop .inv .1)
 
 returns : tie.Need-returns Inv-loop μ-loop
-returns c = left-none (subst (Left _ _ _ _ _) (gather-end _ _ _ (c .loop-test .left)) (c .before .loop .inv .1))
+returns c =
+    let loop = c .before in
+    left-none (subst (LeftOf loop) (gather-end _ _ _ (c .loop-test .left)) (loop .loop .inv .1))
 
 pub write-pairs-spec : {M : Type 1} → statement M
 write-pairs-spec =

@@ -18,7 +18,10 @@ Inv-loop n full low report a buffer₀ at i₀ b₀ buffer i b =
 abbrev μ-loop : tie.MeasureT-loop
 μ-loop n full low report a buffer₀ at i₀ b₀ buffer i b = n - b
 
-module _ (start : tie.Start Inv-loop μ-loop) where
+module _ (c : tie.At-loop Inv-loop μ-loop) where
+  abbrev start : tie.Start Inv-loop μ-loop
+  start = c .before .before .before .before .before
+
   -- the line of a with b, and those of a with the nodes from b on
   abbrev answer : ℕ → List ℕ
   answer b = let args = start .args in answerText (args .n) (args .full .now) (args .low .now) (args .report .now) (args .a) b
@@ -26,14 +29,15 @@ module _ (start : tie.Start Inv-loop μ-loop) where
   abbrev row : ℕ → List ℕ
   row b = let args = start .args in rowText (args .n) (args .full .now) (args .low .now) (args .report .now) (args .a) b
 
+  -- the loop's buffer holds the row up to its place, and this text is left of it
+  abbrev LeftOf : List ℕ → Type 0
+  LeftOf left = Left (start .args .buffer .now) (c .loop .buffer) (start .args .at) (c .loop .i) (row (start .args .a + 1)) left
+
 -- in a turn the line of the pair, and those behind it, are left
-left : (c : tie.In-loop Inv-loop μ-loop) → (
-    let start = c .before .before .before .before .before .before in
-    let loop = c .before .loop in
-    Left (start .args .buffer .now) (loop .buffer) (start .args .at) (loop .i) (row start (start .args .a + 1))
-    (answer start (loop .b) ++ row start (loop .b + 1)))
+left : (c : tie.In-loop Inv-loop μ-loop) → (let loop = c .before in
+    LeftOf loop (answer loop (loop .loop .b) ++ row loop (loop .loop .b + 1)))
 unfolding rowText
-left c = subst (Left _ _ _ _ _) (gather-next _ _ _ (c .loop-test .taken)) (c .before .loop .inv .1)
+left c = subst (LeftOf (c .before)) (gather-next _ _ _ (c .loop-test .taken)) (c .before .loop .inv .1)
 
 add-b : tie.Need-add-b Inv-loop μ-loop
 add-b c = search needs
@@ -43,8 +47,8 @@ loop-holds c = (omega arith, left-all (c .before .before .before .before .pre .1
 
 write-answer-requires : tie.Need-write-answer-requires Inv-loop μ-loop
 write-answer-requires c κs =
-    let start = c .before .before .before .before .before .before .before in
-    (search needs, left-fits (answer start _) _ (left (c .before)))
+    let loop = c .before .before in
+    (search needs, left-fits (answer loop _) _ (left (c .before)))
 
 add-b-2 : tie.Need-add-b-2 Inv-loop μ-loop
 add-b-2 c = search needs
@@ -63,7 +67,9 @@ same-length c = left-length (c .before .loop .inv .1)
 
 returns : tie.Need-returns Inv-loop μ-loop
 unfolding rowText
-returns c = left-none (subst (Left _ _ _ _ _) (gather-end _ _ _ (c .loop-test .left)) (c .before .loop .inv .1))
+returns c =
+    let loop = c .before in
+    left-none (subst (LeftOf loop) (gather-end _ _ _ (c .loop-test .left)) (loop .loop .inv .1))
 
 pub write-row-spec : {M : Type 1} → statement M
 write-row-spec =

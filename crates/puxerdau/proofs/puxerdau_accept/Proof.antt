@@ -1,9 +1,5 @@
 -- `puxerdau::puxerdau_accept` meets its contract: the outcome, in code.
 -- Assumes nothing.
-use native.Mathlib.Omega.{arith}
-use mathlib.Core.Path.{subst}
-use Rattle.model.specs.Answers.{Outcome}
-use Rattle.base_answer_codes.specs.Code.{noField, noValue, IsCode}
 use borrow.Author.Needs.{needs}
 use Rattle.puxerdau.proofs.puxerdau_accept.Statement.{statement}
 use Rattle.puxerdau.proofs.puxerdau_accept.Tie as tie
@@ -15,8 +11,7 @@ accepting-code-requires : tie.Need-accepting-code-requires
 accepting-code-requires c κs = search needs
 
 returns : tie.Need-returns
-returns c = subst (λ (o : Outcome (Unit {0})). IsCode noField noValue o (c .accepting-code .result)) (c .before .accept .ensures)
-    (c .accepting-code .ensures)
+returns c = rw (c .before .accept .ensures) at (c .accepting-code .ensures)
 
 pub puxerdau-accept-spec : {M : Type 1} → statement M
 puxerdau-accept-spec = tie.close (tie.spec accept-requires accepting-code-requires returns)

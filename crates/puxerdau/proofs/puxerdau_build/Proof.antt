@@ -1,13 +1,13 @@
 -- `puxerdau::puxerdau_build` meets its contract: the outcome, in code, and what building promises of it.
 -- Assumes nothing.
-use mathlib.Core.Path.{refl, sym, ap, _∙_}
+use mathlib.Core.Path.{refl}
 use native.Mathlib.Omega.{arith}
+use borrow.Author.Needs.{needs}
 use Rattle.model.specs.Building.{AfterBuilding}
 use Rattle.model.specs.Demand.{BuildRight}
 use Rattle.base_answer_codes.specs.Code.{countField, countIn}
 use Rattle.base_answer_codes.proofs.Decoding.{passed-on}
 use Rattle.puxerdau.proofs.Fits.{hubs-fit}
-use borrow.Author.Needs.{needs}
 use Rattle.puxerdau.proofs.puxerdau_build.Statement.{statement}
 use Rattle.puxerdau.proofs.puxerdau_build.Tie as tie
 
@@ -16,13 +16,8 @@ build-requires c κs = search needs
 
 counting-code-requires : tie.Need-counting-code-requires
 counting-code-requires c κs =
-    let at-build = c .before .before .before .before .before .before .before .before in
-    let call = at-build .build in
-    λ k e. omega (
-      arith,
-      hubs-fit _ _ _ _ _
-          _ _ k (sym (ap (λ (x : AfterBuilding). x .answer) (call .ensures .0)) ∙ e),
-    )
+    let call = c .before .before .before .before .before .before .before .before .build in
+    λ k e. omega (arith, hubs-fit (call .ensures .1 k e))
 
 same-length : tie.Need-same-length
 same-length c = search needs
@@ -38,8 +33,7 @@ same-length-4 c = search needs
 
 returns : tie.Need-returns
 returns c =
-    let at-build = c .before .before .before .before .before .before .before .before .before in
-    let call = at-build .build in
+    let call = c .before .before .before .before .before .before .before .before .before .build in
     passed-on countField countIn (λ (x : AfterBuilding). x .answer)
     (λ o. record {
       answer = o;

@@ -2,13 +2,12 @@
 -- Assumes nothing.
 use mathlib.Core.Path.{refl, sym, ap, _∙_}
 use native.Mathlib.Omega.{arith}
-use lib.ListN.{length}
+use borrow.Author.Needs.{needs}
 use Rattle.model.specs.Reading.{AfterReading}
 use Rattle.model.specs.Demand.{ReadRight}
 use Rattle.base_answer_codes.specs.Code.{sizeField, sizeIn}
 use Rattle.base_answer_codes.proofs.Decoding.{passed-on}
 use Rattle.puxerdau.proofs.Fits.{read-fits}
-use borrow.Author.Needs.{needs}
 use Rattle.puxerdau.proofs.puxerdau_read.Statement.{statement}
 use Rattle.puxerdau.proofs.puxerdau_read.Tie as tie
 
@@ -17,12 +16,9 @@ read-survey-requires c κs = search needs
 
 reading-code-requires : tie.Need-reading-code-requires
 reading-code-requires c κs =
-    let start = c .before .before .before .before .before .before .before .before .before .before in
     let call = c .before .before .before .before .read-survey in
-    λ s e.
-    let f = read-fits _ (length (start .args .starts .now)) (length (start .args .neighbours .now)) s
-    (sym (ap (λ (x : AfterReading). x .answer) (call .ensures .0)) ∙ e) in
-    (omega arith, omega arith)
+    let answer = ap (λ (x : AfterReading). x .answer) (call .ensures .0) in
+    λ s e. omega (arith, read-fits _ _ _ (sym answer ∙ e))
 
 same-length : tie.Need-same-length
 same-length c = search needs

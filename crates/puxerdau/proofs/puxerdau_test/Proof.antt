@@ -1,13 +1,9 @@
 -- `puxerdau::puxerdau_test` meets its contract: the outcome, in code, and what testing promises of it.
 -- Assumes nothing.
-use mathlib.Core.Path.{sym, _∙_, subst}
+use mathlib.Core.Path.{sym, _∙_}
 use native.Mathlib.Omega.{arith}
-use Rattle.model.specs.declared.TestResult.{TestResult}
-use Rattle.model.specs.Answers.{Outcome}
-use Rattle.model.specs.Demand.{TestRight}
-use Rattle.base_answer_codes.specs.Code.{testField, testIn, IsCode}
-use Rattle.puxerdau.proofs.Fits.{searches-fit}
 use borrow.Author.Needs.{needs}
+use Rattle.puxerdau.proofs.Fits.{searches-fit}
 use Rattle.puxerdau.proofs.puxerdau_test.Statement.{statement}
 use Rattle.puxerdau.proofs.puxerdau_test.Tie as tie
 
@@ -15,16 +11,13 @@ test-requires : tie.Need-test-requires
 test-requires c κs = search needs
 
 testing-code-requires : tie.Need-testing-code-requires
-testing-code-requires c κs = λ t e. omega
-    (arith, searches-fit _ _ _ t (sym (c .test .ensures .0) ∙ e))
+testing-code-requires c κs = λ t e. omega (arith, searches-fit _ _ _ (sym (c .test .ensures .0) ∙ e))
 
 returns : tie.Need-returns
 returns c =
     let tested = c .before .test .ensures in
-    let coded = c .testing-code .ensures in (
-      subst (λ (o : Outcome TestResult). IsCode testField testIn o (c .testing-code .result)) (tested .0) coded,
-      subst (TestRight _ _ _) (sym (coded .back)) (tested .1),
-    )
+    let coded = c .testing-code .ensures in
+    (rw (tested .0) at coded, rw (coded .back) (tested .1))
 
 pub puxerdau-test-spec : {M : Type 1} → statement M
 puxerdau-test-spec = tie.close (tie.spec test-requires testing-code-requires returns)

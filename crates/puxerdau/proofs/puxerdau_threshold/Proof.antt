@@ -1,12 +1,9 @@
 -- `puxerdau::puxerdau_threshold` meets its contract: the outcome, in code.
 -- Assumes nothing.
-use mathlib.Core.Path.{sym, _∙_, subst}
-use Prim.Native.Nat.{ℕ}
+use mathlib.Core.Path.{sym, _∙_}
 use native.Mathlib.Omega.{arith}
-use Rattle.model.specs.Answers.{Outcome}
-use Rattle.base_answer_codes.specs.Code.{countField, countIn, IsCode}
-use Rattle.puxerdau.proofs.Fits.{threshold-fits}
 use borrow.Author.Needs.{needs}
+use Rattle.puxerdau.proofs.Fits.{threshold-fits}
 use Rattle.puxerdau.proofs.puxerdau_threshold.Statement.{statement}
 use Rattle.puxerdau.proofs.puxerdau_threshold.Tie as tie
 
@@ -14,11 +11,10 @@ threshold-of-requires : tie.Need-threshold-of-requires
 threshold-of-requires c κs = search needs
 
 counting-code-requires : tie.Need-counting-code-requires
-counting-code-requires c κs = λ k e. omega (arith, threshold-fits _ k (sym (c .threshold-of .ensures) ∙ e))
+counting-code-requires c κs = λ k e. omega (arith, threshold-fits _ (sym (c .threshold-of .ensures) ∙ e))
 
 returns : tie.Need-returns
-returns c = subst (λ (o : Outcome ℕ). IsCode countField countIn o (c .counting-code .result)) (c .before .threshold-of .ensures)
-    (c .counting-code .ensures)
+returns c = rw (c .before .threshold-of .ensures) at (c .counting-code .ensures)
 
 pub puxerdau-threshold-spec : {M : Type 1} → statement M
 puxerdau-threshold-spec = tie.close (tie.spec threshold-of-requires counting-code-requires returns)

@@ -1,7 +1,7 @@
 -- `puxerdau::puxerdau_walk` meets its contract: the outcome, in code, and what writing a walk promises of it.
 -- Assumes nothing.
-use native.Mathlib.Omega.{arith}
 use mathlib.Core.Path.{refl}
+use borrow.Author.Needs.{needs}
 use lib.ListN.{length}
 use Rattle.model.specs.Survey.{neighboursOf}
 use Rattle.model.specs.Graph.{linked}
@@ -10,7 +10,6 @@ use Rattle.model.specs.Walking.{AfterWalking}
 use Rattle.model.specs.Demand.{WalkSound, WalkRight}
 use Rattle.base_answer_codes.specs.Code.{answerField, answerIn}
 use Rattle.base_answer_codes.proofs.Decoding.{passed-on}
-use borrow.Author.Needs.{needs}
 use Rattle.puxerdau.proofs.puxerdau_walk.Statement.{statement}
 use Rattle.puxerdau.proofs.puxerdau_walk.Tie as tie
 

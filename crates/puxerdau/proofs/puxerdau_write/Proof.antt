@@ -2,12 +2,12 @@
 -- Assumes nothing.
 use mathlib.Core.Path.{refl, sym, ap, _∙_}
 use native.Mathlib.Omega.{arith}
+use borrow.Author.Needs.{needs}
 use Rattle.model.specs.Writing.{AfterWriting}
 use Rattle.model.specs.Demand.{WriteRight}
 use Rattle.base_answer_codes.specs.Code.{countField, countIn}
 use Rattle.base_answer_codes.proofs.Decoding.{passed-on}
 use Rattle.puxerdau.proofs.Fits.{text-fits}
-use borrow.Author.Needs.{needs}
 use Rattle.puxerdau.proofs.puxerdau_write.Statement.{statement}
 use Rattle.puxerdau.proofs.puxerdau_write.Tie as tie
 
@@ -17,11 +17,8 @@ write-survey-requires c κs = search needs
 counting-code-requires : tie.Need-counting-code-requires
 counting-code-requires c κs =
     let call = c .before .before .write-survey in
-    λ k e. omega (
-      arith,
-      text-fits _ _ _ _ k
-          (sym (ap (λ (x : AfterWriting). x .answer) (call .ensures .0)) ∙ e),
-    )
+    let answer = ap (λ (x : AfterWriting). x .answer) (call .ensures .0) in
+    λ k e. omega (arith, text-fits _ _ _ _ (sym answer ∙ e))
 
 same-length : tie.Need-same-length
 same-length c = search needs

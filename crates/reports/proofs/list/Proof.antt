@@ -1,15 +1,18 @@
 -- `reports::list` is safe: the length that listing answers is within its buffer.
 -- Assumes nothing.
-use native.Mathlib.Omega.{arith}
-use mathlib.Core.Path.{sym, ap, _∙_}
-use lib.Seq.{length-take-le}
-use Rattle.model.specs.declared.Counting.{Counting}
-use Rattle.model.specs.Listing.{listing}
-use Rattle.model.specs.Writing.{writeReturned}
-use Rattle.model.proofs.ReadBack.{write-fits}
+use mathlib.Core.Path.{sym}
+use Prim.Native.Nat.{_≤_}
 use borrow.Author.Needs.{needs}
+use lib.ListN.{length}
+use lib.Seq.{length-take-le}
+use Rattle.model.specs.Listing.{listing}
+use Rattle.model.proofs.ReadBack.{write-fits}
 use Rattle.reports.proofs.list.Statement.{statement}
 use Rattle.reports.proofs.list.Tie as tie
+
+-- the length that is answered is within the lines
+fits : (c : tie.After-k) → c .k .given .0 .0 ≤ length (c .before .before .before .before .write-listing .last .1 .0)
+fits c = write-fits (listing _) _ _ _ (rw (c .k .given .1) at (c .before .before .before .before .write-listing .ensures .0))
 
 read-full-requires : tie.Need-read-full-requires
 read-full-requires c κs = search needs
@@ -30,21 +33,10 @@ enum-known-k : tie.Need-enum-known-k
 enum-known-k c = search needs
 
 slice-reshare-prefix-write-all : tie.Need-slice-reshare-prefix-write-all
-slice-reshare-prefix-write-all c =
-    let at-write-listing = c .before .before .before .before .before in
-    let at-k = c .before in
-    write-fits (listing _) _ _ _
-    (sym (ap (λ (z : Counting). writeReturned z (at-write-listing .write-listing .last .1 .0)) (at-k .k .given .1)) ∙
-    (at-write-listing .write-listing .ensures .0))
+slice-reshare-prefix-write-all c = fits (c .before)
 
 slice-aggregate-write-all : tie.Need-slice-aggregate-write-all
-slice-aggregate-write-all c =
-    let at-write-listing = c .before .before .before .before .before .before in
-    let at-k = c .before .before in
-    sym (length-take-le _ _
-    (write-fits (listing _) _ _ _
-    (sym (ap (λ (z : Counting). writeReturned z (at-write-listing .write-listing .last .1 .0)) (at-k .k .given .1)) ∙
-    (at-write-listing .write-listing .ensures .0))))
+slice-aggregate-write-all c = sym (length-take-le _ _ (fits (c .before .before)))
 
 write-all-requires : tie.Need-write-all-requires
 write-all-requires c κs = search needs
