@@ -1,6 +1,11 @@
 // The open calls for programs in C and other languages: numbers and slices go in, one number of 64 bits comes back. A slice is a
 // pointer and then a count of entries. `IsCode` (crate `base_answer_codes`, specs/Code.antt) says where a refusal's number and an
 // answer's values stand in that number, and that they are read back from it (`decoded`) as include/puxerdau.h does.
+use base_answer_codes::accepting_code;
+use base_answer_codes::asking_code;
+use base_answer_codes::counting_code;
+use base_answer_codes::reading_code;
+use base_answer_codes::testing_code;
 ghost use mathlib.Core.Path.{_≡_};
 ghost use Prim.Native.Nat.{_≤_};
 ghost use lib.ListN.{length};
@@ -25,7 +30,7 @@ ghost use Rattle.base_answer_codes.specs.Code.{readDecoded, writeDecoded, build
 pub extern "C" fn puxerdau_threshold(n: usize) -> u64
     ensures { λ r. ⌜ IsCode countField countIn (thresholdAnswer n) r ⌝ }
 {
-    base_answer_codes::counting_code(base_threshold::threshold_of(n))
+    counting_code(base_threshold::threshold_of(n))
 }
 
 // Reads a survey from its text into two lists.
@@ -37,7 +42,7 @@ pub extern "C" fn puxerdau_read(text: &[u8], starts: &mut [u32], neighbours: &mu
         ≡ reading (now (text .entry)) (length (now (starts .entry))) (length (now (neighbours .entry))) ⌝ }
     ensures { λ r. ⌜ ReadRight (now (text .entry)) (readDecoded r (now (starts .exit)) (now (neighbours .exit))) ⌝ }
 {
-    base_answer_codes::reading_code(survey_reading::read_survey(text, starts, neighbours))
+    reading_code(survey_reading::read_survey(text, starts, neighbours))
 }
 
 // Writes a survey's text into a buffer.
@@ -54,7 +59,7 @@ pub extern "C" fn puxerdau_write(
         ≡ writing n (now (starts .entry)) (now (neighbours .entry)) (now (buffer .entry)) ⌝ }
     ensures { λ r. ⌜ WriteRight n (now (starts .entry)) (now (neighbours .entry)) (writeDecoded r (now (buffer .exit))) ⌝ }
 {
-    base_answer_codes::counting_code(survey_writing::write_survey(n, starts, neighbours, buffer))
+    counting_code(survey_writing::write_survey(n, starts, neighbours, buffer))
 }
 
 // Whether the lists are a survey's: the refusals that all calls over a survey share.
@@ -62,7 +67,7 @@ pub extern "C" fn puxerdau_write(
 pub extern "C" fn puxerdau_accept(n: usize, starts: &[u32], neighbours: &[u16]) -> u64
     ensures { λ r. ⌜ IsCode noField noValue (accepting n (now (starts .entry)) (now (neighbours .entry))) r ⌝ }
 {
-    base_answer_codes::accepting_code(survey_acceptance::accept(n, starts, neighbours))
+    accepting_code(survey_acceptance::accept(n, starts, neighbours))
 }
 
 // Builds the three tables and the hub list of a survey.
@@ -85,15 +90,7 @@ pub extern "C" fn puxerdau_build(
     ensures { λ r. ⌜ BuildRight n (threshold n) (now (starts .entry)) (now (neighbours .entry))
         (buildDecoded r (now (full .exit)) (now (low .exit)) (now (report .exit)) (now (hubs .exit))) ⌝ }
 {
-    base_answer_codes::counting_code(table_building::build(
-        n,
-        starts,
-        neighbours,
-        full,
-        low,
-        report,
-        hubs,
-    ))
+    counting_code(table_building::build(n, starts, neighbours, full, low, report, hubs))
 }
 
 // Asks a pair: the report with its route.
@@ -109,7 +106,7 @@ pub extern "C" fn puxerdau_ask(
     ensures { λ r. ⌜ IsCode answerField answerIn (asking n (now (full .entry)) (now (low .entry)) (now (report .entry)) a b) r ⌝ }
     ensures { λ r. ⌜ AskRight n (now (full .entry)) (now (low .entry)) (now (report .entry)) a b (decoded answerIn r) ⌝ }
 {
-    base_answer_codes::asking_code(answer_pairs::ask(n, full, low, report, a, b))
+    asking_code(answer_pairs::ask(n, full, low, report, a, b))
 }
 
 // Writes the walk of a pair into a list.
@@ -137,17 +134,7 @@ pub extern "C" fn puxerdau_walk(
         (now (full .entry)) (now (low .entry)) (now (report .entry)) a b (length (now (walk .entry)))
         (walkDecoded r (now (walk .exit))) ⌝ }
 {
-    base_answer_codes::asking_code(walk_writing::write_walk(
-        n,
-        starts,
-        neighbours,
-        full,
-        low,
-        report,
-        a,
-        b,
-        walk,
-    ))
+    asking_code(walk_writing::write_walk(n, starts, neighbours, full, low, report, a, b, walk))
 }
 
 // The two-or-four test of a survey.
@@ -156,7 +143,7 @@ pub extern "C" fn puxerdau_test(n: usize, starts: &[u32], neighbours: &[u16]) ->
     ensures { λ r. ⌜ IsCode testField testIn (testing n (now (starts .entry)) (now (neighbours .entry))) r ⌝ }
     ensures { λ r. ⌜ TestRight n (now (starts .entry)) (now (neighbours .entry)) (decoded testIn r) ⌝ }
 {
-    base_answer_codes::testing_code(answer_two_or_four::test(n, starts, neighbours))
+    testing_code(answer_two_or_four::test(n, starts, neighbours))
 }
 
 // Writes the listing of a text into a buffer.
@@ -166,5 +153,5 @@ pub extern "C" fn puxerdau_list(text: &[u8], buffer: &mut [u8]) -> u64
     ensures { λ r. ⌜ writeDecoded r (now (buffer .exit)) ≡ writingListing (now (text .entry)) (now (buffer .entry)) ⌝ }
     ensures { λ _. ⌜ length (listing (now (text .entry))) ≤ mostListing ⌝ }
 {
-    base_answer_codes::counting_code(listing_writing::write_listing(text, buffer))
+    counting_code(listing_writing::write_listing(text, buffer))
 }
