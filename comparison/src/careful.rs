@@ -345,12 +345,12 @@ fn fill_low(n: usize, s: usize, starts: &[u32], neighbours: &[u16], low: &mut [u
     (0..n).for_each(|v| insert(&mut all, v));
     low.fill(NONE);
     for a in (0..n).filter(|&a| is_low(a)) {
-        search_by_words(&links, &all, a, &mut low[a * n..(a + 1) * n]);
+        search_by_bit_sets(&links, &all, a, &mut low[a * n..(a + 1) * n]);
     }
 }
 
 /// Breadth-first search, layer by layer, into a row that is all none.
-fn search_by_words(links: &[Set], all: &Set, source: usize, row: &mut [u16]) {
+fn search_by_bit_sets(links: &[Set], all: &Set, source: usize, row: &mut [u16]) {
     let mut layer: Set = [0; 16];
     insert(&mut layer, source);
     let mut unvisited = *all;

@@ -1,5 +1,5 @@
 //! Scripts of calls: what running them has in common. The Rattle crate
-//! `test_commands` does the same for the programs `test_surveys` and `test_tables`.
+//! `test_scripts` does the same for the programs `test_surveys` and `test_tables`.
 
 use reference::{read, Tested};
 

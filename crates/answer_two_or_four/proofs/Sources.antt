@@ -27,7 +27,7 @@ use Rattle.model.proofs.Verdicts.{source-cases, source-below}
 use Rattle.base_lists.specs.Written.{Wrote, written}
 use Rattle.base_nodeset.specs.NodeSet.{Nodes}
 use Rattle.search_depths.specs.Depth.{greatest}
-use Rattle.table_degrees.proofs.Degrees.{low-are}
+use Rattle.table_degree_split.proofs.Degrees.{low-are}
 use Rattle.answer_two_or_four.specs.DepthVerdict.{ofDepth}
 use Rattle.answer_two_or_four.proofs.DepthVerdict.{verdict-is}
 

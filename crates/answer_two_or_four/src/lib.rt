@@ -21,7 +21,7 @@ fn find_sources(n: usize, s: usize, starts: &[u32], neighbours: &[u16], list: &m
     ensures { λ r. ⌜ take r (now (list .exit)) ≡ sources n s (neighboursOf (now (starts .entry)) (now (neighbours .entry))) ⌝ }
 {
     let mut low = [0u64; 16];
-    table_degrees::low_nodes(n, s, starts, neighbours, &mut low);
+    table_degree_split::low_nodes(n, s, starts, neighbours, &mut low);
     let v = base_nodeset::smallest(&low);
     if n <= v {
         return table_hubs::choose_hubs(n, s, starts, neighbours, list);

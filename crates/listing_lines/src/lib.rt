@@ -78,7 +78,7 @@ fn write_answer(
     ensures { λ r. ⌜ Wrote (now (buffer .entry)) (now (buffer .exit)) at r
         (answerText n (now (full .entry)) (now (low .entry)) (now (report .entry)) a b) ⌝ }
 {
-    match answer_pairs::pair_answer(n, full, low, report, a, b) {
+    match answer_pair::pair_answer(n, full, low, report, a, b) {
         Asking::Refused(_) => at,
         Asking::Answered(x) => write_pair(buffer, at, a as u32, b as u32, x),
     }

@@ -106,7 +106,7 @@ pub extern "C" fn puxerdau_ask(
     ensures { λ r. ⌜ IsCode answerField answerIn (asking n (now (full .entry)) (now (low .entry)) (now (report .entry)) a b) r ⌝ }
     ensures { λ r. ⌜ AskRight n (now (full .entry)) (now (low .entry)) (now (report .entry)) a b (decoded answerIn r) ⌝ }
 {
-    asking_code(answer_pairs::ask(n, full, low, report, a, b))
+    asking_code(answer_pair::ask(n, full, low, report, a, b))
 }
 
 // Writes the walk of a pair into a list.

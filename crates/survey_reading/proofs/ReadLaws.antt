@@ -22,12 +22,12 @@ use Rattle.model.proofs.ReadBack.{named-below, reading-right}
 use Rattle.model.proofs.SurveyLists.{neighbours-length, starts-same, neighbours-same}
 use Rattle.model.proofs.Totals.{links-total}
 use Rattle.base_nodeset.specs.Matrix.{edgesIn}
-use Rattle.survey_lines.specs.LinesRead.{Holds, lineAnswer, Told}
-use Rattle.survey_lines.specs.declared.LineSays.{LineSays}
-use Rattle.survey_lines.specs.declared.LineSays.the-variants as says
-use Rattle.survey_lines.specs.declared.Links.{Links}
-use Rattle.survey_lists.specs.MatrixRows.{rowsIn}
-use Rattle.survey_lines.specs.declared.Links.the-variants as links
+use Rattle.survey_reading_lines.specs.LinesRead.{Holds, lineAnswer, Told}
+use Rattle.survey_reading_lines.specs.declared.LineSays.{LineSays}
+use Rattle.survey_reading_lines.specs.declared.LineSays.the-variants as says
+use Rattle.survey_reading_lines.specs.declared.Links.{Links}
+use Rattle.survey_reading_lists.specs.MatrixRows.{rowsIn}
+use Rattle.survey_reading_lines.specs.declared.Links.the-variants as links
 
 -- lists that are all zero, as a refusal leaves them
 read-refused : (p q : ℕ) (r : Refusal) {s x : List ℕ} → s ≡ replicate p 0 → x ≡ replicate q 0

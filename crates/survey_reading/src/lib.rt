@@ -1,8 +1,8 @@
 // Reading a survey from its text.
 use model::Reading;
 use model::Size;
-use survey_lines::LineSays;
-use survey_lines::Links;
+use survey_reading_lines::LineSays;
+use survey_reading_lines::Links;
 ghost use mathlib.Core.Path.{_≡_};
 ghost use mathlib.Core.List.{[]};
 ghost use Prim.Native.Nat.{_+_, _*_, _≤_};
@@ -26,10 +26,10 @@ fn read_lists(
         (parsed n (readLinks n m [] (drop at (now (text .entry))))) ⌝ }
 {
     let mut bits = [0u64; 16384];
-    match survey_lines::read_links(text, at, n, m, &mut bits) {
+    match survey_reading_lines::read_links(text, at, n, m, &mut bits) {
         Links::Refused(r) => Reading::Refused(r),
         Links::Taken => {
-            survey_lists::write_lists(&bits, n, starts, neighbours);
+            survey_reading_lists::write_lists(&bits, n, starts, neighbours);
             Reading::Read(Size { nodes: n, links: m })
         }
     }
@@ -50,7 +50,13 @@ pub fn read_within(
 {
     base_lists::fill32(starts, 0);
     base_lists::fill16(neighbours, 0);
-    match survey_lines::first_line(text, most_nodes, most_links, starts.len(), neighbours.len()) {
+    match survey_reading_lines::first_line(
+        text,
+        most_nodes,
+        most_links,
+        starts.len(),
+        neighbours.len(),
+    ) {
         LineSays::Refused(r) => Reading::Refused(r),
         LineSays::Pair(n, m, at) => read_lists(text, at, n, m, starts, neighbours),
     }

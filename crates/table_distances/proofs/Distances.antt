@@ -23,7 +23,7 @@ use Rattle.model.proofs.Tests.{T-true, true-T, no-false, passes, same-test}
 use Rattle.base_nodeset.specs.NodeSet.{Nodes}
 use Rattle.base_lists.proofs.TableRows.{over-length, row-same, put-row, one-value, over-same}
 use Rattle.base_lists.proofs.TableRows.{RowsTo, rows-next, rows-done}
-use Rattle.table_degrees.proofs.Degrees.{low-are}
+use Rattle.table_degree_split.proofs.Degrees.{low-are}
 
 -- ---- Full, hub by hub
 

@@ -40,7 +40,7 @@ fn low_row(n: usize, rows: &[u64], low_nodes: &[u64], a: usize, low: &mut [u16])
     let start = a * n;
     let end = start + n;
     if base_nodeset::contains(low_nodes, a) {
-        search_by_words::search(n, rows, a, &mut low[start..end]);
+        search_by_bit_sets::search(n, rows, a, &mut low[start..end]);
         return;
     }
     base_lists::fill16(&mut low[start..end], NONE);
@@ -53,9 +53,9 @@ pub fn fill_low(n: usize, s: usize, starts: &[u32], neighbours: &[u16], low: &mu
         ≡ over (lowTable n s (neighboursOf (now (starts .entry)) (now (neighbours .entry)))) (now (low .entry)) ⌝ }
 {
     let mut low_nodes = [0u64; 16];
-    table_degrees::low_nodes(n, s, starts, neighbours, &mut low_nodes);
+    table_degree_split::low_nodes(n, s, starts, neighbours, &mut low_nodes);
     let mut rows = [0u64; 16384];
-    search_matrix::link_rows(n, starts, neighbours, &low_nodes, &mut rows);
+    search_link_matrix::link_rows(n, starts, neighbours, &low_nodes, &mut rows);
     let mut a = 0;
     while a < n {
         low_row(n, &rows, &low_nodes, a, low);

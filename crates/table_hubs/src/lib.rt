@@ -90,7 +90,7 @@ pub fn choose_hubs(
         ≡ over (hubList n s (neighboursOf (now (starts .entry)) (now (neighbours .entry)))) (now (list .entry)) ⌝ }
 {
     let mut uncovered = [0u64; 16];
-    table_degrees::high_nodes(n, s, starts, neighbours, &mut uncovered);
+    table_degree_split::high_nodes(n, s, starts, neighbours, &mut uncovered);
     let mut count = 0;
     loop {
         // the smallest uncovered node; where it is not below n, every high node is covered

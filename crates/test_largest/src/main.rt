@@ -1,9 +1,9 @@
 // Reads a survey of up to 1,024 nodes and 16,384 links from standard input, builds its tables and tests it. Prints a line for each of
-// the three calls, as a script's call does (crate `test_commands`). The three tables are 6 MiB of the stack.
+// the three calls, as a script's call does (crate `test_scripts`). The three tables are 6 MiB of the stack.
 use model::Reading;
-use test_commands::print_built;
-use test_commands::print_read;
-use test_commands::print_tested;
+use test_scripts::print_built;
+use test_scripts::print_read;
+use test_scripts::print_tested;
 
 const INPUT: usize = 262144;
 

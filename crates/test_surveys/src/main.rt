@@ -1,4 +1,4 @@
-// Runs a script of reading, acceptance and writing back from standard input (crate `test_commands` says what a script is):
+// Runs a script of reading, acceptance and writing back from standard input (crate `test_scripts` says what a script is):
 //   R,p,q  K,k,0  k bytes   reads the bytes as a text into the first p starts and q neighbours
 //   S,i,x                   start i becomes x
 //   E,i,x                   neighbour i becomes x
@@ -7,14 +7,14 @@
 use base_refusals::refusal_number;
 use model::Accepting;
 use model::Counting;
-use test_commands::Command;
-use test_commands::at_most;
-use test_commands::print_line;
-use test_commands::read_command;
-use test_commands::run_read;
-use test_commands::set16;
-use test_commands::set32;
-use test_commands::sum8;
+use test_scripts::Command;
+use test_scripts::at_most;
+use test_scripts::print_line;
+use test_scripts::read_command;
+use test_scripts::run_read;
+use test_scripts::set16;
+use test_scripts::set32;
+use test_scripts::sum8;
 
 const INPUT: usize = 262144;
 

@@ -1,4 +1,4 @@
-// Runs a script of building, asking, walking and testing from standard input (crate `test_commands` says what a script is):
+// Runs a script of building, asking, walking and testing from standard input (crate `test_scripts` says what a script is):
 //   R,p,q  K,k,0  k bytes   reads the bytes as a text into the first p starts and q neighbours
 //   S,i,x  E,i,x            start i, neighbour i becomes x
 //   F,i,x  L,i,x  P,i,x     entry i of Full, Low, Report becomes x
@@ -10,12 +10,12 @@
 //   Q,a,b                   asks nodes a and b
 //   W,a,b                   writes their walk
 //   T,0,0                   tests
-use test_commands::Command;
-use test_commands::read_command;
-use test_commands::run_read;
-use test_commands::set16;
-use test_commands::set32;
-use test_commands::set64;
+use test_scripts::Command;
+use test_scripts::read_command;
+use test_scripts::run_read;
+use test_scripts::set16;
+use test_scripts::set32;
+use test_scripts::set64;
 
 const INPUT: usize = 262144;
 
@@ -42,23 +42,23 @@ fn run_call(
     walk: &mut [u16],
 ) {
     if c.letter == b'B' {
-        test_calls::run_build(numbers, starts, neighbours, full, low, report, hubs);
+        test_script_calls::run_build(numbers, starts, neighbours, full, low, report, hubs);
         return;
     }
     if c.letter == b'V' {
-        test_calls::run_print(c, numbers, full, low, report, hubs);
+        test_script_calls::run_print(c, numbers, full, low, report, hubs);
         return;
     }
     if c.letter == b'Q' {
-        test_calls::run_ask(c, numbers, full, low, report);
+        test_script_calls::run_ask(c, numbers, full, low, report);
         return;
     }
     if c.letter == b'W' {
-        test_calls::run_walk(c, numbers, starts, neighbours, full, low, report, walk);
+        test_script_calls::run_walk(c, numbers, starts, neighbours, full, low, report, walk);
         return;
     }
     if c.letter == b'T' {
-        test_calls::run_test(numbers, starts, neighbours);
+        test_script_calls::run_test(numbers, starts, neighbours);
     }
 }
 

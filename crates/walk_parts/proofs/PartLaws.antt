@@ -21,7 +21,7 @@ use Rattle.model.specs.Walk.{steps, byLow, toHub}
 use Rattle.model.proofs.Entries.{place-inside}
 use Rattle.model.proofs.Walks.{Sound, steps-sound, steps-same, too-long}
 use Rattle.base_nodeset.specs.NodeSet.{Nodes}
-use Rattle.table_degrees.proofs.Degrees.{low-are}
+use Rattle.table_degree_split.proofs.Degrees.{low-are}
 use Rattle.walk_parts.specs.declared.Part.{Part}
 use Rattle.walk_parts.specs.Parts.{leftIn, Inside, stepsIn, isFound, Leaves, countOf, PartIs}
 

@@ -130,7 +130,7 @@ pub fn low_part(
 {
     let s = base_threshold::threshold_at(n);
     let mut allowed = [0u64; 16];
-    table_degrees::low_nodes(n, s, starts, neighbours, &mut allowed);
+    table_degree_split::low_nodes(n, s, starts, neighbours, &mut allowed);
     let part = Part {
         n,
         goal: b,

@@ -78,7 +78,7 @@ fn judge(
     if starts.len() < n + 1 {
         return Asking::Refused(Refusal::ShortList);
     }
-    if answer_pairs::tables_short(n, full, low, report) {
+    if answer_pair::tables_short(n, full, low, report) {
         return Asking::Refused(Refusal::ShortList);
     }
     if !survey_acceptance::is_survey(n, starts, neighbours) {
@@ -90,7 +90,7 @@ fn judge(
     if n <= b {
         return Asking::Refused(Refusal::NoNode);
     }
-    answer_pairs::pair_answer(n, full, low, report, a, b)
+    answer_pair::pair_answer(n, full, low, report, a, b)
 }
 
 // Writing a walk: the answer to a pair, and its walk in the list, none behind it. A walk that is given out is a chain of the survey's

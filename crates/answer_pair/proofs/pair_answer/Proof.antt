@@ -1,0 +1,114 @@
+-- `answer_pair::pair_answer` meets its contract: at each `return` the tests that led there say which case holds.
+-- Assumes nothing.
+use mathlib.Core.Path.{_∙_}
+use borrow.Author.Tests.{eq-eqb, ne-eqb}
+use borrow.Author.Needs.{needs}
+use Rattle.model.specs.Pair.{choose, pairBy, pair}
+use Rattle.answer_pair.proofs.pair_answer.Statement.{statement}
+use Rattle.answer_pair.proofs.pair_answer.Tie as tie
+
+entry-at-requires : tie.Need-entry-at-requires
+entry-at-requires c κs = search needs
+
+answer-by-requires : tie.Need-answer-by-requires
+answer-by-requires c κs = search needs
+
+returns : tie.Need-returns
+unfolding pair pairBy choose
+returns c =
+    let same = c .before .before in
+    c .answer-by .ensures
+    ∙ rw (eq-eqb _ _ (same .if1 .taken), ← same .before .entry-at .ensures, eq-eqb _ _ (c .before .if2 .taken))
+
+returns-2 : tie.Need-returns-2
+unfolding pair pairBy choose
+returns-2 c =
+    let same = c .before in
+    rw (eq-eqb _ _ (same .if1 .taken), ← same .before .entry-at .ensures, ne-eqb _ _ (c .if2 .left))
+
+answer-by-requires-2 : tie.Need-answer-by-requires-2
+answer-by-requires-2 c κs = search needs
+
+returns-3 : tie.Need-returns-3
+unfolding pair pairBy choose
+returns-3 c =
+    let apart = c .before .before in
+    c .answer-by2 .ensures
+    ∙ rw (ne-eqb _ _ (apart .if1 .left), ← apart .before .entry-at .ensures, eq-eqb _ _ (c .before .if3 .taken))
+
+entry-at-requires-2 : tie.Need-entry-at-requires-2
+entry-at-requires-2 c κs = search needs
+
+answer-by-requires-3 : tie.Need-answer-by-requires-3
+answer-by-requires-3 c κs = search needs
+
+returns-4 : tie.Need-returns-4
+unfolding pair pairBy choose
+returns-4 c =
+    let joined = c .before .before .before in
+    let apart = joined .before in
+    c .answer-by3 .ensures
+    ∙ rw (
+      ne-eqb _ _ (apart .if1 .left),
+      ← apart .before .entry-at .ensures,
+      ne-eqb _ _ (joined .if3 .left),
+      ← c .before .before .entry-at2 .ensures,
+      eq-eqb _ _ (c .before .if4 .taken),
+    )
+
+attaining-hub-requires : tie.Need-attaining-hub-requires
+attaining-hub-requires c κs = search needs
+
+returns-5 : tie.Need-returns-5
+unfolding pair pairBy choose
+returns-5 c =
+    let not-low = c .before .before in
+    let joined = not-low .before .before in
+    let apart = joined .before in
+    rw (
+      ne-eqb _ _ (apart .if1 .left),
+      ← apart .before .entry-at .ensures,
+      ne-eqb _ _ (joined .if3 .left),
+      ← not-low .before .entry-at2 .ensures,
+      ne-eqb _ _ (not-low .if4 .left),
+      ← c .before .attaining-hub .ensures,
+      eq-eqb _ _ (c .if5 .taken),
+    )
+
+answer-by-requires-4 : tie.Need-answer-by-requires-4
+answer-by-requires-4 c κs = search needs
+
+returns-6 : tie.Need-returns-6
+unfolding pair pairBy choose
+returns-6 c =
+    let not-low = c .before .before .before in
+    let joined = not-low .before .before in
+    let apart = joined .before in
+    c .answer-by4 .ensures
+    ∙ rw (
+      ne-eqb _ _ (apart .if1 .left),
+      ← apart .before .entry-at .ensures,
+      ne-eqb _ _ (joined .if3 .left),
+      ← not-low .before .entry-at2 .ensures,
+      ne-eqb _ _ (not-low .if4 .left),
+      ← c .before .before .attaining-hub .ensures,
+      ne-eqb _ _ (c .before .if5 .left),
+    )
+
+pub pair-answer-spec : {M : Type 1} → statement M
+pair-answer-spec =
+    tie.close
+    (tie.spec
+    entry-at-requires
+    answer-by-requires
+    returns
+    returns-2
+    answer-by-requires-2
+    returns-3
+    entry-at-requires-2
+    answer-by-requires-3
+    returns-4
+    attaining-hub-requires
+    returns-5
+    answer-by-requires-4
+    returns-6)

@@ -1,0 +1,149 @@
+-- `survey_reading_lines::read_links` meets its contract: the lines still to come, after the links taken, say what all of them say.
+-- Assumes nothing.
+use mathlib.Core.Path.{_≡_, sym, ap, _∙_}
+use mathlib.Core.List.{List}
+use Prim.Native.Nat.{ℕ, _-_, _≤_, _<_}
+use native.Mathlib.Omega.{arith}
+use borrow.Author.Needs.{needs}
+use lib.ListN.{length, drop, length-replicate}
+use Rattle.model.specs.Answers.{answered}
+use Rattle.base_nodeset.specs.Matrix.{edgesIn}
+use Rattle.survey_reading_lines.specs.LinesRead.{linkIn, lineAnswer}
+use Rattle.survey_reading_lines.proofs.LinkLaws.{link-below, Progress, progress-none, progress-refused, progress-taken, progress-more, progress-done}
+use Rattle.survey_reading_lines.proofs.read_links.Statement.{statement}
+use Rattle.survey_reading_lines.proofs.read_links.Tie as tie
+
+abbrev Inv-loop : tie.InvT-loop
+Inv-loop text at n m bits₀ next₀ k₀ bits next k = Progress n m text at bits next k
+
+abbrev μ-loop : tie.MeasureT-loop
+μ-loop text at n m bits₀ next₀ k₀ bits next k = m - k
+
+few : (c : tie.At-loop Inv-loop μ-loop) → c .before .before .before .args .n ≤ 1024
+few c = c .before .before .before .pre .0
+
+-- the matrix keeps its length
+long : (c : tie.At-loop Inv-loop μ-loop) → length (c .loop .bits) ≡ length (c .before .before .before .args .bits .now)
+long c = c .loop .inv .held .long ∙ sym (ap length (c .before .before .before .pre .1) ∙ length-replicate {A = ℕ} 16384 0)
+
+-- the next line is taken: its two nodes, and the place after it
+module _ (c : tie.After-a Inv-loop μ-loop) where
+  abbrev loop : tie.At-loop Inv-loop μ-loop
+  loop = c .before .before .before .before .before
+
+  abbrev start : tie.Start Inv-loop μ-loop
+  start = loop .before .before .before
+
+  abbrev text : List ℕ
+  text = start .args .text .now
+
+  abbrev a : ℕ
+  a = c .a .given .0 .0
+
+  abbrev b : ℕ
+  b = c .a .given .0 .1 .0
+
+  taken : linkIn (start .args .n) (edgesIn (loop .loop .bits)) (drop (loop .loop .next) text)
+      ≡ answered (a, b, drop (c .a .given .0 .1 .1 .0) text)
+  taken = sym (c .before .before .link-at .ensures) ∙ ap (lineAnswer _) (c .a .given .1)
+
+  below : (a < start .args .n) × (b < start .args .n)
+  below = link-below _ _ _ taken
+
+loop-holds : tie.Need-loop-holds Inv-loop μ-loop
+loop-holds c = progress-none _ _ _ _ (c .before .before .pre .1)
+
+link-at-requires : tie.Need-link-at-requires Inv-loop μ-loop
+link-at-requires c κs = search needs
+
+enum-known-r : tie.Need-enum-known-r Inv-loop μ-loop
+enum-known-r c = search needs
+
+same-length : tie.Need-same-length Inv-loop μ-loop
+same-length c = long (c .before .before .before .before .before .before)
+
+returns : tie.Need-returns Inv-loop μ-loop
+returns c =
+    let line = c .before .before .before in
+    let turn = line .before .before in
+    let loop = turn .before in
+    progress-refused (few loop) (loop .loop .inv) (turn .loop-test .taken) _
+    (sym (line .link-at .ensures) ∙ ap (lineAnswer _) (c .before .r .given .1))
+
+enum-known-a : tie.Need-enum-known-a Inv-loop μ-loop
+enum-known-a c = search needs
+
+mul-insert : tie.Need-mul-insert Inv-loop μ-loop
+mul-insert c = omega (arith, below (c .before .before))
+
+add-insert : tie.Need-add-insert Inv-loop μ-loop
+add-insert c = omega (arith, below (c .before .before))
+
+insert-requires : tie.Need-insert-requires Inv-loop μ-loop
+insert-requires c κs = omega (arith, below (c .before .before))
+
+mul-insert-2 : tie.Need-mul-insert-2 Inv-loop μ-loop
+mul-insert-2 c = omega (arith, below (c .before .before .before .before .before .before))
+
+add-insert-2 : tie.Need-add-insert-2 Inv-loop μ-loop
+add-insert-2 c = omega (arith, below (c .before .before .before .before .before .before))
+
+insert-requires-2 : tie.Need-insert-requires-2 Inv-loop μ-loop
+insert-requires-2 c κs = omega (arith, below (c .before .before .before .before .before .before))
+
+add-k : tie.Need-add-k Inv-loop μ-loop
+add-k c = search needs
+
+loop-less : tie.Need-loop-less Inv-loop μ-loop
+loop-less c = search needs
+
+loop-again : tie.Need-loop-again Inv-loop μ-loop
+loop-again c =
+    let turned = c .before .before in
+    let one = turned .before .before .before .before in
+    let line = one .before .before .before in
+    let turn = line .before .before .before .before in
+    progress-taken (few (loop line)) (loop line .loop .inv) (turn .loop-test .taken) _ _ _ (taken line)
+    (turned .insert2 .kept .0 ∙ one .insert .kept .0) (one .insert .ensures) (turned .insert2 .ensures)
+
+same-length-2 : tie.Need-same-length-2 Inv-loop μ-loop
+same-length-2 c = long (c .before .before)
+
+returns-2 : tie.Need-returns-2 Inv-loop μ-loop
+returns-2 c =
+    let loop = c .before .before in
+    progress-more (few loop) (loop .loop .inv) (c .before .loop-test .left) (c .if1 .taken)
+
+same-length-3 : tie.Need-same-length-3 Inv-loop μ-loop
+same-length-3 c = long (c .before .before)
+
+returns-3 : tie.Need-returns-3 Inv-loop μ-loop
+returns-3 c =
+    let loop = c .before .before in
+    progress-done (few loop) (loop .loop .inv) (c .before .loop-test .left) (c .if1 .left)
+
+pub read-links-spec : {M : Type 1} → statement M
+read-links-spec =
+    tie.close
+    (tie.spec
+    Inv-loop
+    μ-loop
+    loop-holds
+    link-at-requires
+    enum-known-r
+    same-length
+    returns
+    enum-known-a
+    mul-insert
+    add-insert
+    insert-requires
+    mul-insert-2
+    add-insert-2
+    insert-requires-2
+    add-k
+    loop-less
+    loop-again
+    same-length-2
+    returns-2
+    same-length-3
+    returns-3)
