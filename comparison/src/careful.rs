@@ -330,7 +330,7 @@ pub fn build(
     Ok(chosen.len())
 }
 
-/// Searches from each low node among low nodes, by words: a node's low neighbours are one set.
+/// Searches from each low node among low nodes, by bit sets: a node's low neighbours are one set.
 fn fill_low(n: usize, s: usize, starts: &[u32], neighbours: &[u16], low: &mut [u16]) {
     let is_low = |v: usize| ((starts[v + 1] - starts[v]) as usize) < s;
     let mut links: Vec<Set> = vec![[0; 16]; n];

@@ -87,7 +87,7 @@ pub fn test_numbers(tested: Tested) -> Vec<u64> {
     vec![u64::from(tested.verdict.number()), tested.searches as u64]
 }
 
-/// A sum that tells where in the list an entry stands.
+/// A sum that depends on every entry and on its place in the list.
 pub fn sum<T: Copy + Into<u64>>(list: &[T]) -> u64 {
     list.iter()
         .fold(0, |sum, &entry| (sum * 31 + entry.into()) % 1_000_000_007)

@@ -1,5 +1,5 @@
-//! Runs a script of reading, acceptance and writing back. The Rattle
-//! program `cases` runs the same scripts; its source describes their lines.
+//! Runs a script of reading, acceptance and writing back. The Rattle program `test_surveys` runs the same scripts; its source describes
+//! their lines.
 
 use crate::commands::{self, outcome, run_read, sum, Command, Script};
 use reference::{accept, write};

@@ -73,7 +73,7 @@ impl Maker {
     }
 
     /// Builds, and prints the whole tables and the hub list of few nodes;
-    /// those of many are told by their sums alone.
+    /// of many nodes only the sums are printed.
     fn build_and_print(&mut self) {
         self.build();
         if self.numbers[NODES] <= MOST_PRINTED {

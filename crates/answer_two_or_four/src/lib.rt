@@ -1,4 +1,4 @@
-// The two-or-four test: whether some two nodes are unjoined, and which of two depths the searches from a few nodes show.
+// The two-or-four test: searches from a few nodes, and the verdict that they give, parted, long or short.
 use model::Accepting;
 use model::NONE;
 use model::TestResult;

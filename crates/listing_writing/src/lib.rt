@@ -13,8 +13,8 @@ ghost use Rattle.model.specs.Listing.{listingOf, listingText, listing, writingL
 ghost use Rattle.model.specs.Writing.{writeReturned};
 ghost use Rattle.listing_writing.specs.Length.{mostListing};
 
-// Builds the three tables of a survey, writes its listing from them from the first byte on, and returns the listing's length.
-fn write_tables(
+// Builds the three tables of a survey and writes its listing, from the first byte on. Returns the listing's length.
+fn list_tables(
     n: usize,
     starts: &[u32],
     neighbours: &[u16],
@@ -45,8 +45,8 @@ fn write_tables(
     listing_lines::write_pairs(n, full, low, report, buffer, i)
 }
 
-// Writes the listing of a survey of at most 128 nodes from the first byte on, and returns its length.
-fn write_survey(n: usize, starts: &[u32], neighbours: &[u16], buffer: &mut [u8]) -> usize
+// The same with its own lists for the tables, of a survey of at most 128 nodes.
+fn list_survey(n: usize, starts: &[u32], neighbours: &[u16], buffer: &mut [u8]) -> usize
     requires { ⌜ Accepted n (now starts) (now neighbours) × (n ≤ 128) × (mostListing ≤ length (now buffer)) ⌝ }
     ensures { λ r. ⌜ Wrote (now (buffer .entry)) (now (buffer .exit)) 0 r
         (listingOf n (threshold n) (neighboursOf (now (starts .entry)) (now (neighbours .entry)))) ⌝ }
@@ -55,7 +55,7 @@ fn write_survey(n: usize, starts: &[u32], neighbours: &[u16], buffer: &mut [u8])
     let mut full = [0u16; 16384];
     let mut low = [0u16; 16384];
     let mut report = [0u16; 16384];
-    write_tables(
+    list_tables(
         n,
         starts,
         neighbours,
@@ -77,7 +77,7 @@ fn write_refusal(refusal: Refusal, buffer: &mut [u8]) -> usize
 }
 
 // Writes the listing of a text from the first byte on, and returns its length.
-fn write_text(text: &[u8], buffer: &mut [u8]) -> usize
+fn list_text(text: &[u8], buffer: &mut [u8]) -> usize
     requires { ⌜ mostListing ≤ length (now buffer) ⌝ }
     ensures { λ r. ⌜ Wrote (now (buffer .entry)) (now (buffer .exit)) 0 r (listing (now (text .entry))) ⌝ }
 {
@@ -85,7 +85,7 @@ fn write_text(text: &[u8], buffer: &mut [u8]) -> usize
     let mut neighbours = [0u16; 4096];
     match survey_reading::read_within(text, 128, 2048, &mut starts, &mut neighbours) {
         Reading::Refused(r) => write_refusal(r, buffer),
-        Reading::Read(size) => write_survey(size.nodes, &starts, &neighbours, buffer),
+        Reading::Read(size) => list_survey(size.nodes, &starts, &neighbours, buffer),
     }
 }
 
@@ -95,7 +95,7 @@ fn write_and_copy(text: &[u8], lines: &mut [u8], buffer: &mut [u8]) -> Counting
     ensures { λ r. ⌜ writeReturned r (now (buffer .exit)) ≡ writingListing (now (text .entry)) (now (buffer .entry)) ⌝ }
     ensures { λ _. ⌜ length (listing (now (text .entry))) ≤ mostListing ⌝ }
 {
-    let length = write_text(text, lines);
+    let length = list_text(text, lines);
     if buffer.len() < length {
         return Counting::Refused(Refusal::ShortBuffer);
     }

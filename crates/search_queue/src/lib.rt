@@ -9,6 +9,7 @@ ghost use Rattle.base_nodeset.specs.NodeSet.{member};
 ghost use Rattle.search_queue.specs.Visiting.{unreached, progress, visited, visitedAll, Unvisited};
 
 // Gives node w the distance d and a place in the queue, if it is unvisited: allowed, and without a distance. Returns the queue's new end.
+// Only the promise speaks of `allowed`: the code finds an unvisited node in `unvisited`.
 fn visit(
     w: usize,
     d: u16,

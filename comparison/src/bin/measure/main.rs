@@ -1,7 +1,7 @@
 //! The speed of the proved library beside the second implementation, a careful Rust version of the same method, and igraph's exact
 //! distances, in one process on the same input: `measure [MILLISECONDS]`, the time given to each measurement.
 //!
-//! Lists and tables are allocated and written before a measurement and kept through it, so no page is met for the first time. They
+//! Lists and tables are allocated and written before a measurement and kept through it, so no page is touched for the first time. They
 //! are not cleared between repetitions. A time is the least of many repetitions, made in several passes over all implementations.
 
 mod exact;
@@ -267,7 +267,7 @@ fn lesser(one: Times, other: Times) -> Times {
     std::array::from_fn(|k| one[k].min(other[k]))
 }
 
-/// Measures all in turn, several times over, so that other work on the machine meets each of them.
+/// Measures all in turn, several times over, so that other work on the machine slows none of them alone.
 fn measure(sample: &Sample, budget: Duration) -> Row {
     let mut x = Lent::new(sample);
     check_careful(&x);

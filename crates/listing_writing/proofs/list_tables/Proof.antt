@@ -1,4 +1,4 @@
--- `listing_writing::write_tables` meets its contract: the tables that building leaves are those of the listing.
+-- `listing_writing::list_tables` meets its contract: the tables that building leaves are those of the listing.
 -- Assumes nothing.
 use mathlib.Core.Path.{_≡_, ap}
 use mathlib.Core.List.{List, _++_}
@@ -12,8 +12,8 @@ use Rattle.model.specs.Threshold.{threshold}
 use Rattle.model.specs.Listing.{pairLines, listingOf}
 use Rattle.base_lists.proofs.Written.{wrote-then, wrote-room}
 use Rattle.listing_writing.proofs.Whole.{AreTables, tables-built, count-few, listing-by-tables}
-use Rattle.listing_writing.proofs.write_tables.Statement.{statement}
-use Rattle.listing_writing.proofs.write_tables.Tie as tie
+use Rattle.listing_writing.proofs.list_tables.Statement.{statement}
+use Rattle.listing_writing.proofs.list_tables.Tie as tie
 
 -- once the tables are built
 module _ (c : tie.After-build-tables) where
@@ -95,8 +95,8 @@ returns c =
     let build = line .before .before .before .before .before .before .before .before .before in
     rw (listed build) at (wrote-then {u = pairs build} (room build) (line .write-line .ensures) (lines .write-pairs .ensures))
 
-pub write-tables-spec : {M : Type 1} → statement M
-write-tables-spec =
+pub list-tables-spec : {M : Type 1} → statement M
+list-tables-spec =
     tie.close
     (tie.spec
     threshold-at-requires

@@ -1,11 +1,11 @@
--- `listing_writing::write_text` meets its contract: what reading says is listed.
+-- `listing_writing::list_text` meets its contract: what reading says is listed.
 -- Assumes nothing.
 use Prim.Native.Nat.{ℕ}
 use borrow.Author.Needs.{needs}
 use lib.ListN.{length-replicate}
 use Rattle.listing_writing.proofs.Whole.{IsListed, listing-refused, listing-read}
-use Rattle.listing_writing.proofs.write_text.Statement.{statement}
-use Rattle.listing_writing.proofs.write_text.Tie as tie
+use Rattle.listing_writing.proofs.list_text.Statement.{statement}
+use Rattle.listing_writing.proofs.list_text.Tie as tie
 
 slice-aggregate-read-within : tie.Need-slice-aggregate-read-within
 slice-aggregate-read-within c = search needs
@@ -49,14 +49,14 @@ listed c =
     let read = c .before .before .before .before .read-within in
     listing-read _ (length-replicate {A = ℕ} 129 0) (length-replicate {A = ℕ} 4096 0) _ (rw (c .size .given .1) at (read .ensures))
 
-slice-aggregate-write-survey : tie.Need-slice-aggregate-write-survey
-slice-aggregate-write-survey c = search needs
+slice-aggregate-list-survey : tie.Need-slice-aggregate-list-survey
+slice-aggregate-list-survey c = search needs
 
-slice-aggregate-write-survey-2 : tie.Need-slice-aggregate-write-survey-2
-slice-aggregate-write-survey-2 c = search needs
+slice-aggregate-list-survey-2 : tie.Need-slice-aggregate-list-survey-2
+slice-aggregate-list-survey-2 c = search needs
 
-write-survey-requires : tie.Need-write-survey-requires
-write-survey-requires c κs =
+list-survey-requires : tie.Need-list-survey-requires
+list-survey-requires c κs =
     let start = c .before .before .before .before .before .before .before .before .before .before .before .before .before in
     let survey = listed (c .before .before .before .before) in
     (survey .survey, survey .few, start .pre)
@@ -67,10 +67,10 @@ same-length-2 c = search needs
 returns-2 : tie.Need-returns-2
 returns-2 c =
     let survey = listed (c .before .before .before .before .before .before .before) in
-    rw (survey .lines) at (c .before .before .write-survey .ensures)
+    rw (survey .lines) at (c .before .before .list-survey .ensures)
 
-pub write-text-spec : {M : Type 1} → statement M
-write-text-spec =
+pub list-text-spec : {M : Type 1} → statement M
+list-text-spec =
     tie.close
     (tie.spec
     slice-aggregate-read-within
@@ -79,9 +79,9 @@ write-text-spec =
     enum-known-r
     write-refusal-requires
     enum-known-size
-    slice-aggregate-write-survey
-    slice-aggregate-write-survey-2
-    write-survey-requires
+    slice-aggregate-list-survey
+    slice-aggregate-list-survey-2
+    list-survey-requires
     same-length
     returns
     same-length-2
