@@ -38,7 +38,7 @@ module _ (n s : ℕ) (table : List ℕ) (h : s < n) (room : n * n ≤ length tab
   part-length = mid-length (s * n) n table row-ends
 
 -- a list of n entries is a row if its entries are
-is-row : (n : ℕ) (f : ℕ → ℕ) (l : List ℕ) → length l ≡ n → ((i : ℕ) → i < n → getD l i 0 ≡ f i) → l ≡ map f (upTo n)
+pub is-row : (n : ℕ) (f : ℕ → ℕ) (l : List ℕ) → length l ≡ n → ((i : ℕ) → i < n → getD l i 0 ≡ f i) → l ≡ map f (upTo n)
 is-row n f l size e =
     ext-getD 0 l (map f (upTo n)) (size ∙ sym (length-row f n))
     (λ i h. let k : i < n = omega (arith, size) in e i k ∙ sym (getD-row f n i 0 k))
@@ -59,7 +59,7 @@ over-table n f t = rw (length-table n f)
 pub over-length : (n : ℕ) (f : ℕ → ℕ → ℕ) (t : List ℕ) → n * n ≤ length t → length (over (table n f) t) ≡ length t
 over-length n f t h = rw (over-table, length-append, length-table, length-drop) (omega arith)
 
--- what stands behind a table is what counts of the list
+-- of the list, only what stands behind the table matters
 pub over-same : (n : ℕ) (f : ℕ → ℕ → ℕ) (t u : List ℕ) → drop (n * n) t ≡ drop (n * n) u → over (table n f) t ≡ over (table n f) u
 over-same n f t u e = rw (over-table n f t, over-table n f u, e)
 

@@ -1,4 +1,4 @@
--- Bits of words: the operations bit by bit, a single bit, each once over the width.
+-- Bits of words: the operations bit by bit, a single bit; each proved by one induction on the number of bits.
 -- Assumes nothing.
 use mathlib.Core.Path.{_≡_, refl, sym, ap, ap₂, _∙_, fun-ext}
 use mathlib.Core.Logic.{⊎-elim}

@@ -1,4 +1,4 @@
--- The set bits of a word: by trailing zeros, by a count of ones, and as what a test keeps. Each once over the width.
+-- The set bits of a word: by trailing zeros, by a count of ones, and as what a test keeps. Each is proved by one induction on the number of bits.
 -- Assumes nothing.
 use mathlib.Core.Path.{_≡_, refl, sym, ap, _∙_}
 use mathlib.Core.Logic.{_⊎_, inl, inr, ⊎-elim}
@@ -93,7 +93,7 @@ ones-members (suc k) u w h =
     (λ o. ap length (bits-even k u w o) ∙ omega (arith, rest, ones-step w))
     (odd-or w)
 
--- ---- a word of a row of words: what a test keeps of 64 numbers are the set bits of the word that says the test
+-- ---- a word of a row of words: if bit i of w is the test of u + i, the test keeps those numbers whose bits in w are set
 
 members-keep : (k u w : ℕ) (f : ℕ → Bool) → ((i : ℕ) → i < k → f (u + i) ≡ bit w i) → keep f (from u k) ≡ membersFrom k u w
 unfolding from keep membersFrom

@@ -84,7 +84,7 @@ module _ (E : Edges) (n s : ℕ) where
   of-before zero x t = absurd (none-in x t)
   of-before (suc k) x t = (k, refl, t)
 
-  -- the distance of x, as far as k layers tell
+  -- the distance of x, as known after k layers
   abbrev known-at : ℕ → ℕ → ℕ
   known-at k x = firstOf (λ j. within j x) none (upTo k)
 

@@ -1,5 +1,5 @@
--- What is known once the rows below v are passed: these rows are right, and of each node x the nodes below v that have x in their rows
--- are met; in a survey these are x's own neighbours below v.
+-- What is known once the rows below v are passed: these rows are right, and for each node x a list holds the nodes below v that have x in
+-- their rows; in a survey these are x's own neighbours below v.
 -- Assumes nothing.
 use mathlib.Core.Path.{_≡_, sym, _∙_}
 use mathlib.Core.Logic.{⊎-elim}
@@ -44,9 +44,9 @@ same-members n k l a b h f g =
     ∙ keep-same (λ x. has x k) (λ x. has x l) (upTo n) (λ x m. f x) (λ x m. g x)
     ∙ ascending-keep l n b (λ x m. h x (g x m))
 
--- ---- the nodes met
+-- ---- the nodes below v that have x in their rows
 
--- l are the nodes below v that have x in their rows, in order
+-- l holds them in ascending order
 pub record Met (G : Graph) (v x : ℕ) (l : List ℕ) : Type 0 where
   pub order : T (ascending l)
   pub from : (w : ℕ) → T (has w l) → (w < v) × T (has x (G w))

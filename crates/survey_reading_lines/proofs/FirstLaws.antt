@@ -8,7 +8,6 @@ use Prim.Native.Nat.{ℕ, _+_, _*_, _≤_, _<_}
 use borrow.Author.Tests.{lt-ltb, le-ltb}
 use lib.Dec.{ltb}
 use Rattle.model.specs.Answers.{refused, answered}
-use Rattle.model.specs.SurveyText.{line}
 use Rattle.model.specs.Survey.{outside}
 use Rattle.model.specs.Reading.{countsOf}
 use Rattle.model.proofs.Links.{first-taken}

@@ -1,4 +1,4 @@
--- What reading a link line tests, and how the lines that are left say the whole.
+-- What reading a link line tests; and that the lines that are left still determine the result.
 -- Assumes nothing.
 use mathlib.Core.Path.{_≡_, refl, sym, ap, ap₂, _∙_}
 use mathlib.Core.Bool.{Bool, true, false, not, _&&_, _||_, and-comm, or-false}
@@ -138,7 +138,7 @@ behind-held {done = done} h = record {
   says = λ a b ha hb. h .says a b ha hb ∙ sym (behind-named done [] a b ∙ or-false (named done a b));
 }
 
--- the matrix, and the links given before, judge a line alike
+-- the matrix, and the links given before, give the same answer to a line
 module _ (n : ℕ) (done : List (ℕ × ℕ)) (E : Edges) (agree : (a b : ℕ) → a < n → b < n → E a b ≡ named done a b) where
   judged : (o : Option (ℕ × ℕ × List ℕ)) → linkOf n (named done) o ≡ linkOf n E o
   unfolding linkOf
@@ -203,7 +203,7 @@ module _ (n m k : ℕ) (done : List (ℕ × ℕ)) (s : List ℕ) (at : ℕ) (h :
   unfolding after readLinks
   last-end l = rw (none-left, drop-of-length-le s l)
 
--- ---- what the loop over the lines keeps: k of m lines are taken, and those that are left say the whole
+-- ---- what the loop over the lines keeps: k of m lines are taken, and those that are left still determine the result
 
 pub record Progress (n m : ℕ) (s : List ℕ) (at : ℕ) (ws : List ℕ) (next k : ℕ) : Type 0 where
   pub done : List (ℕ × ℕ)

@@ -1,4 +1,4 @@
--- A row of Report, hub by hub; and Report, row by row.
+-- A row of Report, hub by hub; and Report from tables that stand in front of longer lists.
 -- Assumes nothing.
 use mathlib.Core.Path.{_≡_, refl, sym, ap, ap₂, _∙_}
 use mathlib.Core.Logic.{_⊎_, inl, inr}
@@ -11,10 +11,10 @@ use borrow.Author.Tests.{eq-eqb, ne-eqb}
 use borrow.Rule.Slice.PartMut.{midOf}
 use lib.Dec.{T, eqb}
 use lib.ListN.{length, getD, take, drop, set, length-set}
-use lib.Seq.{take-at, ext-getD, getD-take, getD-drop, take-suc, take-all, getD-set-same, getD-set-other}
+use lib.Seq.{take-at, getD-take, getD-drop, take-suc, take-all, getD-set-same, getD-set-other}
 use Rattle.base_lists.specs.Written.{Wrote}
 use Rattle.base_lists.proofs.Written.{wrote-over, over-whole}
-use Rattle.base_lists.proofs.TableRows.{part-length, row-same, table-same}
+use Rattle.base_lists.proofs.TableRows.{part-length, is-row, row-same, table-same}
 use Rattle.model.specs.Basics.{none, if_then_else_, upTo, has, over}
 use Rattle.model.specs.Tables.{table, entryAt, sum, via, least, reportEntry, reportOf}
 use Rattle.model.proofs.Allowance.{least-base}
@@ -22,13 +22,6 @@ use Rattle.model.proofs.Entries.{length-row, getD-row, length-table, entry-fron
 use Rattle.model.proofs.Lists.{has-head, has-tail}
 use Rattle.model.proofs.Tests.{eq-or}
 use Rattle.table_report.specs.Relaxed.{relaxed}
-
--- a list of n entries is a row if its entries are
-is-row : (n : ℕ) (f : ℕ → ℕ) (l : List ℕ) → length l ≡ n → ((b : ℕ) → b < n → getD l b 0 ≡ f b) → l ≡ map f (upTo n)
-is-row n f l size e =
-    ext-getD 0 l (map f (upTo n)) (size ∙ sym (length-row f n)) (λ b k.
-    let j : b < n = omega (arith, size) in
-    e b j ∙ sym (getD-row f n b 0 j))
 
 -- row a of a table, as a part of the list
 own-row : (n a : ℕ) (t : List ℕ) → a < n → n * n ≤ length t → midOf (a * n) (a * n + n - a * n) t ≡ map (entryAt n t a) (upTo n)
@@ -119,8 +112,6 @@ module _ {n : ℕ} {full low hs : List ℕ} {a : ℕ} {row : List ℕ} {k : ℕ}
           ∙ ap (λ (t : List ℕ). getD t b 0) (r .says)
           ∙ getD-row (leastTo n full low hs a k) n b 0 j
           ∙ ap (least (via n full a b) (entryAt n low a b)) (take-all k hs h))
-
--- ---- Report, row by row
 
 -- ---- Report from tables that stand in front of longer lists
 

@@ -1,4 +1,4 @@
--- What the reader of a number and of a line tests comes to the model's line: a number is found at a place exactly where the bytes there
+-- What the reader of a number and of a line tests gives the model's line: a number is found at a place exactly where the bytes there
 -- begin with its decimal text and no digit follows, and a line exactly where the bytes there begin with its text.
 -- Assumes nothing.
 use mathlib.Core.Path.{_≡_, refl, sym, ap, _∙_}

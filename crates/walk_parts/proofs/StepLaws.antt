@@ -24,7 +24,7 @@ use Rattle.walk_parts.specs.Parts.{leftIn, leadsOn, stepsIn, isFound, Le
 pub place-small : {part : Part} {table : List ℕ} (inside : Inside part table) {x : ℕ} → x < part .n → x * part .stride ≤ 1048576
 place-small inside {x} h = let few : x ≤ 1024 = omega (arith, inside .few) in mul-le-mul few (inside .near)
 
--- ---- the steps from v where the way on leads nowhere, or to x
+-- ---- the steps from v where there is no next node, or x is the next
 
 module _ (G : Graph) (may : ℕ → Bool) (left : ℕ → ℕ) (goal : ℕ) where
   steps-stuck : (d v x : ℕ) → (d ≡ 0 → ⊥) → x ≡ next G may left (d - 1) v → x ≡ none → steps G may left goal d v ≡ missing
