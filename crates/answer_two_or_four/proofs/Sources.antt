@@ -1,4 +1,4 @@
--- The nodes that the test searches from, and what it says of them.
+-- The nodes that the test searches from, and what the searches from them decide.
 -- Assumes nothing.
 use mathlib.Core.Path.{_≡_, sym, ap, ap₂, _∙_, subst}
 use mathlib.Core.Bool.{_&&_}

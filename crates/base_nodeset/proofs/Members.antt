@@ -103,10 +103,10 @@ members-keep (suc k) u w f h =
     let rest = members-keep k (suc u) (w / 2) f (λ i l. ap f (suc-add u i ∙ sym (add-suc u i)) ∙ h (suc i) (omega arith) ∙ bit-suc w i) in
     rw (first, rest)
 
-pub row-word : (k u w : ℕ) (f : ℕ → Bool) → ((i : ℕ) → i < k → f (u + i) ≡ bit w i)
+pub row-word : {k : ℕ} (u w : ℕ) (f : ℕ → Bool) → ((i : ℕ) → i < k → f (u + i) ≡ bit w i)
     → keep f (upTo (u + k)) ≡ keep f (upTo u) ++ membersFrom k u w
 unfolding upTo
-row-word k u w f h =
+row-word {k} u w f h =
     ap (keep f) (from-add 0 u k ∙ ap (λ (x : ℕ). from 0 u ++ from x k) (zero-add u))
     ∙ keep-append f (from 0 u) (from u k)
     ∙ ap (λ (l : List ℕ). keep f (from 0 u) ++ l) (members-keep k u w f h)

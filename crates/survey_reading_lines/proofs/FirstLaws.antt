@@ -19,7 +19,7 @@ pub record InLimits (N M n m : ℕ) : Type 0 where
   pub size : n ≤ N
   pub few : m ≤ M
 
--- what the first line says, by the tests that it passes
+-- what reading the first line gives, by the tests that it passes
 module _ (N M p q : ℕ) {o : Option (ℕ × ℕ × List ℕ)} where
   pub counts-malformed : o ≡ missing → refused 1 ≡ countsOf N M p q o
   unfolding countsOf

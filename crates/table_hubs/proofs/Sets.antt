@@ -46,10 +46,10 @@ module _ {list w₀ ws : List ℕ} {i : ℕ} (h : Inserted list w₀ ws i) where
 -- ---- the closed neighbourhood of a node
 
 -- the node is put into the empty set w₀, which gives p, and then its neighbours, which gives q
-pub closed-set : (G : Graph) (v : ℕ) {w₀ row : List ℕ} {p q : Nodes} → w₀ ≡ replicate 16 0 → p ≡ inserted (member w₀) v
+pub closed-set : (G : Graph) {v : ℕ} {w₀ row : List ℕ} {p q : Nodes} → w₀ ≡ replicate 16 0 → p ≡ inserted (member w₀) v
     → row ≡ G v → q ≡ (λ x. has x row || p x) → q ≡ (λ x. has x (closed G v))
 unfolding closed has inserted emptySet
-closed-set G v {p = p} empty node own all =
+closed-set G {v} {p = p} empty node own all =
     let alone : p ≡ inserted emptySet v = node ∙ ap (λ (m : Nodes). inserted m v) (ap member empty ∙ empty-words 16) in
     all ∙ fun-ext (λ x.
     ap₂ (λ (l : List ℕ) (m : Nodes). has x l || m x) own alone

@@ -1,4 +1,4 @@
--- `answer_pair::pair_answer` meets its contract: at each `return` the tests that led there say which case holds.
+-- `answer_pair::pair_answer` meets its contract: at each `return` the tests that led there decide which case holds.
 -- Assumes nothing.
 use mathlib.Core.Path.{_≡_, _∙_}
 use borrow.Author.Tests.{eq-eqb, ne-eqb}

@@ -1,4 +1,4 @@
--- `survey_acceptance::match_rows` meets its contract: the rows below v are matched, and a row that does not fit is no survey's.
+-- `survey_acceptance::match_rows` meets its contract: the rows below v are matched, and with a row that does not fit the lists are no survey.
 -- Assumes nothing.
 use mathlib.Core.Path.{_≡_, refl, sym, _∙_}
 use mathlib.Core.Bool.{true}
@@ -45,7 +45,7 @@ cast-last c = search needs
 loop-holds : tie.Need-loop-holds Inv-loop μ-loop
 loop-holds c =
     let pre = c .before .before .before .before .pre in
-    (omega arith, refl, upto-none (pre .0 .0) _ (pre .1 .1))
+    (omega arith, refl, upto-none (pre .0 .0) (pre .1 .1))
 
 mul-at : tie.Need-mul-at Inv-loop μ-loop
 mul-at c = search needs

@@ -37,7 +37,7 @@ returns : tie.Need-returns
 returns c =
     let listed = c .before .before in
     let read = listed .before .before in
-    closed-set _ _ (start read .pre .2) (inserted read .insert .ensures) (read .own .ensures) (listed .insert-list .ensures)
+    closed-set _ (start read .pre .2) (inserted read .insert .ensures) (read .own .ensures) (listed .insert-list .ensures)
 
 pub insert-closed-spec : {M : Type 1} → statement M
 insert-closed-spec =

@@ -1,7 +1,7 @@
 -- `text_reading::line_at` meets its contract: a walk of its MIR, by hand. The `LineReader` that `lines_from` returns is held in a local and
--- passed to `next_line`; the proof knows of the two only that each meets its contract.
+-- passed to `next_line`; the proof uses of the two only that each meets its contract.
 -- In a local MIR erases the lifetime of the struct's type, so the value is shown to have the type at `erased`: what the struct owns does
--- not say the lifetime's name.
+-- not depend on the lifetime's name.
 -- Assumes nothing.
 use mathlib.Core.Path.{_≡_, refl}
 use Prim.Native.Nat.{ℕ, _<_, _^_}
@@ -63,11 +63,11 @@ use Rattle.text_reading.proofs.line_at.Code as code
 abbrev stayed : Stays (lineAt.ended .signature .params) (lineAt.ended .kept)
 stayed = (stay-none-slice (0 ∷ []) tt (plain (λ _. u8)) yes, (stay-none (λ _. usize) yes, (stay-none (λ _. u8) yes, tt)))
 
--- what `lines_from` says of the reader r that it makes of the text s and the place n
+-- what `lines_from` ensures of the reader r that it makes of the text s and the place n
 abbrev SaidReader : RefT (List ℕ) → ℕ → LineReader → Type 0
 SaidReader s n r = (r .text ≡ s) × (r .at ≡ n)
 
--- what the two calls say, put together
+-- what the two calls ensure, put together
 chain : (s : RefT (List ℕ)) (n letter : ℕ) (r : LineReader) (l : Line)
     → SaidReader s n r → SaidLine (r .text) (r .at) letter l → SaidLine s n letter l
 chain s n letter r l e f = rw (e .0, e .1) at f

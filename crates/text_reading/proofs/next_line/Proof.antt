@@ -1,5 +1,5 @@
 -- `text_reading::next_line` meets its contract: a walk of its MIR, by hand. The struct is taken apart, and `scan_line` is called on the
--- slice, the number and the letter; the proof knows of it only that it meets its contract.
+-- slice, the number and the letter; the proof uses of it only that it meets its contract.
 -- The struct is Copy: what it owns is available twice: one copy is kept whole for the exit, and of the other what text owns goes to the callee,
 -- beside the lifetime's token, which comes back.
 -- Assumes nothing.
@@ -106,7 +106,7 @@ module _ {M : Type 1} (𝓤 : URA M) (H : Heap 𝓤) (A : Atoms 𝓤) (mem : Mem
       abbrev fields : Values (D .parts)
       fields = (r .text, (r .at, tt))
 
-      -- the call of `scan_line`: its arguments, what it asks, and what it says of the line found
+      -- the call of `scan_line`: its arguments, what it requires, and what it ensures of the line found
       abbrev args : Args scan.signature (κ, tt)
       args = (r .text, (r .at, (letter, tt)))
 
