@@ -67,7 +67,7 @@ module _ (E : Edges) (n s : ℕ) where
   before-within : (k x : ℕ) → x < n → T (has x (before k)) → T (within k x)
   unfolding before
   before-within zero x h t = absurd (none-in x t)
-  before-within (suc k) x h t = stay _ _ _ _ _ h t
+  before-within (suc k) x h t = stay E n s k x h t
 
   within-before : (k j x : ℕ) → x < n → j < k → T (within j x) → T (has x (before k))
   unfolding before
@@ -133,7 +133,7 @@ module _ {E : Edges} {n s k : ℕ} {row : List ℕ} {f u d : Nodes} (m : Turn E 
   now-inside = inside _ _ _ (m .source) _
 
   old-now : (x : ℕ) → T (has x old) → T (has x now)
-  old-now x t = let j = of-before E n s k x t in before-within _ _ _ _ _ (inside _ _ _ (m .source) (j .0) _ (j .2)) t
+  old-now x t = let j = of-before E n s k x t in before-within E n s k x (inside _ _ _ (m .source) (j .0) _ (j .2)) t
 
   in-front : (x : ℕ) → T (f x) → T (has x now) × (T (has x old) → ⊥)
   in-front x t =

@@ -72,7 +72,7 @@ module _ {neighbours : List ℕ} {last n v : ℕ} {cursors row : List ℕ} {r : 
   unfolding rowFits
   row-fails q f =
       false-no (rowFits neighbours last n v row cursors) (sym e ∙ q)
-      (and-i (ascending (v ∷ row)) _ (f .order) (all-of _ _ λ x m. fits-test _ _ _ _ _ (f .nodes x m)))
+      (and-i (ascending (v ∷ row)) _ (f .order) (all-of _ _ λ x m. fits-test neighbours last n v cursors (f .nodes x m)))
 
 -- ---- the pass over a row
 
@@ -151,7 +151,7 @@ module _ {neighbours : List ℕ} {last n v : ℕ} {row cursors cursors′ : List
         let both = and-r (eqb wrong 0) (order && nodes) (subst T (sym (p .rest)) t) in
         let here : T (has x (drop i row)) = rw (drop-next row i h) (has-head _ _) in
         let above = ascending-above _ (drop i row) (and-l order nodes both) x here in
-        let fit = fits-facts neighbours _ n v cursors x (of-all _ (drop i row) (and-r order nodes both) x here) in
+        let fit = fits-facts neighbours last n v cursors x (of-all _ (drop i row) (and-r order nodes both) x here) in
         (above, fit .below, rw (unmoved above) (fit .before-last))
 
     -- where x does not, the answer is no

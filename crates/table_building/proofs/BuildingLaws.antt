@@ -69,13 +69,13 @@ pub tables-built : {n s : ℕ} {G : Graph} {full low report list full′ low′ 
     → record { answer = answered count; full = full′; low = low′; report = report′; hubs = list′ } ≡ built n s G full low report list
 unfolding built fullTable lowTable reportTable
 tables-built {n} {s} {G} {full} {low} {report} {list} {full′} {low′} {report′} {list′} {count} f =
-    let front = hubs-front _ _ _ _ _ _ (f .counted) (f .hubs-are) in
+    let front = hubs-front n s G list list′ count (f .counted) (f .hubs-are) in
     let full-built : full′ ≡ over (fullTable n s G) full = f .full-is ∙ ap (λ (hs : List ℕ). over (fullOf n G hs) full) front in
     let report-built : report′ ≡ over (reportTable n s G) report =
     f .report-is
     ∙ ap (λ (hs : List ℕ). over (reportOf n full′ low′ hs) report) front
     ∙ ap₂ (λ (x y : List ℕ). over (reportOf n x y (hubs n s G)) report) full-built (f .low-is)
-    ∙ ap (λ (t : List ℕ). over t report) (report-same _ _ _ _ _ _ (hubs-below _ _ _)) in
+    ∙ ap (λ (t : List ℕ). over t report) (report-same n _ _ full low (hubs n s G) (hubs-below _ _ _)) in
     λ i. record { answer = answered (f .counted i); full = full-built i; low = f .low-is i; report = report-built i; hubs = f .hubs-are i }
 
 -- ---- the refusals, in their order
@@ -93,7 +93,7 @@ Promised n starts neighbours full low report list r =
 kept : {n : ℕ} {starts neighbours : List ℕ} (full low report list : List ℕ) {r : AfterBuilding} → r ≡ building n starts neighbours full low report list
     → Promised n starts neighbours full low report list r
 kept {n} {starts} {neighbours} full low report list e =
-    promised (BuildRight n (threshold n) starts neighbours) (building-right _ _ _ _ _ _ _) e
+    promised (BuildRight n (threshold n) starts neighbours) (building-right n starts neighbours full low report list) e
 
 -- a refusal, which leaves the lists as they were
 abbrev Refuses : (n : ℕ) (starts neighbours full low report list : List ℕ) → Refusal → Type 0

@@ -307,7 +307,7 @@ line-of {s} {at} {letter} {a} {i} {b} {j} n p =
     }
 
 at-sound : {s : List ℕ} {at letter a b e : ℕ} → lineAt s at letter ≡ pair.Pair a b e → IsLineAt s at letter a b e
-at-sound {s} {at} {letter} {a} {b} {e} h = go-letter _ refl
+at-sound {s} {at} {letter} {a} {b} {e} h = go-letter (hasByte s at letter) refl
   where
     Is : Type 0
     Is = IsLineAt s at letter a b e
@@ -328,7 +328,7 @@ at-sound {s} {at} {letter} {a} {b} {e} h = go-letter _ refl
     go-end n false p = clash (line-no-end n p)
 
     go-second : {a′ i : ℕ} → First s at letter a′ i → hasByte s i 44 ≡ true → (n : Number) → numberAt s (i + 1) ≡ n → Is
-    go-second f p (number.Value b′ j) n = go-end (record { first = f; comma = p; value = n }) _ refl
+    go-second f p (number.Value b′ j) n = go-end (record { first = f; comma = p; value = n }) (hasByte s j 10) refl
     go-second f p number.Malformed n = clash (line-no-second f p n)
 
     go-second-comma : {a′ i : ℕ} → First s at letter a′ i → (x : Bool) → hasByte s i 44 ≡ x → Is
@@ -340,7 +340,7 @@ at-sound {s} {at} {letter} {a} {b} {e} h = go-letter _ refl
     go-first g number.Malformed n = clash (line-no-first g n)
 
     go-comma : hasByte s at letter ≡ true → (x : Bool) → hasByte s (at + 1) 44 ≡ x → Is
-    go-comma l true p = go-first (record { named = l; comma = p }) _ refl
+    go-comma l true p = go-first (record { named = l; comma = p }) (numberAt s (at + 2)) refl
     go-comma l false p = clash (line-no-comma _ at letter l p)
 
     go-letter : (x : Bool) → hasByte s at letter ≡ x → Is
