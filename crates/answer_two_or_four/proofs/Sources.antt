@@ -98,7 +98,7 @@ module _ {n s : ℕ} {G : Graph} {list : List ℕ} {count : ℕ} (f : InFront n 
   sources-long = f .counted ∙ ap length (sym (f .front))
 
   pub sources-below : IsGraph n G → n ≤ 1024 → (h : ℕ) → T (has h (take count list)) → h < n
-  sources-below g size = rw (f .front) (source-below _ _ _ g size (source-cases _ _ _ _ _))
+  sources-below g size = rw (f .front) (source-below n s G g size (source-cases n s G g size))
 
   pub result-is : n ≤ 1024 → {v : Verdict} {d : ℕ} → v ≡ ofDepth d → d ≡ greatest (rowsOf n (fewest (linked n G) n) (take count list))
       → record { verdict = v; searches = count } ≡ testResult n s G

@@ -64,15 +64,15 @@ pub over-same : (n : ℕ) (f : ℕ → ℕ → ℕ) (t u : List ℕ) → drop (n
 over-same n f t u e = rw (over-table _ _ _, over-table _ _ _, e)
 
 -- rows and tables that agree
-rows-same : (n : ℕ) (f g : ℕ → ℕ → ℕ) (k m : ℕ) → ((a b : ℕ) → k ≤ a → a < k + m → b < n → f a b ≡ g a b) → rows n f k m ≡ rows n g k m
+rows-same : {n : ℕ} {f g : ℕ → ℕ → ℕ} {k : ℕ} (m : ℕ) → ((a b : ℕ) → k ≤ a → a < k + m → b < n → f a b ≡ g a b) → rows n f k m ≡ rows n g k m
 unfolding rows rowsOf
-rows-same n f g k m e =
+rows-same m e =
     gather-same _ _ _
     (λ a h. row-same _ _ _ (λ b l. e a b (of-from _ _ _ h .0) (of-from _ _ _ h .1) l))
 
 pub table-same : (n : ℕ) (f g : ℕ → ℕ → ℕ) → ((a b : ℕ) → a < n → b < n → f a b ≡ g a b) → table n f ≡ table n g
 unfolding table upTo rows
-table-same n f g e = rows-same _ _ _ _ _ (λ a b l h k. e a b (omega arith) k)
+table-same n f g e = rows-same _ (λ a b l h k. e a b (omega arith) k)
 
 -- ---- one row written over
 
@@ -99,9 +99,9 @@ module _ (n a : ℕ) (h : a < n) where
   pub put-row : (f g : ℕ → ℕ → ℕ) (t : List ℕ) → ((u b : ℕ) → u < n → b < n → (u ≡ a → ⊥) → f u b ≡ g u b)
       → written (over (table n f) t) (a * n) (map (g a) (upTo n)) ≡ over (table n g) t
   put-row f g t e =
-      let earlier : rows n f 0 a ≡ rows n g 0 a = rows-same _ _ _ _ _ (λ u b l k i. e u b (omega arith) i (λ z. omega arith)) in
+      let earlier : rows n f 0 a ≡ rows n g 0 a = rows-same _ (λ u b l k i. e u b (omega arith) i (λ z. omega arith)) in
       let later : rows n f (suc a) (n - suc a) ≡ rows n g (suc a) (n - suc a) =
-      rows-same _ _ _ _ _ (λ u b l k i. e u b (omega arith) i (λ z. omega arith)) in
+      rows-same _ (λ u b l k i. e u b (omega arith) i (λ z. omega arith)) in
       let place : length (rows n f 0 a) ≡ a * n = length-rows _ _ _ _ in
       let size : length (map (f a) (upTo n)) ≡ length (map (g a) (upTo n)) = length-row _ _ ∙ sym (length-row _ _) in
       rw (split-over _ _, split-over _ _, ← earlier, ← later, written-over)
@@ -120,17 +120,17 @@ module _ (n : ℕ) (f : ℕ → ℕ → ℕ) where
       some (suc m) k = zero-lt-suc _
 
   -- a list of n * n entries is a table if its entries are
-  pub is-table : (l : List ℕ) → length l ≡ n * n → ((i : ℕ) → i < n * n → getD l i 0 ≡ f (i / n) (i % n)) → l ≡ table n f
-  is-table l size e =
+  pub is-table : {l : List ℕ} → length l ≡ n * n → ((i : ℕ) → i < n * n → getD l i 0 ≡ f (i / n) (i % n)) → l ≡ table n f
+  is-table size e =
       ext-getD _ _ _ (size ∙ sym (length-table _ _))
       (λ i k. let j : i < n * n = omega (arith, size) in e i j ∙ sym (table-at i j))
 
 -- a list that is long enough is the table of its entries, and what stands behind it
-own-table : (n : ℕ) (t : List ℕ) → n * n ≤ length t → t ≡ over (table n (entryAt n t)) t
+own-table : (n : ℕ) {t : List ℕ} → n * n ≤ length t → t ≡ over (table n (entryAt n t)) t
 unfolding entryAt
-own-table n t h =
+own-table n {t} h =
     let front : take (n * n) t ≡ table n (entryAt n t) =
-    is-table _ _ _ (length-take-le _ _ h)
+    is-table _ _ (length-take-le _ _ h)
     (λ i k. getD-take (n * n) t i 0 k ∙ ap (λ (j : ℕ). getD t j 0) (sym (div-add-mod' _ _))) in
     sym (take-append-drop (n * n) t) ∙ rw (front, over-table n (entryAt n t) t)
 
@@ -138,7 +138,7 @@ own-table n t h =
 pub one-value : (n v : ℕ) (t : List ℕ) → replicate (n * n) v ++ drop (n * n) t ≡ over (table n (λ a b. v)) t
 one-value n v t =
     let front : replicate (n * n) v ≡ table n (λ a b. v) =
-    is-table _ _ _ (length-replicate _ _) (λ i k. getD-replicate (n * n) i v 0 k) in
+    is-table _ _ (length-replicate _ _) (λ i k. getD-replicate (n * n) i v 0 k) in
     rw (front, over-table)
 
 -- ---- a table that is written row by row: after a rows, the others are as they were
@@ -164,7 +164,7 @@ rows-none {n} {F} {t} h = record {
   within = omega arith;
   room = h;
   same = refl;
-  rows = own-table _ _ h
+  rows = own-table _ h
       ∙ ap (λ (x : List ℕ). over x t) (table-same _ _ _ (λ u b hu hb. rw (le-ltb u 0 (omega arith)) refl));
 }
 

@@ -53,8 +53,8 @@ pub record Lowest (k u w : ℕ) : Type 0 where
   pub first : membersFrom k u w ≡ (u + trailingZeros k w) ∷ membersFrom k u (w - 2 ^ trailingZeros k w)
 
 -- an odd word: the lowest bit is bit 0
-lowest-odd : (k u w : ℕ) → 0 < w → w % 2 ≡ 1 → Lowest (suc k) u w
-lowest-odd k u w p o =
+lowest-odd : {k u w : ℕ} → 0 < w → w % 2 ≡ 1 → Lowest (suc k) u w
+lowest-odd {k} {u} {w} p o =
     let t : trailingZeros (suc k) w ≡ 0 = trailing-odd _ _ o in
     let e : (w - 1) % 2 ≡ 0 = omega arith in
     let half : (w - 1) / 2 ≡ w / 2 = omega arith in
@@ -62,8 +62,8 @@ lowest-odd k u w p o =
     record { below = omega arith; holds = rw t p; first = rw (t, place, bits-even k u (w - 1) e, half) (bits-odd k u w o) }
 
 -- an even word: it is that of the word halved, one place up
-lowest-even : (k u w : ℕ) → w % 2 ≡ 0 → Lowest k (suc u) (w / 2) → Lowest (suc k) u w
-lowest-even k u w o l =
+lowest-even : {k u w : ℕ} → w % 2 ≡ 0 → Lowest k (suc u) (w / 2) → Lowest (suc k) u w
+lowest-even {k} {u} {w} o l =
     let z = trailingZeros k (w / 2) in
     let t : trailingZeros (suc k) w ≡ suc z = trailing-even _ _ o in
     let twice : 2 ^ suc z ≡ 2 ^ z * 2 = pow-suc _ _ in
@@ -80,7 +80,7 @@ pub lowest : (k u w : ℕ) → 0 < w → w < 2 ^ k → Lowest k u w
 lowest zero u w p h = absurd (omega arith)
 lowest (suc k) u w p h =
     let twice : 2 ^ suc k ≡ 2 ^ k * 2 = pow-suc _ _ in
-    ⊎-elim (lowest-odd _ _ _ p) (λ o. lowest-even _ _ _ o (lowest k (suc u) (w / 2) (omega arith) (omega arith))) (odd-or _)
+    ⊎-elim (lowest-odd p) (λ o. lowest-even o (lowest k (suc u) (w / 2) (omega arith) (omega arith))) (odd-or _)
 
 -- the ones of a word of k bits are as many as its set bits
 pub ones-members : (k u w : ℕ) → w < 2 ^ k → length (membersFrom k u w) ≡ ones w

@@ -36,8 +36,8 @@ row-same : (E F H : Edges) (v : ℕ) → ((x : ℕ) → F v x ≡ H v x) → wit
 row-same E F H v h = same-edges _ _ (λ u x.
     ap (λ (b : Bool). b || E u x) (at-one (λ y. F y x) (λ y. H y x) v (h x) u))
 
-row-empty : (E F : Edges) (v : ℕ) → ((x : ℕ) → F v x ≡ false) → E ≡ withRow E v F
-row-empty E F v h =
+row-empty : {E : Edges} (F : Edges) (v : ℕ) → ((x : ℕ) → F v x ≡ false) → E ≡ withRow E v F
+row-empty {E} F v h =
     same-edges _ _ (λ u x. sym (ap (λ (b : Bool). b || E u x) (and-false (eqb u v))))
     ∙ sym (row-same E F (λ u x. false) v h)
 
@@ -47,12 +47,12 @@ row-empty E F v h =
 abbrev linkTo : ℕ → Nodes → Edges
 linkTo w p u x = eqb x w && p x
 
-pub link-not : {E : Edges} (p : Nodes) (v w : ℕ) → p w ≡ false → E ≡ withRow E v (linkTo w p)
-link-not {E} p v w e = row-empty _ _ _ (λ x. at-one p (λ y. false) w e x ∙ and-false (eqb x w))
+pub link-not : {E : Edges} (p : Nodes) (v : ℕ) {w : ℕ} → p w ≡ false → E ≡ withRow E v (linkTo w p)
+link-not {E} p v {w} e = row-empty _ _ (λ x. at-one p (λ y. false) w e x ∙ and-false (eqb x w))
 
-pub link-put : (ws ws′ : List ℕ) (p : Nodes) (v w : ℕ) → w < 1024 → p w ≡ true → member ws′ ≡ inserted (member ws) (1024 * v + w)
+pub link-put : (ws ws′ : List ℕ) (p : Nodes) (v : ℕ) {w : ℕ} → w < 1024 → p w ≡ true → member ws′ ≡ inserted (member ws) (1024 * v + w)
     → edgesIn ws′ ≡ withRow (edgesIn ws) v (linkTo w p)
-link-put ws ws′ p v w h t e =
+link-put ws ws′ p v {w} h t e =
     edge-with ws ws′ v w h e
     ∙ row-same _ _ _ _ (λ x. sym (at-one p (λ y. true) w t x ∙ and-true _))
 
@@ -84,15 +84,15 @@ module _ {v : ℕ} {list : List ℕ} {p : Nodes} {E₀ : Edges} {ws : List ℕ} 
 
   pub linking-all : length list ≤ i → edgesIn ws ≡ withRow E₀ v (linksTo list p)
   unfolding has
-  linking-all l = row-empty _ (linksTo (drop i list) p) v (λ x. rw (drop-of-length-le list l) refl) ∙ h .says
+  linking-all l = row-empty (linksTo (drop i list) p) v (λ x. rw (drop-of-length-le list l) refl) ∙ h .says
 
 -- ---- the rows below v
 
 abbrev pub rowsBelow : ℕ → Edges → Edges
 rowsBelow v F u x = ltb u v && F u x
 
-pub rows-none : (F : Edges) (ws : List ℕ) → ws ≡ replicate 16384 0 → edgesIn ws ≡ rowsBelow 0 F
-rows-none F ws e =
+pub rows-none : (F : Edges) {ws : List ℕ} → ws ≡ replicate 16384 0 → edgesIn ws ≡ rowsBelow 0 F
+rows-none F e =
     ap edgesIn e ∙ edges-none
     ∙ same-edges _ _ (λ u x. sym (rw (le-ltb u 0 (omega arith)) refl))
 
@@ -112,8 +112,8 @@ module _ (n : ℕ) (G : Graph) (p : Nodes) where
   abbrev links : Edges
   links = between p (linked n G)
 
-  pub node-not : (v : ℕ) {E : Edges} → p v ≡ false → E ≡ withRow E v links
-  node-not v {E} e = row-empty _ _ _ (λ x. rw e refl)
+  pub node-not : {v : ℕ} {E : Edges} → p v ≡ false → E ≡ withRow E v links
+  node-not e = row-empty _ _ (λ x. rw e refl)
 
   pub node-put : IsGraph n G → (v : ℕ) (E : Edges) {E′ : Edges} {own : List ℕ} → v < n → p v ≡ true → own ≡ G v
       → E′ ≡ withRow E v (linksTo own p) → E′ ≡ withRow E v links
@@ -125,8 +125,8 @@ module _ (n : ℕ) (G : Graph) (p : Nodes) where
           (λ q. and-i (has x (G v)) (p x) (linked-has n G v x (and-r (p x) (linked n G v x) q)) (and-l (p x) (linked n G v x) q)))
 
   -- each of them is in a row below n
-  pub rows-all : (v : ℕ) {E : Edges} → v ≡ n → E ≡ rowsBelow v links → E ≡ links
-  rows-all v q e = e ∙ same-edges _ _ (λ u x. same-test _ _
+  pub rows-all : {v : ℕ} {E : Edges} → v ≡ n → E ≡ rowsBelow v links → E ≡ links
+  rows-all {v} q e = e ∙ same-edges _ _ (λ u x. same-test _ _
       (and-r (ltb u v) (links u x))
       (λ t. let l = linked-is _ _ _ _ (and-r (p u && p x) (linked n G u x) t) in
       and-i (ltb u v) (links u x) (true-T (ltb u v) (lt-ltb u v (omega (arith, l .first)))) t))

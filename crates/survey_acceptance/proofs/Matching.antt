@@ -8,7 +8,7 @@ use mathlib.Core.List.{List, [], _∷_, _++_}
 use Prim.Native.Nat.{ℕ, _+_, _≤_, _<_}
 use native.Mathlib.Omega.{arith}
 use lib.Dec.{T, ltb, ltb→lt, lt→ltb}
-use Rattle.model.specs.Basics.{upTo, has, keep}
+use Rattle.model.specs.Basics.{has, keep}
 use Rattle.model.specs.Survey.{Graph, ascending, IsGraph}
 use Rattle.model.proofs.Lists.{has-head, has-tail, none-in, of-cons, of-single, has-append, has-later, of-append, has-keep, of-keep, keep-same}
 use Rattle.model.proofs.Loops.{below-next}

@@ -134,7 +134,7 @@ module _ (N M : ℕ) (text : List ℕ) {s₀ x₀ s x : List ℕ} (z : Cleared s
   -- the first line counts n nodes and m links
   module _ {n m at : ℕ} (e : w ≡ says.Pair n m at) where
     pub counts-within : Within N M (length s) (length x) n m
-    counts-within = of-first-taken _ _ _ _ _ _ (sym (rw e at told)) .1
+    counts-within = of-first-taken N M (length s) (length x) (line 83 text) (n, m, drop at text) (sym (rw e at told)) .1
 
     pub first-read : {r : AfterReading} → r ≡ readingOf (length s) (length x) (parsed n (readLinks n m [] (drop at text)))
         → r ≡ readingOf (length s₀) (length x₀) (parse N M (length s₀) (length x₀) text)

@@ -33,8 +33,8 @@ kept-below f u n h =
 unfoldable pub rowTo : List ℕ → ℕ → ℕ → List ℕ
 rowTo ws v w = keep (edgesIn ws v) (upTo (64 * w))
 
-word-bits : (ws : List ℕ) (v w i : ℕ) → w < 16 → i < 64 → edgesIn ws v (64 * w + i) ≡ bit (getD ws (v * 16 + w) 0) i
-word-bits ws v w i hw hi =
+word-bits : (ws : List ℕ) (v : ℕ) {w i : ℕ} → w < 16 → i < 64 → edgesIn ws v (64 * w + i) ≡ bit (getD ws (v * 16 + w) 0) i
+word-bits ws v {w} {i} hw hi =
     let e : 1024 * v + (64 * w + i) ≡ 64 * (v * 16 + w) + i = omega arith in
     edge-bit _ _ _ (omega arith) ∙ ap (member ws) e ∙ word-bit _ _ _ hi
 
@@ -67,7 +67,7 @@ module _ {ws : List ℕ} {v : ℕ} {x₀ x : List ℕ} {at pos w : ℕ} (r : Row
   module _ (h : w < 16) where
     row-turn : rowTo ws v (w + 1) ≡ rowTo ws v w ++ wordIn ws v w
     unfolding rowTo
-    row-turn = next-word _ _ _ (λ i k. word-bits _ _ _ _ h k)
+    row-turn = next-word _ _ _ (λ i k. word-bits _ _ h k)
 
     word-room : at + length (rowTo ws v w) + length (wordIn ws v w) ≤ length x₀
     unfolding rowTo rowsIn

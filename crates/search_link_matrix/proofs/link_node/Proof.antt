@@ -14,7 +14,7 @@ contains-requires : tie.Need-contains-requires
 contains-requires c κs = search needs
 
 returns : tie.Need-returns
-returns c = node-not _ (neighboursOf _ _) (member _) _ (sym (c .before .contains .ensures) ∙ not-true _ (c .if1 .taken))
+returns c = node-not _ (neighboursOf _ _) (member _) (sym (c .before .contains .ensures) ∙ not-true _ (c .if1 .taken))
 
 own-requires : tie.Need-own-requires
 own-requires c κs = search needs
