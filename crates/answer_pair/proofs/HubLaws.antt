@@ -18,7 +18,7 @@ use Rattle.model.proofs.Loops.{Searched, searched-found, searched-more, searche
 abbrev pub attains : (n : ℕ) (full : List ℕ) (a b r h : ℕ) → Bool
 attains n full a b r h = taken n full a b h && eqb (via n full a b h) r
 
--- the nodes from h on still say which hub is the smallest
+-- the nodes from h on still determine which hub is the smallest
 pub record Tried (n : ℕ) (full : List ℕ) (a b r h : ℕ) : Type 0 where
   pub within : h ≤ n
   pub left : Searched (attains n full a b r) none (upTo n) h

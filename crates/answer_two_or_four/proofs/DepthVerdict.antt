@@ -1,4 +1,4 @@
--- The greatest of the distances says whether a search misses a node and whether one goes deeper than 2.
+-- The greatest of the distances decides whether a search misses a node and whether one goes deeper than 2.
 -- Assumes nothing.
 use mathlib.Core.Path.{_≡_, refl, sym, ap, ap₂, _∙_}
 use mathlib.Core.Logic.{_⊎_, inl, inr}
@@ -60,7 +60,7 @@ module _ (n : ℕ) (f : ℕ → ℕ → ℕ) where
       ∙ sym (any-append p (map (f h) (upTo n)) (rowsOf n f hs))
 
   module _ (bounded : (h v : ℕ) → f h v ≤ none) where
-    -- what the tests of all distances say, the greatest says
+    -- the tests of all distances together give what the test of the greatest gives
     depth-verdict : (hs : List ℕ)
         → ofDepth (greatest (rowsOf n f hs))
         ≡ (if any (λ h. any (λ v. eqb (f h v) none) (upTo n)) hs then Parted

@@ -1,4 +1,4 @@
--- The nodes that the test searches from, and what it says of them.
+-- The nodes that the test searches from, and what the searches from them decide.
 -- Assumes nothing.
 use mathlib.Core.Path.{_≡_, sym, ap, ap₂, _∙_, subst}
 use mathlib.Core.Bool.{_&&_}
@@ -44,8 +44,8 @@ pub smallest-low : {n : ℕ} (s : ℕ) (G : Graph) → n ≤ 1024 → {low : Nod
     → {k r : ℕ} → r ≡ firstOf low k (upTo k) → n ≤ k → Smallest n s G r
 smallest-low {n} s G size {low} is {k} {r} e wide = record {
   size = size;
-  first = λ h. first-at h (first-of low k k e);
-  missing = λ h. missing-at h (first-of low k k e) (first-below (isLow s G) none n);
+  first = λ h. first-at h (first-of _ _ _ e);
+  missing = λ h. missing-at h (first-of _ _ _ e) (first-below _ _ _);
 }
   where
     in-set : (v : ℕ) → v < n → T (isLow s G v) → T (low v)
@@ -104,10 +104,10 @@ module _ {n s : ℕ} {G : Graph} {list : List ℕ} {count : ℕ} (f : InFront n 
       → record { verdict = v; searches = count } ≡ testResult n s G
   unfolding testResult
   result-is size {v} e q =
-      let right : v ≡ verdictOf n G (sources n s G) = e ∙ rw (q, f .front) (verdict-is n G size (sources n s G)) in
+      let right : v ≡ verdictOf n G (sources n s G) = e ∙ rw (q, f .front) (verdict-is _ _ size _) in
       ap₂ (λ (x : Verdict) (k : ℕ). record { verdict = x; searches = k }) right (f .counted)
 
 -- an answer by the rules is right
 pub tested : {n : ℕ} {starts neighbours : List ℕ} {o : Outcome TestResult}
     → o ≡ testing n starts neighbours → (o ≡ testing n starts neighbours) × TestRight n starts neighbours o
-tested {n} {starts} {neighbours} e = promised (TestRight n starts neighbours) (testing-right n starts neighbours) e
+tested {n} {starts} {neighbours} e = promised (TestRight n starts neighbours) (testing-right _ _ _) e

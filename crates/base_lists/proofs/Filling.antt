@@ -25,6 +25,6 @@ filled-all {d = d} {i = i} f h =
     let e : i ≡ length d = omega arith in
     f .content ∙ rw (e, drop-length d, append-nil)
 
--- a list of one value is so at its own length
+-- a list of one repeated value is `replicate` of its length
 pub filled-own : (v k : ℕ) {s : List ℕ} → s ≡ replicate k v → s ≡ replicate (length s) v
 filled-own v k e = e ∙ ap (λ (j : ℕ). replicate j v) (sym (ap length e ∙ length-replicate k v))

@@ -25,7 +25,7 @@ mid-length at n table h = mid-len at (at + n) table h ∙ add-sub-cancel-left at
 pub row-put : (at n : ℕ) (table part row : List ℕ) → length part ≡ n → part ≡ row
     → putMid at (at + n - at) table part ≡ written table at row
 row-put at n table part row l e =
-    put-written table at (at + n - at) part (l ∙ sym (add-sub-cancel-left at n)) ∙ ap (written table at) e
+    put-written _ at (at + n - at) part (l ∙ sym (add-sub-cancel-left at n)) ∙ ap (written table at) e
 
 pub row-within : (n a : ℕ) → a < n → a * n + n ≤ n * n
 row-within n a h = omega (arith, suc-mul a n, mul-le-mul-right n h)
@@ -35,44 +35,44 @@ module _ (n s : ℕ) (table : List ℕ) (h : s < n) (room : n * n ≤ length tab
   row-ends = omega (arith, row-within n s h)
 
   pub part-length : length (midOf (s * n) (s * n + n - s * n) table) ≡ n
-  part-length = mid-length (s * n) n table row-ends
+  part-length = mid-length _ _ _ row-ends
 
 -- a list of n entries is a row if its entries are
-is-row : (n : ℕ) (f : ℕ → ℕ) (l : List ℕ) → length l ≡ n → ((i : ℕ) → i < n → getD l i 0 ≡ f i) → l ≡ map f (upTo n)
+pub is-row : (n : ℕ) (f : ℕ → ℕ) (l : List ℕ) → length l ≡ n → ((i : ℕ) → i < n → getD l i 0 ≡ f i) → l ≡ map f (upTo n)
 is-row n f l size e =
-    ext-getD 0 l (map f (upTo n)) (size ∙ sym (length-row f n))
-    (λ i h. let k : i < n = omega (arith, size) in e i k ∙ sym (getD-row f n i 0 k))
+    ext-getD _ _ _ (size ∙ sym (length-row _ _))
+    (λ i h. let k : i < n = omega (arith, size) in e i k ∙ sym (getD-row _ _ _ _ k))
 
 -- rows that agree
 pub row-same : (n : ℕ) (f g : ℕ → ℕ) → ((b : ℕ) → b < n → f b ≡ g b) → map f (upTo n) ≡ map g (upTo n)
-row-same n f g e = is-row n g (map f (upTo n)) (length-row f n) (λ i k. getD-row f n i 0 k ∙ e i k)
+row-same n f g e = is-row _ _ _ (length-row _ _) (λ i k. getD-row _ _ _ _ k ∙ e i k)
 
 -- a row of one value
 pub none-row : (n v : ℕ) → replicate n v ≡ map (λ b. v) (upTo n)
-none-row n v = is-row n (λ b. v) (replicate n v) (length-replicate n v) (λ i k. getD-replicate n i v 0 k)
+none-row n v = is-row _ _ _ (length-replicate _ _) (λ i k. getD-replicate n i v 0 k)
 
 -- a table in front of a list
 over-table : (n : ℕ) (f : ℕ → ℕ → ℕ) (t : List ℕ) → over (table n f) t ≡ table n f ++ drop (n * n) t
 unfolding over
-over-table n f t = rw (length-table n f)
+over-table n f t = rw (length-table _ _)
 
 pub over-length : (n : ℕ) (f : ℕ → ℕ → ℕ) (t : List ℕ) → n * n ≤ length t → length (over (table n f) t) ≡ length t
 over-length n f t h = rw (over-table, length-append, length-table, length-drop) (omega arith)
 
--- what stands behind a table is what counts of the list
+-- of the list, only what stands behind the table matters
 pub over-same : (n : ℕ) (f : ℕ → ℕ → ℕ) (t u : List ℕ) → drop (n * n) t ≡ drop (n * n) u → over (table n f) t ≡ over (table n f) u
-over-same n f t u e = rw (over-table n f t, over-table n f u, e)
+over-same n f t u e = rw (over-table _ _ _, over-table _ _ _, e)
 
 -- rows and tables that agree
-rows-same : (n : ℕ) (f g : ℕ → ℕ → ℕ) (k m : ℕ) → ((a b : ℕ) → k ≤ a → a < k + m → b < n → f a b ≡ g a b) → rows n f k m ≡ rows n g k m
+rows-same : {n : ℕ} {f g : ℕ → ℕ → ℕ} {k : ℕ} (m : ℕ) → ((a b : ℕ) → k ≤ a → a < k + m → b < n → f a b ≡ g a b) → rows n f k m ≡ rows n g k m
 unfolding rows rowsOf
-rows-same n f g k m e =
-    gather-same (λ a. map (f a) (upTo n)) (λ a. map (g a) (upTo n)) (from k m)
-    (λ a h. row-same n (f a) (g a) (λ b l. e a b (of-from k m a h .0) (of-from k m a h .1) l))
+rows-same m e =
+    gather-same _ _ _
+    (λ a h. row-same _ _ _ (λ b l. e a b (of-from _ _ _ h .0) (of-from _ _ _ h .1) l))
 
 pub table-same : (n : ℕ) (f g : ℕ → ℕ → ℕ) → ((a b : ℕ) → a < n → b < n → f a b ≡ g a b) → table n f ≡ table n g
 unfolding table upTo rows
-table-same n f g e = rows-same n f g 0 n (λ a b l h k. e a b (omega arith) k)
+table-same n f g e = rows-same _ (λ a b l h k. e a b (omega arith) k)
 
 -- ---- one row written over
 
@@ -80,7 +80,7 @@ table-same n f g e = rows-same n f g 0 n (λ a b l h k. e a b (omega arith) k)
 written-over : (A R B S : List ℕ) (at : ℕ) → length A ≡ at → length R ≡ length S → written (A ++ (R ++ B)) at S ≡ A ++ (S ++ B)
 unfolding written
 written-over A R B S at l e =
-    rw (← l, take-append-seam A (R ++ B), drop-append-add A (R ++ B) (length S), drop-at R B (length S) e, append-assoc A S B)
+    rw (← l, take-append-seam _ _, drop-append-add _ _ _, drop-at R B (length S) e, append-assoc _ _ _)
 
 module _ (n a : ℕ) (h : a < n) where
   -- the rows before a, row a, and the rows after it
@@ -93,18 +93,18 @@ module _ (n a : ℕ) (h : a < n) where
   -- and what stands behind the table
   split-over : (f : ℕ → ℕ → ℕ) (t : List ℕ)
       → over (table n f) t ≡ rows n f 0 a ++ (map (f a) (upTo n) ++ (rows n f (suc a) (n - suc a) ++ drop (n * n) t))
-  split-over f t = rw (over-table, split-rows, append-assoc (rows n f 0 a), append-assoc (map (f a) (upTo n)))
+  split-over f t = rw (over-table, split-rows, append-assoc _, append-assoc _)
 
   -- so row a is written over, and the others stay
   pub put-row : (f g : ℕ → ℕ → ℕ) (t : List ℕ) → ((u b : ℕ) → u < n → b < n → (u ≡ a → ⊥) → f u b ≡ g u b)
       → written (over (table n f) t) (a * n) (map (g a) (upTo n)) ≡ over (table n g) t
   put-row f g t e =
-      let earlier : rows n f 0 a ≡ rows n g 0 a = rows-same n f g 0 a (λ u b l k i. e u b (omega arith) i (λ z. omega arith)) in
+      let earlier : rows n f 0 a ≡ rows n g 0 a = rows-same _ (λ u b l k i. e u b (omega arith) i (λ z. omega arith)) in
       let later : rows n f (suc a) (n - suc a) ≡ rows n g (suc a) (n - suc a) =
-      rows-same n f g (suc a) (n - suc a) (λ u b l k i. e u b (omega arith) i (λ z. omega arith)) in
-      let place : length (rows n f 0 a) ≡ a * n = length-rows n f 0 a in
-      let size : length (map (f a) (upTo n)) ≡ length (map (g a) (upTo n)) = length-row (f a) n ∙ sym (length-row (g a) n) in
-      rw (split-over f t, split-over g t, ← earlier, ← later, written-over)
+      rows-same _ (λ u b l k i. e u b (omega arith) i (λ z. omega arith)) in
+      let place : length (rows n f 0 a) ≡ a * n = length-rows _ _ _ _ in
+      let size : length (map (f a) (upTo n)) ≡ length (map (g a) (upTo n)) = length-row _ _ ∙ sym (length-row _ _) in
+      rw (split-over _ _, split-over _ _, ← earlier, ← later, written-over)
 
 -- ---- entries by their place in the list
 
@@ -112,33 +112,33 @@ module _ (n : ℕ) (f : ℕ → ℕ → ℕ) where
   pub table-at : (i : ℕ) → i < n * n → getD (table n f) i 0 ≡ f (i / n) (i % n)
   unfolding entryAt
   table-at i k =
-      ap (λ (j : ℕ). getD (table n f) j 0) (sym (div-add-mod' i n))
-      ∙ entry-table n f (i / n) (i % n) (div-lt-iff-lt-mul (some n k) .1 k) (mod-lt i (some n k))
+      ap (λ (j : ℕ). getD (table n f) j 0) (sym (div-add-mod' _ _))
+      ∙ entry-table _ _ _ _ (div-lt-iff-lt-mul (some _ k) .1 k) (mod-lt _ (some _ k))
     where
       some : (m : ℕ) → i < m * m → 0 < m
       some zero k = absurd (omega (arith, zero-mul 0))
-      some (suc m) k = zero-lt-suc m
+      some (suc m) k = zero-lt-suc _
 
   -- a list of n * n entries is a table if its entries are
-  pub is-table : (l : List ℕ) → length l ≡ n * n → ((i : ℕ) → i < n * n → getD l i 0 ≡ f (i / n) (i % n)) → l ≡ table n f
-  is-table l size e =
-      ext-getD 0 l (table n f) (size ∙ sym (length-table n f))
+  pub is-table : {l : List ℕ} → length l ≡ n * n → ((i : ℕ) → i < n * n → getD l i 0 ≡ f (i / n) (i % n)) → l ≡ table n f
+  is-table size e =
+      ext-getD _ _ _ (size ∙ sym (length-table _ _))
       (λ i k. let j : i < n * n = omega (arith, size) in e i j ∙ sym (table-at i j))
 
 -- a list that is long enough is the table of its entries, and what stands behind it
-own-table : (n : ℕ) (t : List ℕ) → n * n ≤ length t → t ≡ over (table n (entryAt n t)) t
+own-table : (n : ℕ) {t : List ℕ} → n * n ≤ length t → t ≡ over (table n (entryAt n t)) t
 unfolding entryAt
-own-table n t h =
+own-table n {t} h =
     let front : take (n * n) t ≡ table n (entryAt n t) =
-    is-table n (entryAt n t) (take (n * n) t) (length-take-le (n * n) t h)
-    (λ i k. getD-take (n * n) t i 0 k ∙ ap (λ (j : ℕ). getD t j 0) (sym (div-add-mod' i n))) in
+    is-table _ _ (length-take-le _ _ h)
+    (λ i k. getD-take (n * n) t i 0 k ∙ ap (λ (j : ℕ). getD t j 0) (sym (div-add-mod' _ _))) in
     sym (take-append-drop (n * n) t) ∙ rw (front, over-table n (entryAt n t) t)
 
 -- a front of one value
 pub one-value : (n v : ℕ) (t : List ℕ) → replicate (n * n) v ++ drop (n * n) t ≡ over (table n (λ a b. v)) t
 one-value n v t =
     let front : replicate (n * n) v ≡ table n (λ a b. v) =
-    is-table n (λ a b. v) (replicate (n * n) v) (length-replicate (n * n) v) (λ i k. getD-replicate (n * n) i v 0 k) in
+    is-table _ _ (length-replicate _ _) (λ i k. getD-replicate (n * n) i v 0 k) in
     rw (front, over-table)
 
 -- ---- a table that is written row by row: after a rows, the others are as they were
@@ -164,8 +164,8 @@ rows-none {n} {F} {t} h = record {
   within = omega arith;
   room = h;
   same = refl;
-  rows = own-table n t h
-      ∙ ap (λ (x : List ℕ). over x t) (table-same n (entryAt n t) (entryTo n F t 0) (λ u b hu hb. rw (le-ltb u 0 (omega arith)) refl));
+  rows = own-table _ h
+      ∙ ap (λ (x : List ℕ). over x t) (table-same _ _ _ (λ u b hu hb. rw (le-ltb u 0 (omega arith)) refl));
 }
 
 module _ {n : ℕ} {F : ℕ → ℕ → ℕ} {t list : List ℕ} {a : ℕ} (r : RowsTo n F t list a) where
@@ -173,10 +173,10 @@ module _ {n : ℕ} {F : ℕ → ℕ → ℕ} {t list : List ℕ} {a : ℕ} (r : 
   unfolding rowsTo
   rows-next {list′} h e =
       let next = entryTo n F t (a + 1) in
-      let row : map (F a) (upTo n) ≡ map (next a) (upTo n) = row-same n (F a) (next a) (λ b k. rw (lt-ltb a (a + 1) (omega arith)) refl) in
+      let row : map (F a) (upTo n) ≡ map (next a) (upTo n) = row-same _ _ _ (λ b k. rw (lt-ltb a (a + 1) (omega arith)) refl) in
       let rows : list′ ≡ rowsTo n F t (a + 1) =
       e ∙ ap₂ (λ (x y : List ℕ). written x (a * n) y) (r .rows) row
-      ∙ put-row n a h (entryTo n F t a) next t (λ u b hu hb other. rw (ltb-next u a other)) in
+      ∙ put-row _ _ h _ _ _ (λ u b hu hb other. rw (ltb-next u a other)) in
       record { within = omega arith; room = r .room; same = ap length rows ∙ over-length n next t (r .room); rows = rows }
 
   -- the same where row a is written as a part of the list
@@ -188,4 +188,4 @@ module _ {n : ℕ} {F : ℕ → ℕ → ℕ} {t list : List ℕ} {a : ℕ} (r : 
   pub rows-done : n ≤ a → list ≡ over (table n F) t
   unfolding rowsTo
   rows-done h =
-      r .rows ∙ ap (λ (x : List ℕ). over x t) (table-same n (entryTo n F t a) F (λ u b hu hb. rw (lt-ltb u a (omega arith)) refl))
+      r .rows ∙ ap (λ (x : List ℕ). over x t) (table-same _ _ _ (λ u b hu hb. rw (lt-ltb u a (omega arith)) refl))

@@ -29,7 +29,7 @@ unfolding written
 written-behind buf at t u h =
     let head : List ℕ = take at buf ++ t in
     let rest : List ℕ = drop (at + length t) buf in
-    let l : length head ≡ at + length t = length-head buf at t (omega arith) in
+    let l : length head ≡ at + length t = length-head _ at t (omega arith) in
     let end : at + length t + length u ≡ at + length (t ++ u) = rw length-append (omega arith) in
     let after : drop (at + length t + length u) (head ++ rest) ≡ drop (at + length (t ++ u)) buf =
     ap (λ (k : ℕ). drop (k + length u) (head ++ rest)) (sym l) ∙ drop-append-add head rest (length u)
@@ -39,23 +39,23 @@ written-behind buf at t u h =
 -- nothing
 pub wrote-none : (buf : List ℕ) (at : ℕ) → Wrote buf buf at at []
 unfolding written
-wrote-none buf at = record { ends = omega arith; text = paste-zero buf at [] }
+wrote-none buf at = record { ends = omega arith; text = paste-zero _ at [] }
 
 -- one byte
 pub wrote-one : (buf : List ℕ) (at b : ℕ) → at + 1 ≤ length buf → Wrote buf (set buf at b) at (at + 1) (b ∷ [])
-wrote-one buf at b h = record { ends = refl; text = write-one buf at b h }
+wrote-one buf at b h = record { ends = refl; text = write-one _ at b h }
 
 -- a text, and a text behind it
 pub wrote-then : {buf buf′ buf″ : List ℕ} {at i e : ℕ} {t u : List ℕ}
     → at + length t + length u ≤ length buf → Wrote buf buf′ at i t → Wrote buf′ buf″ i e u → Wrote buf buf″ at e (t ++ u)
 wrote-then {buf} {at = at} {t = t} {u = u} h p q = record {
-  ends = rw (length-append t u) (omega (arith, p .ends, q .ends));
-  text = q .text ∙ rw (p .text, p .ends) (written-behind buf at t u h);
+  ends = rw (length-append _ _) (omega (arith, p .ends, q .ends));
+  text = q .text ∙ rw (p .text, p .ends) (written-behind _ at t u h);
 }
 
 pub wrote-length : {buf buf′ : List ℕ} {at e : ℕ} {t : List ℕ}
     → at + length t ≤ length buf → Wrote buf buf′ at e t → length buf′ ≡ length buf
-wrote-length {buf} {at = at} {t = t} h w = ap length (w .text) ∙ length-written buf at t h
+wrote-length {buf} {at = at} {t = t} h w = ap length (w .text) ∙ length-written _ at t h
 
 -- what is left behind a text has room for a next one
 pub wrote-room : {buf buf′ : List ℕ} {at i : ℕ} {t : List ℕ} (u : List ℕ)
@@ -79,10 +79,10 @@ pub put-written : (l : List ℕ) (at k : ℕ) (part : List ℕ) → length part 
 unfolding written
 put-written l at k part e =
     sym (append-assoc (take at l) part (drop k (drop at l)))
-    ∙ ap (λ (r : List ℕ). take at l ++ part ++ r) (drop-drop k at l ∙ ap (λ (i : ℕ). drop (at + i) l) (sym e))
+    ∙ ap (λ (r : List ℕ). take at l ++ part ++ r) (drop-drop _ at l ∙ ap (λ (i : ℕ). drop (at + i) l) (sym e))
 
 pub wrote-part : (l : List ℕ) (at e : ℕ) (part : List ℕ) → at ≤ e → length part ≡ e - at → Wrote l (putMid at (e - at) l part) at e part
-wrote-part l at e part h k = record { ends = omega arith; text = put-written l at (e - at) part k }
+wrote-part l at e part h k = record { ends = omega arith; text = put-written _ at (e - at) part k }
 
 -- ---- a text that is written piece by piece: what is written, and what is left, are the whole
 pub record Left (buf buf′ : List ℕ) (at pos : ℕ) (whole left : List ℕ) : Type 0 where
@@ -92,12 +92,12 @@ pub record Left (buf buf′ : List ℕ) (at pos : ℕ) (whole left : List ℕ) :
   pub all : done ++ left ≡ whole
 
 pub left-all : {buf : List ℕ} {at : ℕ} {whole : List ℕ} → at + length whole ≤ length buf → Left buf buf at at whole whole
-left-all {buf} {at} room = record { room = room; done = []; wrote = wrote-none buf at; all = refl }
+left-all {buf} {at} room = record { room = room; done = []; wrote = wrote-none _ at; all = refl }
 
 module _ {buf buf′ : List ℕ} {at pos : ℕ} {whole : List ℕ} where
   module _ {left : List ℕ} (l : Left buf buf′ at pos whole left) where
     left-part : at + length (l .done) + length left ≤ length buf
-    left-part = omega (arith, ap length (sym (l .all)) ∙ length-append (l .done) left, l .room)
+    left-part = omega (arith, ap length (sym (l .all)) ∙ length-append (l .done) _, l .room)
 
     pub left-length : length buf′ ≡ length buf
     left-length = wrote-length (omega (arith, left-part)) (l .wrote)
@@ -116,7 +116,7 @@ module _ {buf buf′ : List ℕ} {at pos : ℕ} {whole : List ℕ} where
     room = l .room;
     done = l .done ++ t;
     wrote = wrote-then (omega (arith, left-part l, length-append t left)) (l .wrote) w;
-    all = append-assoc (l .done) t left ∙ l .all;
+    all = append-assoc (l .done) _ _ ∙ l .all;
   }
 
   pub left-none : Left buf buf′ at pos whole [] → Wrote buf buf′ at pos whole

@@ -21,7 +21,7 @@ same-edges E F h = fun-ext (λ u. fun-ext (h u))
 
 -- ---- one link
 
--- the number of a pair tells the pair
+-- the number of a pair determines the pair
 pair-test : (u x v w : ℕ) → x < 1024 → w < 1024 → eqb (1024 * u + x) (1024 * v + w) ≡ (eqb u v && eqb x w)
 pair-test u x v w hx hw =
     let s = eqb (1024 * u + x) (1024 * v + w) in

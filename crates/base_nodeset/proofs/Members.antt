@@ -1,4 +1,4 @@
--- The set bits of a word: by trailing zeros, by a count of ones, and as what a test keeps. Each once over the width.
+-- The set bits of a word: by trailing zeros, by a count of ones, and as what a test keeps. Each is proved by one induction on the number of bits.
 -- Assumes nothing.
 use mathlib.Core.Path.{_≡_, refl, sym, ap, _∙_}
 use mathlib.Core.Logic.{_⊎_, inl, inr, ⊎-elim}
@@ -53,20 +53,20 @@ pub record Lowest (k u w : ℕ) : Type 0 where
   pub first : membersFrom k u w ≡ (u + trailingZeros k w) ∷ membersFrom k u (w - 2 ^ trailingZeros k w)
 
 -- an odd word: the lowest bit is bit 0
-lowest-odd : (k u w : ℕ) → 0 < w → w % 2 ≡ 1 → Lowest (suc k) u w
-lowest-odd k u w p o =
-    let t : trailingZeros (suc k) w ≡ 0 = trailing-odd k w o in
+lowest-odd : {k u w : ℕ} → 0 < w → w % 2 ≡ 1 → Lowest (suc k) u w
+lowest-odd {k} {u} {w} p o =
+    let t : trailingZeros (suc k) w ≡ 0 = trailing-odd _ _ o in
     let e : (w - 1) % 2 ≡ 0 = omega arith in
     let half : (w - 1) / 2 ≡ w / 2 = omega arith in
     let place : u + 0 ≡ u = omega arith in
     record { below = omega arith; holds = rw t p; first = rw (t, place, bits-even k u (w - 1) e, half) (bits-odd k u w o) }
 
 -- an even word: it is that of the word halved, one place up
-lowest-even : (k u w : ℕ) → w % 2 ≡ 0 → Lowest k (suc u) (w / 2) → Lowest (suc k) u w
-lowest-even k u w o l =
+lowest-even : {k u w : ℕ} → w % 2 ≡ 0 → Lowest k (suc u) (w / 2) → Lowest (suc k) u w
+lowest-even {k} {u} {w} o l =
     let z = trailingZeros k (w / 2) in
-    let t : trailingZeros (suc k) w ≡ suc z = trailing-even k w o in
-    let twice : 2 ^ suc z ≡ 2 ^ z * 2 = pow-suc 2 z in
+    let t : trailingZeros (suc k) w ≡ suc z = trailing-even _ _ o in
+    let twice : 2 ^ suc z ≡ 2 ^ z * 2 = pow-suc _ _ in
     let e : (w - 2 ^ suc z) % 2 ≡ 0 = omega (arith, l .holds) in
     let half : (w - 2 ^ suc z) / 2 ≡ w / 2 - 2 ^ z = omega (arith, l .holds) in
     let place : u + suc z ≡ suc u + z = omega arith in
@@ -79,8 +79,8 @@ lowest-even k u w o l =
 pub lowest : (k u w : ℕ) → 0 < w → w < 2 ^ k → Lowest k u w
 lowest zero u w p h = absurd (omega arith)
 lowest (suc k) u w p h =
-    let twice : 2 ^ suc k ≡ 2 ^ k * 2 = pow-suc 2 k in
-    ⊎-elim (lowest-odd k u w p) (λ o. lowest-even k u w o (lowest k (suc u) (w / 2) (omega arith) (omega arith))) (odd-or w)
+    let twice : 2 ^ suc k ≡ 2 ^ k * 2 = pow-suc _ _ in
+    ⊎-elim (lowest-odd p) (λ o. lowest-even o (lowest k (suc u) (w / 2) (omega arith) (omega arith))) (odd-or _)
 
 -- the ones of a word of k bits are as many as its set bits
 pub ones-members : (k u w : ℕ) → w < 2 ^ k → length (membersFrom k u w) ≡ ones w
@@ -91,22 +91,22 @@ ones-members (suc k) u w h =
     ⊎-elim
     (λ o. ap length (bits-odd k u w o) ∙ omega (arith, rest, ones-step w))
     (λ o. ap length (bits-even k u w o) ∙ omega (arith, rest, ones-step w))
-    (odd-or w)
+    (odd-or _)
 
--- ---- a word of a row of words: what a test keeps of 64 numbers are the set bits of the word that says the test
+-- ---- a word of a row of words: if bit i of w is the test of u + i, the test keeps those numbers whose bits in w are set
 
 members-keep : (k u w : ℕ) (f : ℕ → Bool) → ((i : ℕ) → i < k → f (u + i) ≡ bit w i) → keep f (from u k) ≡ membersFrom k u w
 unfolding from keep membersFrom
 members-keep zero u w f h = refl
 members-keep (suc k) u w f h =
-    let first : f u ≡ eqb (w % 2) 1 = ap f (sym (add-zero u)) ∙ h 0 (omega arith) ∙ bit-zero w in
-    let rest = members-keep k (suc u) (w / 2) f (λ i l. ap f (suc-add u i ∙ sym (add-suc u i)) ∙ h (suc i) (omega arith) ∙ bit-suc w i) in
+    let first : f u ≡ eqb (w % 2) 1 = ap f (sym (add-zero _)) ∙ h 0 (omega arith) ∙ bit-zero _ in
+    let rest = members-keep k (suc u) (w / 2) f (λ i l. ap f (suc-add _ _ ∙ sym (add-suc _ _)) ∙ h (suc i) (omega arith) ∙ bit-suc _ _) in
     rw (first, rest)
 
-pub row-word : (k u w : ℕ) (f : ℕ → Bool) → ((i : ℕ) → i < k → f (u + i) ≡ bit w i)
+pub row-word : {k : ℕ} (u w : ℕ) (f : ℕ → Bool) → ((i : ℕ) → i < k → f (u + i) ≡ bit w i)
     → keep f (upTo (u + k)) ≡ keep f (upTo u) ++ membersFrom k u w
 unfolding upTo
-row-word k u w f h =
-    ap (keep f) (from-add 0 u k ∙ ap (λ (x : ℕ). from 0 u ++ from x k) (zero-add u))
-    ∙ keep-append f (from 0 u) (from u k)
-    ∙ ap (λ (l : List ℕ). keep f (from 0 u) ++ l) (members-keep k u w f h)
+row-word {k} u w f h =
+    ap (keep f) (from-add _ _ _ ∙ ap (λ (x : ℕ). from 0 u ++ from x k) (zero-add _))
+    ∙ keep-append _ _ _
+    ∙ ap (λ (l : List ℕ). keep f (from 0 u) ++ l) (members-keep _ _ _ _ h)

@@ -2,7 +2,7 @@
 -- Assumes nothing.
 use mathlib.Core.Path.{_≡_, refl, sym, ap, ap₂, _∙_, fun-ext}
 use mathlib.Core.Logic.{⊎-elim}
-use mathlib.Core.Bool.{Bool, true, false, not, _&&_}
+use mathlib.Core.Bool.{Bool, true, false, _&&_}
 use mathlib.Core.List.{List, [], _∷_, _++_}
 use Prim.Native.Nat.{ℕ, zero, suc, _+_, _-_, _*_, _/_, _%_, _^_, _≤_, _<_}
 use native.Mathlib.Nat.{lt-of-le-of-lt, pow-suc}
@@ -27,7 +27,7 @@ pub next-word : (f : Nodes) (i w : ℕ) → ((k : ℕ) → k < 64 → f (64 * i 
     → keep f (upTo (64 * (i + 1))) ≡ keep f (upTo (64 * i)) ++ membersFrom 64 (64 * i) w
 next-word f i w h =
     let e : 64 * (i + 1) ≡ 64 * i + 64 = omega arith in
-    ap (λ (n : ℕ). keep f (upTo n)) e ∙ row-word 64 (64 * i) w f h
+    ap (λ (n : ℕ). keep f (upTo n)) e ∙ row-word _ _ _ h
 
 -- no node past the words is in their set
 member-past : (ws : List ℕ) (x : ℕ) → length ws ≤ x / 64 → member ws x ≡ false
@@ -49,7 +49,7 @@ both-small : (x y : ℕ) → x < 2 ^ 64 → bitAnd x y < 2 ^ 64
 both-small x y h = lt-of-le-of-lt (and-le-l x y) h
 
 pub ones-few : (x y : ℕ) → x < 2 ^ 64 → ones (bitAnd x y) ≤ 64
-ones-few x y h = ones-le 64 (bitAnd x y) (both-small x y h)
+ones-few x y h = ones-le _ _ (both-small x y h)
 
 module _ {a b : List ℕ} {total i : ℕ} (c : Counted a b total i) where
   abbrev both : Nodes
@@ -62,7 +62,7 @@ module _ {a b : List ℕ} {total i : ℕ} (c : Counted a b total i) where
   unfolding intersection
   counted-more h l =
       let w = bitAnd (getD a i 0) (getD b i 0) in
-      let e = next-word both i w (λ k q. ap₂ _&&_ (word-bit a i k q) (word-bit b i k q) ∙ sym (bit-and (getD a i 0) (getD b i 0) k)) in
+      let e = next-word _ _ _ (λ k q. ap₂ _&&_ (word-bit _ _ _ q) (word-bit _ _ _ q) ∙ sym (bit-and _ _ _)) in
       let m = ones-members 64 (64 * i) w (both-small (getD a i 0) (getD b i 0) l) in
       record {
         within = omega arith;
@@ -89,24 +89,24 @@ module _ {p : Nodes} {n : ℕ} {ws : List ℕ} {i : ℕ} (m : Made p n ws i) whe
     within = omega arith;
     same = length-set ws i w ∙ m .same;
     done = λ x l. ⊎-elim
-        (λ e. word-changed ws i w (omega (arith, m .same)) x e ∙ here x e)
+        (λ e. word-changed ws i w (omega (arith, m .same)) x e ∙ here _ e)
         (λ d. word-kept ws i w x d ∙ m .done x (omega arith))
-        (eq-or (x / 64) i);
+        (eq-or _ _);
   }
 
   made-all : n ≤ i → ((x : ℕ) → n ≤ x / 64 → p x ≡ false) → member ws ≡ p
   made-all h past =
-      fun-ext (λ x. ⊎-elim (m .done x) (λ l. member-past ws x (omega (arith, m .same)) ∙ sym (past x (omega arith))) (lt-or (x / 64) i))
+      fun-ext (λ x. ⊎-elim (m .done x) (λ l. member-past _ _ (omega (arith, m .same)) ∙ sym (past x (omega arith))) (lt-or _ _))
 
 -- the intersection of two sets
-both-word : (a b : List ℕ) (i x : ℕ) → x / 64 ≡ i → bit (bitAnd (getD a i 0) (getD b i 0)) (x % 64) ≡ intersection (member a) (member b) x
+both-word : (a b : List ℕ) {i : ℕ} (x : ℕ) → x / 64 ≡ i → bit (bitAnd (getD a i 0) (getD b i 0)) (x % 64) ≡ intersection (member a) (member b) x
 unfolding member intersection
-both-word a b i x e = rw (e, bit-and)
+both-word a b x e = rw (e, bit-and)
 
 module _ (a b : List ℕ) {into : List ℕ} {i : ℕ} (m : Made (intersection (member a) (member b)) (length a) into i) where
   pub shared-more : i < length a
       → Made (intersection (member a) (member b)) (length a) (set into i (bitAnd (getD a i 0) (getD b i 0))) (i + 1)
-  shared-more h = made-more m h (bitAnd (getD a i 0) (getD b i 0)) (both-word a b i)
+  shared-more h = made-more m h _ (both-word _ _)
 
   pub shared-all : length a ≤ i → member into ≡ intersection (member a) (member b)
   unfolding intersection
@@ -160,11 +160,11 @@ clear-none = record { within = omega arith; none = refl }
 module _ {ws : List ℕ} {i : ℕ} (c : Clear ws i) where
   here : keep (member ws) (upTo (64 * (i + 1))) ≡ membersFrom 64 (64 * i) (getD ws i 0)
   here =
-      next-word (member ws) i (getD ws i 0) (λ k q. word-bit ws i k q)
+      next-word _ _ _ (λ k q. word-bit _ _ _ q)
       ∙ ap (λ (l : List ℕ). l ++ membersFrom 64 (64 * i) (getD ws i 0)) (c .none)
 
   pub clear-more : i < length ws → getD ws i 0 ≡ 0 → Clear ws (i + 1)
-  clear-more h z = record { within = omega arith; none = here ∙ ap (membersFrom 64 (64 * i)) z ∙ bits-none 64 (64 * i) }
+  clear-more h z = record { within = omega arith; none = here ∙ ap (membersFrom 64 (64 * i)) z ∙ bits-none _ _ }
 
   pub clear-all : length ws ≤ i → 64 * i ≡ firstOf (member ws) (64 * length ws) (upTo (64 * length ws))
   clear-all h =
@@ -174,7 +174,7 @@ module _ {ws : List ℕ} {i : ℕ} (c : Clear ws i) where
   -- the trailing zeros of the first word that is not 0 name the smallest member
   module _ (h : i < length ws) (p : getD ws i 0 ≡ 0 → ⊥) (l : getD ws i 0 < 2 ^ 64) where
     low : Lowest 64 (64 * i) (getD ws i 0)
-    low = lowest 64 (64 * i) (getD ws i 0) (omega arith) l
+    low = lowest _ _ _ (omega arith) l
 
     pub clear-below : trailingZeros 64 (getD ws i 0) < 64
     clear-below = low .below
@@ -183,14 +183,14 @@ module _ {ws : List ℕ} {i : ℕ} (c : Clear ws i) where
     clear-first =
         let m = 64 * (i + 1) in
         let k = 64 * length ws - m in
-        let e : upTo (64 * length ws) ≡ upTo m ++ from m k = upTo-add m k (64 * length ws) (omega arith) in
+        let e : upTo (64 * length ws) ≡ upTo m ++ from m k = upTo-add _ _ _ (omega arith) in
         rw (first-kept, e, keep-append, here, low .first)
 
 -- where the smallest member is n or more, no number below n is one
 pub past-smallest : (n : ℕ) (ws : List ℕ) → n ≤ 64 * length ws → (r : ℕ)
     → r ≡ firstOf (member ws) (64 * length ws) (upTo (64 * length ws)) → n ≤ r → (x : ℕ) → x < n → T (member ws x) → ⊥
 past-smallest n ws long r e h x l t =
-    at (first-of (member ws) (64 * length ws) (64 * length ws) e)
+    at (first-of _ _ _ e)
   where
     at : First (member ws) (64 * length ws) 0 (64 * length ws) r → ⊥
     at (found lo hi s least) = least x (omega arith) (omega arith) t
@@ -200,9 +200,9 @@ past-smallest n ws long r e h x l t =
 
 -- the k lowest bits alone
 bit-low : (k j : ℕ) → bit (2 ^ k - 1) j ≡ ltb j k
-bit-low zero j = bit-of-zero j ∙ sym (le-ltb j 0 (omega arith))
+bit-low zero j = bit-of-zero _ ∙ sym (le-ltb j 0 (omega arith))
 bit-low (suc k) zero =
-    bit-zero (2 ^ suc k - 1) ∙ eq-eqb ((2 ^ suc k - 1) % 2) 1 (omega (arith, pow-suc 2 k, pow-pos k)) ∙ sym (lt-ltb 0 (suc k) (omega arith))
+    bit-zero _ ∙ eq-eqb ((2 ^ suc k - 1) % 2) 1 (omega (arith, pow-suc 2 k, pow-pos k)) ∙ sym (lt-ltb 0 (suc k) (omega arith))
 bit-low (suc k) (suc j) =
     let half : (2 ^ suc k - 1) / 2 ≡ 2 ^ k - 1 = omega (arith, pow-suc 2 k, pow-pos k) in
     bit-suc (2 ^ suc k - 1) j ∙ ap (λ (w : ℕ). bit w j) half ∙ bit-low k j
@@ -224,14 +224,14 @@ below-none e = record {
 below-more : {ws : List ℕ} (i k : ℕ) → i < 16 → k ≤ 64 → Below ws (64 * i) → Below (set ws i (2 ^ k - 1)) (64 * i + k)
 below-more {ws} i k h q b = record {
   long = length-set ws i (2 ^ k - 1) ∙ b .long;
-  says = set-word ws i (2 ^ k - 1) (omega (arith, b .long))
-      (λ x e. bit-low k (x % 64) ∙ ltb-same (x % 64) k x (64 * i + k) (λ l. omega arith) (λ l. omega arith))
+  says = set-word _ _ _ (omega (arith, b .long))
+      (λ x e. bit-low _ _ ∙ ltb-same (x % 64) k x (64 * i + k) (λ l. omega arith) (λ l. omega arith))
       (λ x d. ap (λ (f : Nodes). f x) (b .says) ∙ ltb-same x (64 * i) x (64 * i + k) (λ l. omega arith) (λ l. omega arith));
 }
 
 -- a full word
-pub below-word : {ws : List ℕ} (i : ℕ) → i < 16 → Below ws (64 * i) → Below (set ws i (2 ^ 64 - 1)) (64 * (i + 1))
-below-word i h b =
+pub below-word : {ws : List ℕ} {i : ℕ} → i < 16 → Below ws (64 * i) → Below (set ws i (2 ^ 64 - 1)) (64 * (i + 1))
+below-word {i = i} h b =
     let e : 64 * i + 64 ≡ 64 * (i + 1) = omega arith in
     rw e at (below-more i 64 h (omega arith) b)
 

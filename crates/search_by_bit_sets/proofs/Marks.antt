@@ -36,13 +36,13 @@ pub marked-out : (d : ℕ) (l row : List ℕ) (x : ℕ) → (T (has x l) → ⊥
 unfolding marked
 marked-out d [] row x f = refl
 marked-out d (v ∷ l) row x f =
-    marked-out d l (set row v d) x (λ t. f (has-tail x v l t))
-    ∙ getD-set-other row v x d 0 (λ (e : x ≡ v). f (subst (λ (y : ℕ). T (has x (y ∷ l))) e (has-head x l)))
+    marked-out d l (set row v d) x (λ t. f (has-tail _ _ _ t))
+    ∙ getD-set-other row v x d 0 (λ (e : x ≡ v). f (subst (λ (y : ℕ). T (has x (y ∷ l))) e (has-head _ _)))
 
 pub marked-in : (d : ℕ) (l row : List ℕ) (x : ℕ) → x < length row → T (has x l) → getD (marked d l row) x 0 ≡ d
 unfolding marked
 marked-in d [] row x h t = absurd (none-in x t)
-marked-in d (v ∷ l) row x h t = at (passes (has x l)) (marked-in d l (set row v d) x (rw (length-set row v d) h))
+marked-in d (v ∷ l) row x h t = at (passes (has x l)) (marked-in d l (set row v d) x (rw length-set h))
   where
     at : T (has x l) ⊎ (T (has x l) → ⊥) → (T (has x l) → getD (marked d l (set row v d)) x 0 ≡ d) → getD (marked d l (set row v d)) x 0 ≡ d
     at (inl s) rec = rec s
@@ -74,13 +74,13 @@ module _ {E : Edges} {base word d : ℕ} {row₀ f₀ row f : List ℕ} {left : 
       → (row ≡ marked d (bits base word) row₀) × (member f ≡ (λ x. nextTo E (bits base word) x || member f₀ x))
   unfolding marked any
   marking-all e =
-      let none : bits base left ≡ [] = rw e (bits-none 64 base) in
+      let none : bits base left ≡ [] = rw e (bits-none _ _) in
       (rw none at (m .marks), fun-ext (λ x. rw none at (m .finds x)))
 
   -- the lowest bit that is left, and its node
   module _ (p : 0 < left) where
     pub low : Lowest 64 base left
-    low = lowest 64 base left p (m .small)
+    low = lowest _ _ _ p (m .small)
 
     abbrev first : ℕ
     first = base + trailingZeros 64 left
@@ -89,7 +89,7 @@ module _ {E : Edges} {base word d : ℕ} {row₀ f₀ row f : List ℕ} {left : 
     rest = left - 2 ^ trailingZeros 64 left
 
     pub first-inside : first < length row
-    first-inside = rw (m .same) (m .inside first (rw (low .first) (has-head first (bits base rest))))
+    first-inside = rw (m .same) (m .inside first (rw (low .first) (has-head _ _)))
 
     pub marking-more : {f′ : List ℕ} → length f′ ≡ length f → member f′ ≡ (λ x. E first x || member f x)
         → Marking E base word d row₀ f₀ (set row first d) f′ rest
@@ -98,7 +98,7 @@ module _ {E : Edges} {base word d : ℕ} {row₀ f₀ row f : List ℕ} {left : 
       small = omega (arith, m .small);
       same = length-set row first d ∙ m .same;
       long = k ∙ m .long;
-      inside = λ v t. m .inside v (rw (low .first) (has-tail v first (bits base rest) t));
+      inside = λ v t. m .inside v (rw (low .first) (has-tail _ _ _ t));
       marks = rw (low .first) at (m .marks);
       finds = λ x. rw e (or-turned (nextTo E (bits base rest) x) (E first x) (member f x)) ∙ (rw (low .first) at (m .finds x));
     }
@@ -121,29 +121,29 @@ marked-none l = record { within = omega arith; long = l; marks = refl; finds = r
 
 module _ {E : Edges} {layer : List ℕ} {d : ℕ} {row₀ f₀ row f : List ℕ} {w : ℕ} (m : Marked E layer d row₀ f₀ row f w) where
   pub marked-same : length row ≡ length row₀
-  marked-same = ap length (m .marks) ∙ marked-length d (below layer w) row₀
+  marked-same = ap length (m .marks) ∙ marked-length _ _ _
 
   -- the nodes of word w
   abbrev new : List ℕ
   new = bits (64 * w) (getD layer w 0)
 
   more : below layer (w + 1) ≡ below layer w ++ new
-  more = next-word (member layer) w (getD layer w 0) (λ k q. word-bit layer w k q)
+  more = next-word _ _ _ (λ k q. word-bit _ _ _ q)
 
   pub word-inside : ((v : ℕ) → T (member layer v) → v < length row₀) → (v : ℕ) → T (has v new) → v < length row
   word-inside h v t =
       let here : T (has v (below layer (w + 1))) = rw more (has-later v (below layer w) new t) in
-      rw marked-same (h v (of-keep (member layer) (upTo (64 * (w + 1))) v here .1))
+      rw marked-same (h v (of-keep _ _ _ here .1))
 
   pub marked-more : w < 16 → {row′ f′ : List ℕ} → length f′ ≡ length f → row′ ≡ marked d new row
       → member f′ ≡ (λ x. nextTo E new x || member f x) → Marked E layer d row₀ f₀ row′ f′ (w + 1)
   marked-more h k r e = record {
     within = omega arith;
     long = k ∙ m .long;
-    marks = r ∙ rw (m .marks, more) (sym (marked-append d (below layer w) new row₀));
+    marks = r ∙ rw (m .marks, more) (sym (marked-append _ _ _ _));
     finds = e ∙ rw (m .finds, more) (fun-ext (λ x.
         or-turned (nextTo E new x) (nextTo E (below layer w) x) (member f₀ x)
-        ∙ ap (λ (b : Bool). b || member f₀ x) (sym (any-append (λ v. E v x) (below layer w) new))));
+        ∙ ap (λ (b : Bool). b || member f₀ x) (sym (any-append _ (below layer w) new))));
   }
 
   pub marked-all : 16 ≤ w → (row ≡ marked d (keep (member layer) (upTo 1024)) row₀)

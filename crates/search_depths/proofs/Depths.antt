@@ -40,7 +40,7 @@ module _ (n : ℕ) (f : ℕ → ℕ → ℕ) (bounded : (h v : ℕ) → f h v �
 -- no distance is above none
 pub fewest-small : (E : Edges) (n a b : ℕ) → n ≤ none → fewest E n a b ≤ none
 unfolding fewest
-fewest-small E n a b h = first-most _ none n h
+fewest-small E n a b h = first-most _ _ _ h
 
 -- ---- loops: the greatest so far, and that of what is left, are the greatest of all
 
@@ -81,14 +81,14 @@ module _ {n : ℕ} {G : Graph} {hs : List ℕ} {i most : ℕ} (m : SearchMost n 
   -- once a node is missed, no other search finds a greater distance
   pub search-none : n ≤ 1024 → most ≡ none → none ≡ greatest (rows n G hs)
   search-none size e =
-      omega (arith, greatest-bounded n (fewest (linked n G) n) (λ a b. fewest-small (linked n G) n a b (omega arith)) (drop i hs))
+      omega (arith, greatest-bounded n (fewest (linked n G) n) (λ a b. fewest-small _ _ _ _ (omega arith)) (drop i hs))
 
 -- ---- a search fills the front of the row
 
 pub row-searched : (n : ℕ) (G : Graph) {p : ℕ → Bool} → p ≡ (λ v. ltb v n) → (h : ℕ) (row : List ℕ) {part : List ℕ}
     → part ≡ map (fewest (between p (linked n G)) n h) (upTo n) → take n (part ++ drop n row) ≡ map (fewest (linked n G) n h) (upTo n)
 row-searched n G {p} e h row {part} q =
-    take-at part (drop n row) n (ap length q ∙ length-row (fewest (between p (linked n G)) n h) n)
+    take-at _ _ _ (ap length q ∙ length-row _ _)
     ∙ q
     ∙ ap (λ (E : Edges). map (fewest E n h) (upTo n)) (all-allowed p n G e)
 

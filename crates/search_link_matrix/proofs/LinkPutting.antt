@@ -30,15 +30,15 @@ at-one : (p q : Nodes) (v : ℕ) → p v ≡ q v → (u : ℕ) → (eqb u v && p
 at-one p q v e u = ⊎-elim
     (λ s. ap (λ (b : Bool). eqb u v && b) (subst (λ (y : ℕ). p y ≡ q y) (sym s) e))
     (λ d. rw (ne-eqb u v d) refl)
-    (eq-or u v)
+    (eq-or _ _)
 
 row-same : (E F H : Edges) (v : ℕ) → ((x : ℕ) → F v x ≡ H v x) → withRow E v F ≡ withRow E v H
-row-same E F H v h = same-edges (withRow E v F) (withRow E v H) (λ u x.
+row-same E F H v h = same-edges _ _ (λ u x.
     ap (λ (b : Bool). b || E u x) (at-one (λ y. F y x) (λ y. H y x) v (h x) u))
 
-row-empty : (E F : Edges) (v : ℕ) → ((x : ℕ) → F v x ≡ false) → E ≡ withRow E v F
-row-empty E F v h =
-    same-edges E (withRow E v (λ u x. false)) (λ u x. sym (ap (λ (b : Bool). b || E u x) (and-false (eqb u v))))
+row-empty : {E : Edges} (F : Edges) (v : ℕ) → ((x : ℕ) → F v x ≡ false) → E ≡ withRow E v F
+row-empty {E} F v h =
+    same-edges _ _ (λ u x. sym (ap (λ (b : Bool). b || E u x) (and-false (eqb u v))))
     ∙ sym (row-same E F (λ u x. false) v h)
 
 -- ---- the link v-w, if w is allowed
@@ -47,14 +47,14 @@ row-empty E F v h =
 abbrev linkTo : ℕ → Nodes → Edges
 linkTo w p u x = eqb x w && p x
 
-pub link-not : {E : Edges} (p : Nodes) (v w : ℕ) → p w ≡ false → E ≡ withRow E v (linkTo w p)
-link-not {E} p v w e = row-empty E (linkTo w p) v (λ x. at-one p (λ y. false) w e x ∙ and-false (eqb x w))
+pub link-not : {E : Edges} (p : Nodes) (v : ℕ) {w : ℕ} → p w ≡ false → E ≡ withRow E v (linkTo w p)
+link-not {E} p v {w} e = row-empty _ _ (λ x. at-one p (λ y. false) w e x ∙ and-false (eqb x w))
 
-pub link-put : (ws ws′ : List ℕ) (p : Nodes) (v w : ℕ) → w < 1024 → p w ≡ true → member ws′ ≡ inserted (member ws) (1024 * v + w)
+pub link-put : (ws ws′ : List ℕ) (p : Nodes) (v : ℕ) {w : ℕ} → w < 1024 → p w ≡ true → member ws′ ≡ inserted (member ws) (1024 * v + w)
     → edgesIn ws′ ≡ withRow (edgesIn ws) v (linkTo w p)
-link-put ws ws′ p v w h t e =
+link-put ws ws′ p v {w} h t e =
     edge-with ws ws′ v w h e
-    ∙ row-same (edgesIn ws) (λ u x. eqb x w) (linkTo w p) v (λ x. sym (at-one p (λ y. true) w t x ∙ and-true (eqb x w)))
+    ∙ row-same _ _ _ _ (λ x. sym (at-one p (λ y. true) w t x ∙ and-true _))
 
 -- ---- the links from v to the allowed nodes of a list, one more at a time
 
@@ -76,7 +76,7 @@ module _ {v : ℕ} {list : List ℕ} {p : Nodes} {E₀ : Edges} {ws : List ℕ} 
     where
       spread : (e q r t s : Bool) → ((e && (r && t)) || ((e && (q && t)) || s)) ≡ ((e && ((q || r) && t)) || s)
       spread e q r t s =
-          rw (and-or-distrib-right q r t, and-or-distrib-left e (q && t) (r && t)) (or-turned (e && (r && t)) (e && (q && t)) s)
+          rw (and-or-distrib-right _ _ _, and-or-distrib-left _ _ _) (or-turned (e && (r && t)) (e && (q && t)) s)
 
       more : withRow (edgesIn ws′) v (linksTo (drop (i + 1) list) p) ≡ withRow (edgesIn ws) v (linksTo (drop i list) p)
       more = rw (e, drop-next list i l) (same-edges _ _ (λ u x.
@@ -84,21 +84,21 @@ module _ {v : ℕ} {list : List ℕ} {p : Nodes} {E₀ : Edges} {ws : List ℕ} 
 
   pub linking-all : length list ≤ i → edgesIn ws ≡ withRow E₀ v (linksTo list p)
   unfolding has
-  linking-all l = row-empty (edgesIn ws) (linksTo (drop i list) p) v (λ x. rw (drop-of-length-le list l) refl) ∙ h .says
+  linking-all l = row-empty (linksTo (drop i list) p) v (λ x. rw (drop-of-length-le list l) refl) ∙ h .says
 
 -- ---- the rows below v
 
 abbrev pub rowsBelow : ℕ → Edges → Edges
 rowsBelow v F u x = ltb u v && F u x
 
-pub rows-none : (F : Edges) (ws : List ℕ) → ws ≡ replicate 16384 0 → edgesIn ws ≡ rowsBelow 0 F
-rows-none F ws e =
+pub rows-none : (F : Edges) {ws : List ℕ} → ws ≡ replicate 16384 0 → edgesIn ws ≡ rowsBelow 0 F
+rows-none F e =
     ap edgesIn e ∙ edges-none
-    ∙ same-edges (λ u x. false) (rowsBelow 0 F) (λ u x. sym (rw (le-ltb u 0 (omega arith)) refl))
+    ∙ same-edges _ _ (λ u x. sym (rw (le-ltb u 0 (omega arith)) refl))
 
 pub rows-next : (F : Edges) {E E′ : Edges} (v : ℕ) → E ≡ rowsBelow v F → E′ ≡ withRow E v F → E′ ≡ rowsBelow (v + 1) F
-rows-next F v e f = f ∙ rw e (same-edges (withRow (rowsBelow v F) v F) (rowsBelow (v + 1) F) (λ u x.
-    ⊎-elim (at u (F u x)) (other u (F u x)) (eq-or u v)))
+rows-next F v e f = f ∙ rw e (same-edges _ _ (λ u x.
+    ⊎-elim (at u (F u x)) (other _ _) (eq-or _ _)))
   where
     at : (u : ℕ) (b : Bool) → u ≡ v → ((eqb u v && b) || (ltb u v && b)) ≡ (ltb u (v + 1) && b)
     at u b q = rw (eq-eqb u v q, le-ltb u v (omega arith), lt-ltb u (v + 1) (omega arith)) (or-comm b false)
@@ -112,12 +112,12 @@ module _ (n : ℕ) (G : Graph) (p : Nodes) where
   abbrev links : Edges
   links = between p (linked n G)
 
-  pub node-not : (v : ℕ) {E : Edges} → p v ≡ false → E ≡ withRow E v links
-  node-not v {E} e = row-empty E links v (λ x. rw e refl)
+  pub node-not : {v : ℕ} {E : Edges} → p v ≡ false → E ≡ withRow E v links
+  node-not e = row-empty _ _ (λ x. rw e refl)
 
   pub node-put : IsGraph n G → (v : ℕ) (E : Edges) {E′ : Edges} {own : List ℕ} → v < n → p v ≡ true → own ≡ G v
       → E′ ≡ withRow E v (linksTo own p) → E′ ≡ withRow E v links
-  node-put g v E {E′} {own} h t o e = e ∙ row-same E (linksTo own p) links v here
+  node-put g v E {E′} {own} h t o e = e ∙ row-same E (linksTo own p) _ v here
     where
       here : (x : ℕ) → (has x own && p x) ≡ between p (linked n G) v x
       here x = rw (o, t) (same-test (has x (G v) && p x) (p x && linked n G v x)
@@ -125,8 +125,8 @@ module _ (n : ℕ) (G : Graph) (p : Nodes) where
           (λ q. and-i (has x (G v)) (p x) (linked-has n G v x (and-r (p x) (linked n G v x) q)) (and-l (p x) (linked n G v x) q)))
 
   -- each of them is in a row below n
-  pub rows-all : (v : ℕ) {E : Edges} → v ≡ n → E ≡ rowsBelow v links → E ≡ links
-  rows-all v q e = e ∙ same-edges (rowsBelow v links) links (λ u x. same-test (ltb u v && links u x) (links u x)
+  pub rows-all : {v : ℕ} {E : Edges} → v ≡ n → E ≡ rowsBelow v links → E ≡ links
+  rows-all {v} q e = e ∙ same-edges _ _ (λ u x. same-test _ _
       (and-r (ltb u v) (links u x))
-      (λ t. let l = linked-is n G u x (and-r (p u && p x) (linked n G u x) t) in
+      (λ t. let l = linked-is _ _ _ _ (and-r (p u && p x) (linked n G u x) t) in
       and-i (ltb u v) (links u x) (true-T (ltb u v) (lt-ltb u v (omega (arith, l .first)))) t))

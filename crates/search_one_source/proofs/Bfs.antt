@@ -95,15 +95,15 @@ module _ {E : Edges} {s n : ℕ} {p : Progress} {head : ℕ} (S : Invariant E s 
   room : p .tail < 1024
   room = omega (arith, S .few, S .count, some-unreached (p .row) w in-row new)
 
-  other : (i : ℕ) → i < p .tail → at p i ≡ w → ⊥
-  other i h e = omega (arith, S .small i h, room, ap (away p) e ∙ new)
+  other : {i : ℕ} → i < p .tail → at p i ≡ w → ⊥
+  other {i} h e = omega (arith, S .small i h, room, ap (away p) e ∙ new)
 
   -- the nodes that were in the queue, and their distances
   old-at : (i : ℕ) → i < p .tail → at p′ i ≡ at p i
   old-at i h = getD-set-other (p .queue) (p .tail) i w 0 (λ e. omega arith)
 
   old-dist : (i : ℕ) → i < p .tail → dist p′ i ≡ dist p i
-  old-dist i h = ap (away p′) (old-at i h) ∙ getD-set-other (p .row) w (at p i) d 0 (other i h)
+  old-dist i h = ap (away p′) (old-at _ h) ∙ getD-set-other (p .row) w _ d 0 (other h)
 
   -- the node that joins it, with the greatest distance
   new-at : at p′ (p .tail) ≡ w
@@ -114,7 +114,7 @@ module _ {E : Edges} {s n : ℕ} {p : Progress} {head : ℕ} (S : Invariant E s 
 
   new-greatest : (i : ℕ) → i < p .tail + 1 → dist p′ i ≤ dist p′ (p .tail)
   new-greatest = below-next (λ (i : ℕ). dist p′ i ≤ dist p′ (p .tail)) (p .tail)
-      (λ i h. omega (arith, old-dist i h, new-dist, S .near head i (le-refl head) l h))
+      (λ i h. omega (arith, old-dist i h, new-dist, S .near head i (le-refl _) l h))
       (le-refl (dist p′ (p .tail)))
 
   join-grown : Grown p p′
@@ -127,7 +127,7 @@ module _ {E : Edges} {s n : ℕ} {p : Progress} {head : ℕ} (S : Invariant E s 
   join-sorted i j h k =
       below-next (λ (y : ℕ). i ≤ y → dist p′ i ≤ dist p′ y) (p .tail)
       (λ y b a. omega (arith, old-dist i (omega arith), old-dist y b, S .sorted i y a b))
-      (λ a. new-greatest i (omega arith))
+      (λ a. new-greatest _ (omega arith))
       j k h
 
   join-near : (i j : ℕ) → head ≤ i → i < p .tail + 1 → j < p .tail + 1 → dist p′ j ≤ dist p′ i + 1
@@ -141,14 +141,14 @@ module _ {E : Edges} {s n : ℕ} {p : Progress} {head : ℕ} (S : Invariant E s 
       i k h
 
   join-all : (v : ℕ) → v < n → (away p′ v ≡ none → ⊥) → Queued p′ v
-  join-all v h f = go (eq-or v w)
+  join-all v h f = go (eq-or _ _)
     where
       go : (v ≡ w) ⊎ (v ≡ w → ⊥) → Queued p′ v
       go (inl e) = (p .tail, omega arith, new-at ∙ sym e)
       go (inr k) = queued-grown join-grown (S .queued v h (λ e. f (getD-set-other (p .row) w v d 0 k ∙ e)))
 
-  join-taken : (i x : ℕ) → i < head → T (E (at p′ i) x) → Within p′ (dist p′ i + 1) x
-  join-taken i x h u =
+  join-taken : {i x : ℕ} → i < head → T (E (at p′ i) x) → Within p′ (dist p′ i + 1) x
+  join-taken {i} {x} h u =
       let a : i < p .tail = omega arith in
       let r = S .taken i x h a (rw (old-at i a) at u) in
       (r .0, omega (arith, r .1), old-at (r .0) (r .1) ∙ r .2, omega (arith, old-dist (r .0) (r .1), old-dist i a, r .3))
@@ -160,7 +160,7 @@ module _ {E : Edges} {s n : ℕ} {p : Progress} {head : ℕ} (S : Invariant E s 
     queue-length = length-set (p .queue) (p .tail) w ∙ S .queue-length;
     count = omega (arith, S .count, unreached-set (p .row) w d in-row new (λ e. omega (arith, S .small head l, room)));
     some = omega arith;
-    source = old-at 0 (S .some) ∙ S .source;
+    source = old-at _ (S .some) ∙ S .source;
     node = below-next (λ (i : ℕ). at p′ i < n) (p .tail) (λ i h. rw (old-at i h) (S .node i h)) (rw new-at hw);
     queued = join-all;
     small =
@@ -168,11 +168,11 @@ module _ {E : Edges} {s n : ℕ} {p : Progress} {head : ℕ} (S : Invariant E s 
         (omega (arith, new-dist, S .small head l));
     chain =
         below-next (λ (i : ℕ). Chain E (dist p′ i) s (at p′ i)) (p .tail)
-        (λ i h. subst₂ (λ (k x : ℕ). Chain E k s x) (sym (old-dist i h)) (sym (old-at i h)) (S .chain i h))
-        (subst₂ (λ (k x : ℕ). Chain E k s x) (sym (new-dist ∙ add-one (dist p head))) (sym new-at) (snoc (S .chain head l) t));
+        (λ i h. subst₂ (λ (k x : ℕ). Chain E k s x) (sym (old-dist _ h)) (sym (old-at _ h)) (S .chain i h))
+        (subst₂ (λ (k x : ℕ). Chain E k s x) (sym (new-dist ∙ add-one _)) (sym new-at) (snoc (S .chain head l) t));
     sorted = join-sorted;
     near = join-near;
-    taken = λ i x h k u. join-taken i x h u;
+    taken = λ i x h k u. join-taken h u;
   }
 
 -- ---- a node, and each node of a list, is visited
@@ -183,10 +183,10 @@ pub record Kept (E : Edges) (s n : ℕ) (allowed : ℕ → Bool) (p : Progress) 
   pub found : (w : ℕ) → T (has w ws) → T (allowed w) → Queued q w
 
 module _ {E : Edges} {s n head : ℕ} (allowed : ℕ → Bool) where
-  one : (p : Progress) (d w : ℕ) → Invariant E s n p head → head < p .tail → d ≡ dist p head + 1 → w < n
+  one : {p : Progress} {d w : ℕ} → Invariant E s n p head → head < p .tail → d ≡ dist p head + 1 → w < n
       → (T (allowed w) → T (E (at p head) w)) → Kept E s n allowed p head (w ∷ []) (visited allowed d w p)
   unfolding visited
-  one p d w S l e hw ok = go (eqb (away p w) none) (allowed w) refl refl ok
+  one {p} {d} {w} S l e hw ok = go (eqb (away p w) none) (allowed w) refl refl ok
     where
       only : (q : Progress) → (T (allowed w) → Queued q w) → (x : ℕ) → T (has x (w ∷ [])) → T (allowed x) → Queued q x
       only q f x m = subst (λ (y : ℕ). T (allowed y) → Queued q y) (sym (of-single x w m)) f
@@ -204,17 +204,17 @@ module _ {E : Edges} {s n head : ℕ} (allowed : ℕ → Bool) where
       → ((w : ℕ) → T (has w ws) → (w < n) × (T (allowed w) → T (E (at p head) w)))
       → Kept E s n allowed p head ws (visitedAll allowed d ws p)
   unfolding visitedAll
-  all-keep [] p d S l e ok = record { inv = S; grown = grown-refl p; found = λ w h. absurd (none-in w h) }
+  all-keep [] p d S l e ok = record { inv = S; grown = grown-refl _; found = λ w h. absurd (none-in w h) }
   all-keep (w ∷ ws) p d S l e ok =
-      let o = ok w (has-head w ws) in
-      let a = one p d w S l e (o .0) (o .1) in
+      let o = ok w (has-head _ _) in
+      let a = one S l e (o .0) (o .1) in
       let b = all-keep ws (visited allowed d w p) d (a .inv) (omega (arith, a .grown .longer)) (omega (arith, a .grown .same-dist head l))
-      (λ x h. (ok x (has-tail x w ws h) .0, λ u. rw (a .grown .same-at head l) (ok x (has-tail x w ws h) .1 u))) in
+      (λ x h. (ok x (has-tail _ _ _ h) .0, λ u. rw (a .grown .same-at head l) (ok x (has-tail _ _ _ h) .1 u))) in
       record { inv = b .inv; grown = grown-trans (a .grown) (b .grown); found = λ x h u. go x a b (of-cons x w ws h) u }
     where
       go : {q r : Progress} (x : ℕ) → Kept E s n allowed p head (w ∷ []) q → Kept E s n allowed q head ws r
           → (x ≡ w) ⊎ T (has x ws) → T (allowed x) → Queued r x
-      go x a b (inl e) u = queued-grown (b .grown) (a .found x (subst (λ (y : ℕ). T (has y (w ∷ []))) (sym e) (has-head w [])) u)
+      go x a b (inl e) u = queued-grown (b .grown) (a .found x (subst (λ (y : ℕ). T (has y (w ∷ []))) (sym e) (has-head _ _)) u)
       go x a b (inr m) u = b .found x m u
 
 -- ---- the head moves on, once each link of the nodes that it passes leads to a node of the queue
@@ -237,7 +237,7 @@ advance {head = head} S head′ l all = record {
   taken = λ i w h k t. ⊎-elim
       (λ b. S .taken i w b k t)
       (λ b. let r = all i w b h k t in (r .0, r .1, r .2, S .near i (r .0) b k (r .1)))
-      (lt-or i head);
+      (lt-or _ _);
 }
 
 -- ---- the end: every node of the queue was taken
@@ -259,8 +259,8 @@ module _ {E : Edges} {s n : ℕ} {p : Progress} {head : ℕ} (S : Invariant E s 
       let z = from-source r in
       omega (arith, S .few, S .count, S .small (z .0) (z .1), z .1, ap (away p) (z .2) ∙ e)
 
-  reached-fewest : (v : ℕ) → Queued p v → Fewest E s v (away p v)
-  reached-fewest v r =
+  reached-fewest : {v : ℕ} → Queued p v → Fewest E s v (away p v)
+  reached-fewest {v} r =
       let e : dist p (r .0) ≡ away p v = ap (away p) (r .2) in (
         subst₂ (λ (d x : ℕ). Chain E d s x) e (r .2) (S .chain (r .0) (r .1)),
         λ k c. let z = from-source c in omega (arith, z .3, ap (away p) (z .2)),
@@ -268,11 +268,11 @@ module _ {E : Edges} {s n : ℕ} {p : Progress} {head : ℕ} (S : Invariant E s 
 
   pub distances : ((u v : ℕ) → u < n → T (E u v) → v < n) → s < n → p .row ≡ map (fewest E n s) (upTo n)
   distances ends hs =
-      ext-getD 0 (p .row) (map (fewest E n s) (upTo n)) (S .row-length ∙ sym (length-row (fewest E n s) n))
+      ext-getD 0 (p .row) _ (S .row-length ∙ sym (length-row _ _))
       (λ v h.
       let b : v < n = omega (arith, S .row-length) in
-      go v b (eq-or (away p v) none) ∙ sym (getD-row (fewest E n s) n v 0 b))
+      go v b (eq-or _ _) ∙ sym (getD-row _ _ _ _ b))
     where
       go : (v : ℕ) → v < n → (away p v ≡ none) ⊎ (away p v ≡ none → ⊥) → away p v ≡ fewest E n s v
       go v b (inl e) = e ∙ sym (fewest-missing E n s ends hs v (unreached-apart v e))
-      go v b (inr f) = sym (fewest-of E n s ends hs v (away p v) (reached-fewest v (S .queued v b f)))
+      go v b (inr f) = sym (fewest-of E n s ends hs v (away p v) (reached-fewest (S .queued v b f)))

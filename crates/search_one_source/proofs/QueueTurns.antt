@@ -34,7 +34,7 @@ module _ (E : Edges) (s n : ℕ) (few : n ≤ 1024) (hs : s < n) (q : List ℕ) 
   is-zero P z i h = subst P (omega arith) z
 
   only : (v : ℕ) → v < n → (away p v ≡ none → ⊥) → Queued p v
-  only v h f = go (eq-or v s)
+  only v h f = go (eq-or _ _)
     where
       go : (v ≡ s) ⊎ (v ≡ s → ⊥) → Queued p v
       go (inl e) = (0, omega arith, first ∙ sym e)
@@ -54,7 +54,7 @@ module _ (E : Edges) (s n : ℕ) (few : n ≤ 1024) (hs : s < n) (q : List ℕ) 
     queued = only;
     small = is-zero (λ (i : ℕ). dist p i ≤ i) (omega (arith, dist-source));
     chain = is-zero (λ (i : ℕ). Chain E (dist p i) s (at p i)) (subst₂ (λ (k x : ℕ). Chain E k s x) (sym dist-source) (sym first) here);
-    sorted = λ i j h k. let e : i ≡ j = omega arith in rw e (le-refl (dist p j));
+    sorted = λ i j h k. let e : i ≡ j = omega arith in rw e (le-refl _);
     near = λ i j h k m. is-zero (λ (y : ℕ). dist p y ≤ dist p i + 1) (omega (arith, dist-source)) j m;
     taken = λ i w h. absurd (not-suc-le-zero h);
   }
@@ -63,15 +63,15 @@ module _ (E : Edges) (s n : ℕ) (few : n ≤ 1024) (hs : s < n) (q : List ℕ) 
 
 module _ (allowed : ℕ → Bool) (E : Edges) where
   between-is : (a b : ℕ) → T (allowed a) → T (allowed b) → T (E a b) → T (between allowed E a b)
-  between-is a b s t l = and-i (allowed a && allowed b) (E a b) (and-i (allowed a) (allowed b) s t) l
+  between-is a b s t l = and-i (allowed _ && allowed _) _ (and-i (allowed _) (allowed _) s t) l
 
   of-between : (a b : ℕ) → T (between allowed E a b) → T (allowed b) × T (E a b)
-  of-between a b t = (and-r (allowed a) (allowed b) (and-l (allowed a && allowed b) (E a b) t), and-r (allowed a && allowed b) (E a b) t)
+  of-between a b t = (and-r (allowed a) (allowed _) (and-l (allowed _ && allowed _) (E a b) t), and-r (allowed a && allowed b) (E a b) t)
 
   -- a chain from an allowed node ends at one
   chain-end : {k a b : ℕ} → Chain (between allowed E) k a b → T (allowed a) → T (allowed b)
   chain-end here t = t
-  chain-end (link {a = a} {b = b} u r) t = chain-end r (of-between a b u .0)
+  chain-end (link {a = a} {b = b} u r) t = chain-end r (of-between _ _ u .0)
 
 -- ---- the loop: a search through the allowed nodes of a graph, and the words of the set of nodes that it can still find
 
@@ -105,22 +105,22 @@ module _ {n : ℕ} {G : Graph} {allowed : ℕ → Bool} {s : ℕ} {p : Progress}
           let v = at p head in
           let tv : T (allowed v) = chain-end allowed (linked n G) (S .bfs .chain head l) t in
           let h = S .bfs .node head l in
-          rw (f, e) (all-keep allowed (G v) p (dist p head + 1) (S .bfs) l refl
+          rw (f, e) (all-keep _ _ _ _ (S .bfs) l refl
           (λ w m. (g .below v w h m, λ u. between-is allowed (linked n G) v w tv u (linked-of n G g v w h m))))
 
       -- the links of the node at the head lead to nodes of the queue
       taken : (w : ℕ) → T (E (at q head) w) → Queued q w
       taken w u =
           let both = of-between allowed (linked n G) (at p head) w (rw (kept .grown .same-at head l) at u) in
-          kept .found w (linked-has n G (at p head) w (both .1)) (both .0)
+          kept .found _ (linked-has n G (at p head) w (both .1)) (both .0)
 
       -- and so do those of all nodes of the queue, where no node is unvisited
       all-taken : {unvisited : ℕ → Bool} → Unvisited allowed unvisited (q .row) → ((x : ℕ) → x < n → T (unvisited x) → ⊥)
           → (i w : ℕ) → i < q .tail → T (E (at q i) w) → Queued q w
       all-taken o none-left i w k u =
           let both = of-between allowed (linked n G) (at q i) w u in
-          let h = linked-ends n G (at q i) w (kept .inv .node i k) (both .1) in
-          kept .inv .queued w h (λ z. none-left w h
+          let h = linked-ends n G _ w (kept .inv .node i k) (both .1) in
+          kept .inv .queued _ h (λ z. none-left w h
           (rw (o w (rw (kept .inv .row-length) h), eq-eqb (away q w) none z) (both .0)))
 
       pub search-turn : {ws′ : List ℕ} → length ws′ ≡ 16 → Unvisited allowed (member ws′) (q .row)
@@ -129,7 +129,7 @@ module _ {n : ℕ} {G : Graph} {allowed : ℕ → Bool} {s : ℕ} {p : Progress}
       search-turn {ws′} words o {next} r = record { bfs = moved r; words = words; unvisited = o }
         where
           moved : (next ≡ head + 1) ⊎ ((next ≡ q .tail) × ((x : ℕ) → x < n → T (member ws′ x) → ⊥)) → Invariant E s n q next
-          moved (inl z) = rw z (advance (kept .inv) (head + 1) (omega arith)
+          moved (inl z) = rw z (advance (kept .inv) _ (omega arith)
               (λ i w h k m u. taken w (subst (λ (j : ℕ). T (E (at q j) w)) (omega arith) u)))
           moved (inr z) = rw (z .0) (advance (kept .inv) (q .tail) (omega (arith, kept .grown .longer))
               (λ i w h k m u. all-taken o (z .1) i w m u))

@@ -76,7 +76,7 @@ longer allowed d ws p e = rw e (all ws p)
   where
     all : (ws : List ℕ) (p : Progress) → p .tail ≤ visitedAll allowed d ws p .tail
     all [] p = le-refl (p .tail)
-    all (w ∷ ws) p = le-trans (visited-longer allowed d w p) (all ws (visited allowed d w p))
+    all (w ∷ ws) p = le-trans (visited-longer _ _ _ _) (all ws (visited allowed d w p))
 
 -- ---- a node and the set of unvisited nodes
 
@@ -94,13 +94,13 @@ module _ (allowed unvisited : ℕ → Bool) (row : List ℕ) (o : Unvisited allo
 
   -- the queue has room for it
   pub visit-room : unvisited w ≡ true → 0 < unreached row
-  visit-room e = some-unreached row w h (has-none (getD row w 0) (allowed w) (sym (o w h) ∙ e))
+  visit-room e = some-unreached _ _ h (has-none _ (allowed _) (sym (o w h) ∙ e))
 
   -- with a distance it is no longer unvisited
   pub unvisited-joined : (d : ℕ) → d < none → {after : ℕ → Bool} → after ≡ difference unvisited (λ x. eqb x w)
       → Unvisited allowed after (set row w d)
   unfolding difference
-  unvisited-joined d l e x k = ap (λ (f : ℕ → Bool). f x) e ∙ ⊎-elim same other (eq-or x w)
+  unvisited-joined d l e x k = ap (λ (f : ℕ → Bool). f x) e ∙ ⊎-elim same other (eq-or _ _)
     where
       same : x ≡ w → (unvisited x && not (eqb x w)) ≡ (eqb (getD (set row w d) x 0) none && allowed x)
       same q =
@@ -111,15 +111,15 @@ module _ (allowed unvisited : ℕ → Bool) (row : List ℕ) (o : Unvisited allo
       other q = rw (ne-eqb x w q, and-true, getD-set-other row w x d 0 q) (o x (omega (arith, length-set row w d)))
 
 -- at the start all allowed nodes but the source are unvisited
-pub unvisited-start : (allowed : ℕ → Bool) (n s : ℕ) {below others closed all unvisited : ℕ → Bool}
+pub unvisited-start : (allowed : ℕ → Bool) {n s : ℕ} {below others closed all unvisited : ℕ → Bool}
     → below ≡ (λ v. ltb v n) → others ≡ difference below allowed → closed ≡ inserted others s
     → all ≡ (λ v. ltb v n) → unvisited ≡ difference all closed → s < n → Unvisited allowed unvisited (set (replicate n none) s 0)
 unfolding inserted difference
-unvisited-start allowed n s {below} {others} {closed} {all} {unvisited} eb eo ec ea eu h x k =
+unvisited-start allowed {n} {s} {below} {others} {closed} {all} {unvisited} eb eo ec ea eu h x k =
     says ∙ unvisited-joined allowed allowed (replicate n none) fresh s (rw length-replicate h) 0 (omega arith) refl x k
   where
     fresh : Unvisited allowed allowed (replicate n none)
-    fresh y l = sym (rw (getD-replicate n y none 0 (rw length-replicate at l)) refl)
+    fresh y l = sym (rw (getD-replicate _ _ _ _ (rw length-replicate at l)) refl)
 
     turned : (a b : Bool) → (true && not (b || true && not a)) ≡ (a && not b)
     turned true true = refl
@@ -130,7 +130,7 @@ unvisited-start allowed n s {below} {others} {closed} {all} {unvisited} eb eo ec
     says : unvisited x ≡ (allowed x && not (eqb x s))
     says =
         let within : x < n = omega (arith, length-set (replicate n none) s 0, length-replicate n none) in
-        rw (eu, ec, eo, eb, ea, lt-ltb x n within) (turned (allowed x) (eqb x s))
+        rw (eu, ec, eo, eb, ea, lt-ltb x n within) (turned (allowed _) (eqb x s))
 
 -- ---- a list's nodes: after i of them, visiting the others gives what visiting all gives from the start
 
@@ -149,8 +149,8 @@ module _ {allowed : ℕ → Bool} {d : ℕ} {ws : List ℕ} {p₀ : Progress} {i
     unfolding visitedAll
     visiting-next l e = rw e (record {
       within = omega arith;
-      same = visited-length allowed d (getD ws i 0) p ∙ v .same;
-      count = visited-count allowed d (getD ws i 0) p next-below (λ z. omega arith) ∙ v .count;
+      same = visited-length _ _ _ _ ∙ v .same;
+      count = visited-count _ _ _ _ next-below (λ z. omega arith) ∙ v .count;
       rest = sym (ap (λ (l : List ℕ). visitedAll allowed d l p) (drop-next ws i h)) ∙ v .rest;
     })
 

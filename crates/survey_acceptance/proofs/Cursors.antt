@@ -66,7 +66,7 @@ module _ {n : ℕ} {starts neighbours : List ℕ} (ok : Rows n starts neighbours
       let b = S (x + 1) - getD cs x 0 in
       let e : S (x + 1) - S x ≡ a + b = omega arith in
       let f : S x + a ≡ getD cs x 0 = omega arith in
-      rw (e, take-add a b (drop (S x) neighbours), drop-drop a (S x) neighbours, f)
+      rw (e, take-add a b (drop (S x) neighbours), drop-drop, f)
 
   own-at : (x i : ℕ) → S x + i < S (x + 1) → getD neighbours (S x + i) 0 ≡ getD (G x) i 0
   unfolding neighboursOf
@@ -74,8 +74,8 @@ module _ {n : ℕ} {starts neighbours : List ℕ} (ok : Rows n starts neighbours
 
   -- ---- no row is matched, and all are
 
-  pub upto-none : (cs : List ℕ) → ((x : ℕ) → x < n → getD cs x 0 ≡ S x) → Upto n starts neighbours 0 cs
-  upto-none cs e = record {
+  pub upto-none : {cs : List ℕ} → ((x : ℕ) → x < n → getD cs x 0 ≡ S x) → Upto n starts neighbours 0 cs
+  upto-none {cs} e = record {
     placed = λ x h. let i = e x h in (omega arith, omega (arith, start-last n starts (ok .rising) x (omega arith)));
     met = λ x l h. rw (before-none cs x (e x h)) met-none;
     right = right-none;

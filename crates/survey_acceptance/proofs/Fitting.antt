@@ -1,4 +1,4 @@
--- Whether a row fits, as facts; and the pass over it, node by node: what is left of the row still says whether it fits, and the cursors of
+-- Whether a row fits, as facts; and the pass over it, node by node: what is left of the row still determines whether it fits, and the cursors of
 -- the nodes passed have moved on.
 -- Assumes nothing.
 use mathlib.Core.Path.{_≡_, refl, sym, ap₂, _∙_, subst}
@@ -22,7 +22,7 @@ use Rattle.model.proofs.Ascending.{ascending-above}
 use Rattle.survey_acceptance.specs.Matching.{stands, rowFits, Moved}
 
 module _ (neighbours : List ℕ) (last n v : ℕ) (cursors : List ℕ) where
-  -- the test of one node of a row, and what it says
+  -- the test of one node of a row, and what it means
   abbrev fits : ℕ → Bool
   fits x = ltb x n && ltb (getD cursors x 0) last && stands neighbours v x cursors
 
@@ -44,17 +44,17 @@ module _ (neighbours : List ℕ) (last n v : ℕ) (cursors : List ℕ) where
         found = eqb→eq (getD neighbours (getD cursors x 0) 0) v (and-r (a && b) c t);
       }
 
-  fits-test : (x : ℕ) → Fits x → T (fits x)
+  fits-test : {x : ℕ} → Fits x → T (fits x)
   unfolding stands
-  fits-test x f =
-      rw (lt-ltb x n (f .below), lt-ltb (getD cursors x 0) last (f .before-last)) (eq-T (getD neighbours (getD cursors x 0) 0) v (f .found))
+  fits-test {x} f =
+      rw (lt-ltb _ _ (f .below), lt-ltb _ _ (f .before-last)) (eq-T (getD neighbours (getD cursors x 0) 0) v (f .found))
 
   -- the whole row
   pub record RowFits (row : List ℕ) : Type 0 where
     pub order : T (ascending (v ∷ row))
     pub nodes : (x : ℕ) → T (has x row) → Fits x
 
--- an answer r that says whether the row fits
+-- an answer r to whether the row fits
 module _ {neighbours : List ℕ} {last n v : ℕ} {cursors row : List ℕ} {r : Bool}
     (e : r ≡ rowFits neighbours last n v row cursors) where
   pub row-facts : r ≡ true → RowFits neighbours last n v cursors row
@@ -72,7 +72,7 @@ module _ {neighbours : List ℕ} {last n v : ℕ} {cursors row : List ℕ} {r : 
   unfolding rowFits
   row-fails q f =
       false-no (rowFits neighbours last n v row cursors) (sym e ∙ q)
-      (and-i (ascending (v ∷ row)) _ (f .order) (all-of _ row λ x m. fits-test neighbours last n v cursors x (f .nodes x m)))
+      (and-i (ascending (v ∷ row)) _ (f .order) (all-of _ _ λ x m. fits-test neighbours last n v cursors (f .nodes x m)))
 
 -- ---- the pass over a row
 
@@ -81,7 +81,7 @@ module _ (neighbours : List ℕ) (last n v : ℕ) (row cursors : List ℕ) where
   abbrev Judged : Bool → List ℕ → Type 0
   Judged r cursors′ = (r ≡ rowFits neighbours last n v row cursors) × (r ≡ true → Moved row cursors cursors′)
 
-  -- i nodes of the row are passed: none is above `before`, their cursors have moved, and the nodes left say whether the row fits
+  -- i nodes of the row are passed: none is above `before`, their cursors have moved, and the nodes left determine whether the row fits
   pub record Passed (cursors′ : List ℕ) (before wrong i : ℕ) : Type 0 where
     pub within : i ≤ length row
     pub size : length cursors′ ≡ length cursors
@@ -113,12 +113,12 @@ collected w e v = same-test (eqb (bitOr w (bitXor e v)) 0) (eqb w 0 && eqb e v)
 
 -- the members of a list with one more at its end
 has-last : (k : List ℕ) (x : ℕ) → has x (k ++ x ∷ []) ≡ true
-has-last k x = T-true (has x (k ++ x ∷ [])) (has-later x k (x ∷ []) (has-head x []))
+has-last k x = T-true _ (has-later x k _ (has-head x []))
 
 has-others : (k : List ℕ) (x y : ℕ) → (y ≡ x → ⊥) → has y (k ++ x ∷ []) ≡ has y k
-has-others k x y d = same-test (has y (k ++ x ∷ [])) (has y k)
-    (λ t. ⊎-elim (λ m. m) (λ m. absurd (d (of-single y x m))) (of-append y k (x ∷ []) t))
-    (has-append y k (x ∷ []))
+has-others k x y d = same-test _ _
+    (λ t. ⊎-elim (λ m. m) (λ m. absurd (d (of-single _ _ m))) (of-append y k (x ∷ []) t))
+    (has-append _ _ _)
 
 reordered : (g s a r : Bool) → ((g && s) && (a && r)) ≡ (g && (a && (s && r)))
 reordered false s a r = refl
@@ -130,7 +130,7 @@ module _ {neighbours : List ℕ} {last n v : ℕ} {row cursors cursors′ : List
   pub passed-all : length row ≤ i → Judged neighbours last n v row cursors (eqb wrong 0) cursors′
   unfolding ascending all
   passed-all h = (
-    sym (and-true (eqb wrong 0)) ∙ rw (drop-of-length-le row h) at (p .rest),
+    sym (and-true _) ∙ rw (drop-of-length-le row h) at (p .rest),
     λ e. rw (take-all i row h) at (p .moved),
   )
 
@@ -149,8 +149,8 @@ module _ {neighbours : List ℕ} {last n v : ℕ} {row cursors cursors′ : List
         let order = ascending (before ∷ drop i row) in
         let nodes = all (fits neighbours last n v cursors) (drop i row) in
         let both = and-r (eqb wrong 0) (order && nodes) (subst T (sym (p .rest)) t) in
-        let here : T (has x (drop i row)) = rw (drop-next row i h) (has-head x (drop (i + 1) row)) in
-        let above = ascending-above before (drop i row) (and-l order nodes both) x here in
+        let here : T (has x (drop i row)) = rw (drop-next row i h) (has-head _ _) in
+        let above = ascending-above _ (drop i row) (and-l order nodes both) x here in
         let fit = fits-facts neighbours last n v cursors x (of-all _ (drop i row) (and-r order nodes both) x here) in
         (above, fit .below, rw (unmoved above) (fit .before-last))
 
@@ -167,20 +167,20 @@ module _ {neighbours : List ℕ} {last n v : ℕ} {row cursors cursors′ : List
 
       -- the nodes passed, and x
       front : take (i + 1) row ≡ take i row ++ x ∷ []
-      front = rw (add-one i) (take-suc row i 0 h)
+      front = rw add-one (take-suc row i 0 h)
 
       -- y's cursor, once x's has moved
       abbrev Next : ℕ → Type 0
       Next y = getD (set cursors′ x (at + 1)) y 0 ≡ (if has y (take i row ++ x ∷ []) then getD cursors y 0 + 1 else getD cursors y 0)
 
       this : Next x
-      this = rw (has-last (take i row) x) (getD-set-same cursors′ x (at + 1) 0 (omega arith) ∙ rw (unmoved above))
+      this = rw has-last (getD-set-same cursors′ x (at + 1) 0 (omega arith) ∙ rw (unmoved above))
 
-      other : (y : ℕ) → (y ≡ x → ⊥) → Next y
-      other y d = rw (has-others (take i row) x y d, getD-set-other cursors′ x y (at + 1) 0 d) (p .moved y)
+      other : {y : ℕ} → (y ≡ x → ⊥) → Next y
+      other {y} d = rw (has-others (take i row) x y d, getD-set-other cursors′ x y (at + 1) 0 d) (p .moved y)
 
       moved-next : Moved (take (i + 1) row) cursors (set cursors′ x (at + 1))
-      moved-next y = rw front (⊎-elim (λ e. subst Next (sym e) this) (other y) (eq-or y x))
+      moved-next y = rw front (⊎-elim (λ e. subst Next (sym e) this) other (eq-or _ _))
 
       rest-next : (eqb (bitOr wrong (bitXor (getD neighbours at 0) v)) 0
           && (ascending (x ∷ drop (i + 1) row) && all (fits neighbours last n v cursors) (drop (i + 1) row)))

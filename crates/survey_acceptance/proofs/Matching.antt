@@ -1,5 +1,5 @@
--- What is known once the rows below v are passed: these rows are right, and of each node x the nodes below v that have x in their rows
--- are met; in a survey these are x's own neighbours below v.
+-- What is known once the rows below v are passed: these rows are right, and for each node x a list holds the nodes below v that have x in
+-- their rows; in a survey these are x's own neighbours below v.
 -- Assumes nothing.
 use mathlib.Core.Path.{_≡_, sym, _∙_}
 use mathlib.Core.Logic.{⊎-elim}
@@ -8,7 +8,7 @@ use mathlib.Core.List.{List, [], _∷_, _++_}
 use Prim.Native.Nat.{ℕ, _+_, _≤_, _<_}
 use native.Mathlib.Omega.{arith}
 use lib.Dec.{T, ltb, ltb→lt, lt→ltb}
-use Rattle.model.specs.Basics.{upTo, has, keep}
+use Rattle.model.specs.Basics.{has, keep}
 use Rattle.model.specs.Survey.{Graph, ascending, IsGraph}
 use Rattle.model.proofs.Lists.{has-head, has-tail, none-in, of-cons, of-single, has-append, has-later, of-append, has-keep, of-keep, keep-same}
 use Rattle.model.proofs.Loops.{below-next}
@@ -20,20 +20,20 @@ pub ascending-join : (k l : List ℕ) → T (ascending k) → T (ascending l) �
     → T (ascending (k ++ l))
 ascending-join [] l a b f = b
 ascending-join (z ∷ k) l a b f =
-    ascending-cons z (k ++ l)
-    (λ y m. ⊎-elim (ascending-above z k a y) (f z y (has-head z k)) (of-append y k l m))
-    (ascending-join k l (ascending-tail z k a) b (λ x y h m. f x y (has-tail x z k h) m))
+    ascending-cons _ _
+    (λ y m. ⊎-elim (ascending-above z k a y) (f z y (has-head _ _)) (of-append _ _ _ m))
+    (ascending-join k l (ascending-tail z k a) b (λ x y h m. f x y (has-tail _ _ _ h) m))
 
 pub ascending-later : (k l : List ℕ) → T (ascending (k ++ l)) → T (ascending l)
 ascending-later [] l a = a
-ascending-later (z ∷ k) l a = ascending-later k l (ascending-tail z (k ++ l) a)
+ascending-later (z ∷ k) l a = ascending-later k l (ascending-tail z _ a)
 
 -- each of the first is less than each of the others
 pub ascending-between : (k l : List ℕ) → T (ascending (k ++ l)) → (x y : ℕ) → T (has x k) → T (has y l) → x < y
 ascending-between [] l a x y h m = absurd (none-in x h)
 ascending-between (z ∷ k) l a x y h m = ⊎-elim
-    (λ e. rw e (ascending-above z (k ++ l) a y (has-later y k l m)))
-    (λ r. ascending-between k l (ascending-tail z (k ++ l) a) x y r m)
+    (λ e. rw e (ascending-above _ _ a _ (has-later y k l m)))
+    (λ r. ascending-between k l (ascending-tail z _ a) x y r m)
     (of-cons x z k h)
 
 -- two ascending lists with the same members
@@ -41,12 +41,12 @@ same-members : (n : ℕ) (k l : List ℕ) → T (ascending k) → T (ascending l
     → ((x : ℕ) → T (has x k) → T (has x l)) → ((x : ℕ) → T (has x l) → T (has x k)) → k ≡ l
 same-members n k l a b h f g =
     sym (ascending-keep k n a h)
-    ∙ keep-same (λ x. has x k) (λ x. has x l) (upTo n) (λ x m. f x) (λ x m. g x)
-    ∙ ascending-keep l n b (λ x m. h x (g x m))
+    ∙ keep-same _ _ _ (λ x m. f x) (λ x m. g x)
+    ∙ ascending-keep _ _ b (λ x m. h x (g x m))
 
--- ---- the nodes met
+-- ---- the nodes below v that have x in their rows
 
--- l are the nodes below v that have x in their rows, in order
+-- l holds them in ascending order
 pub record Met (G : Graph) (v x : ℕ) (l : List ℕ) : Type 0 where
   pub order : T (ascending l)
   pub from : (w : ℕ) → T (has w l) → (w < v) × T (has x (G w))
@@ -61,14 +61,14 @@ module _ {G : Graph} {v x : ℕ} {l : List ℕ} (m : Met G v x l) where
   pub met-more : T (has x (G v)) → Met G (v + 1) x (l ++ v ∷ [])
   unfolding ascending
   met-more h = record {
-    order = ascending-join l (v ∷ []) (m .order) tt (λ w y k j. let i = m .from w k in let e = of-single y v j in omega arith);
+    order = ascending-join _ _ (m .order) _ (λ w y k j. let i = m .from w k in let e = of-single y v j in omega arith);
     from = λ w k. ⊎-elim
         (λ j. let i = m .from w j in (omega arith, i .1))
         (λ j. let e = of-single w v j in (omega arith, rw e h))
-        (of-append w l (v ∷ []) k);
-    into = below-next (λ w. T (has x (G w)) → T (has w (l ++ v ∷ []))) v
-        (λ w g k. has-append w l (v ∷ []) (m .into w g k))
-        (λ k. has-later v l (v ∷ []) (has-head v []));
+        (of-append _ _ _ k);
+    into = below-next _ _
+        (λ w g k. has-append _ _ _ (m .into w g k))
+        (λ k. has-later v l _ (has-head v []));
   }
 
   -- it does not: the nodes are the same
@@ -76,7 +76,7 @@ module _ {G : Graph} {v x : ℕ} {l : List ℕ} (m : Met G v x l) where
   met-same d = record {
     order = m .order;
     from = λ w k. let i = m .from w k in (omega arith, i .1);
-    into = below-next (λ w. T (has x (G w)) → T (has w l)) v (m .into) (λ k. absurd (d k));
+    into = below-next _ _ (m .into) (λ k. absurd (d k));
   }
 
   -- in an undirected graph they are x's own neighbours below v
@@ -85,8 +85,8 @@ module _ {G : Graph} {v x : ℕ} {l : List ℕ} (m : Met G v x l) where
       let below : ℕ → Bool = λ w. ltb w v in
       same-members n l (keep below (G x)) (m .order) (keep-of-ascending below (G x) a)
       (λ w k. let i = m .from w k in omega arith)
-      (λ w k. let i = m .from w k in has-keep below (G x) w (g .symmetric w x (omega arith) (i .1)) (lt→ltb w v (i .0)))
-      (λ w k. let i = of-keep below (G x) w k in m .into w (ltb→lt w v (i .1)) (g .symmetric x w xn (i .0)))
+      (λ w k. let i = m .from w k in has-keep _ _ _ (g .symmetric w x (omega arith) (i .1)) (lt→ltb w v (i .0)))
+      (λ w k. let i = of-keep below _ w k in m .into w (ltb→lt w v (i .1)) (g .symmetric x w xn (i .0)))
 
 -- ---- the rows below v
 
@@ -109,9 +109,9 @@ pub right-next : {n : ℕ} {G : Graph} {v : ℕ} → RowsRight n G v → T (asce
     → ((x : ℕ) → x < v + 1 → T (has x (G v)) → T (has v (G x))) → ((w : ℕ) → w < v → T (has v (G w)) → T (has w (G v)))
     → RowsRight n G (v + 1)
 right-next {n} {G} {v} r sorted below back into = record {
-  sorted = below-next (λ w. T (ascending (G w))) v (r .sorted) sorted;
-  below = below-next (λ w. (x : ℕ) → T (has x (G w)) → (x < n) × (x ≡ w → ⊥)) v (r .below) below;
-  back = below-next (λ w. (x : ℕ) → x < v + 1 → T (has x (G w)) → T (has w (G x))) v
-      (λ w h. below-next (λ x. T (has x (G w)) → T (has w (G x))) v (r .back w h) (into w h))
+  sorted = below-next _ _ (r .sorted) sorted;
+  below = below-next _ _ (r .below) below;
+  back = below-next _ _
+      (λ w h. below-next _ _ (r .back w h) (into _ h))
       back;
 }

@@ -1,4 +1,4 @@
--- A test of all nodes below n, made one after the other: what was found and the nodes left still say the whole.
+-- A test of all nodes below n, made one after the other: what was found and the nodes left still determine the result.
 -- Assumes nothing.
 use mathlib.Core.Path.{_≡_, sym, _∙_}
 use mathlib.Core.Bool.{Bool, _&&_, and-assoc, and-true}

@@ -1,4 +1,4 @@
--- What is judged one after the other makes the whole test for a survey.
+-- The tests made one after the other are together the test for a survey.
 -- Assumes nothing.
 use mathlib.Core.Path.{_≡_}
 use mathlib.Core.Bool.{Bool, true, false, _&&_}

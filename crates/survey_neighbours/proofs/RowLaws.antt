@@ -21,7 +21,7 @@ module _ (n : ℕ) (starts neighbours : List ℕ) (r : Rows n starts neighbours)
   pub bounds : (v : ℕ) → v < n → Bounds starts neighbours v
   bounds v h = record { from-to = r .rising v h; end = start-within (v + 1) (omega arith) }
 
-  -- as many as the two starts say
+  -- the number of v's neighbours is the difference of the two starts
   pub own-length : (v : ℕ) → v < n → length (neighboursOf starts neighbours v) ≡ getD starts (v + 1) 0 - getD starts v 0
   unfolding neighboursOf
   own-length v h = let b = bounds v h in simp (length-take, length-drop) (omega arith)

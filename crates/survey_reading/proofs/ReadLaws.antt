@@ -48,20 +48,20 @@ module _ (n : ℕ) (size : n ≤ 1024) (ws : List ℕ) (ls : List (ℕ × ℕ)) 
   rows-same : (v : ℕ) → v < n → rowsIn ws v ≡ graphOf n ls v
   unfolding rowsIn graphOf
   rows-same v h =
-      keep-same (edgesIn ws v) (named ls v) (upTo 1024) (λ u k t. subst T (says u k) t) (λ u k t. subst T (sym (says u k)) t)
-      ∙ keep-below (named ls v) n 1024 size (λ u t. named-below n ls [] fresh v u t .1)
+      keep-same _ (named ls v) _ (λ u k t. subst T (says _ k) t) (λ u k t. subst T (sym (says _ k)) t)
+      ∙ keep-below (named ls v) n _ size (λ u t. named-below _ _ [] fresh _ _ t .1)
     where
       says : (u : ℕ) → T (has u (upTo 1024)) → edgesIn ws v u ≡ named ls v u
-      says u k = held .says v u (omega arith) (of-upTo 1024 u k)
+      says u k = held .says _ _ (omega arith) (of-upTo 1024 u k)
 
   same-starts : startsOf n (rowsIn ws) ≡ startsOf n (graphOf n ls)
-  same-starts = starts-same n (rowsIn ws) (graphOf n ls) rows-same
+  same-starts = starts-same n _ (graphOf n ls) rows-same
 
   same-neighbours : neighboursFrom n (rowsIn ws) ≡ neighboursFrom n (graphOf n ls)
-  same-neighbours = neighbours-same n (rowsIn ws) (graphOf n ls) rows-same
+  same-neighbours = neighbours-same n _ (graphOf n ls) rows-same
 
   few-entries : length (neighboursFrom n (rowsIn ws)) ≡ 2 * length ls
-  few-entries = ap length same-neighbours ∙ neighbours-length n (graphOf n ls) ∙ links-total n ls fresh
+  few-entries = ap length same-neighbours ∙ neighbours-length n (graphOf n ls) ∙ links-total _ _ fresh
 
   lists-read : (p q : ℕ) → left n (length ls) p q ws ≡ readingOf p q (answered (record { nodes = n; links = ls }))
   unfolding readingOf
@@ -117,10 +117,10 @@ module _ {s₀ x₀ s x : List ℕ} (z : Cleared s₀ x₀ s x) where
   cleared-own = (filled-own 0 (length s₀) (z .starts), filled-own 0 (length x₀) (z .neighbours))
 
   same-s : length s ≡ length s₀
-  same-s = ap length (z .starts) ∙ length-replicate (length s₀) 0
+  same-s = ap length (z .starts) ∙ length-replicate _ _
 
   same-x : length x ≡ length x₀
-  same-x = ap length (z .neighbours) ∙ length-replicate (length x₀) 0
+  same-x = ap length (z .neighbours) ∙ length-replicate _ _
 
 module _ (N M : ℕ) (text : List ℕ) {s₀ x₀ s x : List ℕ} (z : Cleared s₀ x₀ s x) {w : LineSays}
     (told : lineAnswer text w ≡ countsOf N M (length s) (length x) (line 83 text)) where
@@ -129,7 +129,7 @@ module _ (N M : ℕ) (text : List ℕ) {s₀ x₀ s x : List ℕ} (z : Cleared s
       → readReturned (read.Refused r) s x ≡ readingOf (length s₀) (length x₀) (parse N M (length s₀) (length x₀) text)
   unfolding parse parseLinks
   first-refused {r} e =
-      rw (← same-s z, ← same-x z, ← told, e) (read-refused (length s) (length x) r (cleared-own z .0) (cleared-own z .1))
+      rw (← same-s z, ← same-x z, ← told, e) (read-refused _ _ r (cleared-own z .0) (cleared-own z .1))
 
   -- the first line counts n nodes and m links
   module _ {n m at : ℕ} (e : w ≡ says.Pair n m at) where

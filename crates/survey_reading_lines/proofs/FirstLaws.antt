@@ -8,7 +8,6 @@ use Prim.Native.Nat.{ℕ, _+_, _*_, _≤_, _<_}
 use borrow.Author.Tests.{lt-ltb, le-ltb}
 use lib.Dec.{ltb}
 use Rattle.model.specs.Answers.{refused, answered}
-use Rattle.model.specs.SurveyText.{line}
 use Rattle.model.specs.Survey.{outside}
 use Rattle.model.specs.Reading.{countsOf}
 use Rattle.model.proofs.Links.{first-taken}
@@ -20,7 +19,7 @@ pub record InLimits (N M n m : ℕ) : Type 0 where
   pub size : n ≤ N
   pub few : m ≤ M
 
--- what the first line says, by the tests that it passes
+-- what reading the first line gives, by the tests that it passes
 module _ (N M p q : ℕ) {o : Option (ℕ × ℕ × List ℕ)} where
   pub counts-malformed : o ≡ missing → refused 1 ≡ countsOf N M p q o
   unfolding countsOf

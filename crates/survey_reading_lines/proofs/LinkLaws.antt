@@ -1,4 +1,4 @@
--- What reading a link line tests, and how the lines that are left say the whole.
+-- What reading a link line tests; and that the lines that are left still determine the result.
 -- Assumes nothing.
 use mathlib.Core.Path.{_≡_, refl, sym, ap, ap₂, _∙_}
 use mathlib.Core.Bool.{Bool, true, false, not, _&&_, _||_, and-comm, or-false}
@@ -29,8 +29,8 @@ use Rattle.survey_reading_lines.specs.declared.Links.the-variants as lin
 
 -- ---- one line
 
-pub both-below : (a b n : ℕ) → (ltb a n && ltb b n) ≡ true → (a < n) × (b < n)
-both-below a b n e =
+pub both-below : {a b n : ℕ} → (ltb a n && ltb b n) ≡ true → (a < n) × (b < n)
+both-below {a} {b} {n} e =
     let t = true-T (ltb a n && ltb b n) e in
     (ltb→lt a n (and-l (ltb a n) (ltb b n) t), ltb→lt b n (and-r (ltb a n) (ltb b n) t))
 
@@ -38,7 +38,7 @@ both-below a b n e =
 one-far : (a b n : ℕ) → (ltb a n && ltb b n) ≡ false → (leb n a || leb n b) ≡ true
 one-far a b n e = ap₂ _||_ (sym (not-ltb a n)) (sym (not-ltb b n)) ∙ sym (not-and (ltb a n) (ltb b n)) ∙ ap not e
 
--- what the next line says, by the tests that it passes
+-- what reading the next line gives, by the tests that it passes
 module _ (s : List ℕ) (at n : ℕ) (E : Edges) where
   pub link-end : length s ≤ at → refused 7 ≡ linkIn n E (drop at s)
   unfolding linkIn
@@ -47,7 +47,7 @@ module _ (s : List ℕ) (at n : ℕ) (E : Edges) where
   module _ (h : at < length s) where
     begun : linkIn n E (drop at s) ≡ linkOf n E (line 76 (drop at s))
     unfolding linkIn
-    begun = rw (drop-next s at h)
+    begun = rw (drop-next _ at h)
 
     pub link-malformed : line 76 (drop at s) ≡ missing → refused 1 ≡ linkIn n E (drop at s)
     unfolding linkOf
@@ -78,7 +78,7 @@ module _ (s : List ℕ) (at n : ℕ) (E : Edges) where
 
 none-held : Holds (replicate 16384 0) []
 unfolding named
-none-held = record { long = length-replicate {A = ℕ} 16384 0; says = λ a b ha hb. ap (λ (E : Edges). E a b) edges-none }
+none-held = record { long = length-replicate {A = ℕ} _ 0; says = λ a b ha hb. ap (λ (E : Edges). E a b) edges-none }
 
 -- a link put in both ways round
 held-more : (ws ws′ ws″ : List ℕ) {ls : List (ℕ × ℕ)} (a b : ℕ) → a < 1024 → b < 1024
@@ -90,7 +90,7 @@ held-more ws ws′ ws″ {ls} a b ha hb h long p q = record {
   long = long ∙ h .long;
   says = λ u v hu hv.
       ap (λ (E : Edges). E u v) (edge-with ws′ ws″ b a ha q)
-      ∙ ap (λ (E : Edges). (eqb u b && eqb v a) || E u v) (edge-with ws ws′ a b hb p)
+      ∙ ap (λ (E : Edges). (eqb u b && eqb v a) || E u v) (edge-with _ _ _ _ hb p)
       ∙ ap (λ (x : Bool). (eqb u b && eqb v a) || ((eqb u a && eqb v b) || x)) (h .says u v hu hv)
       ∙ turned (eqb u b) (eqb v a) (eqb u a) (eqb v b) (named ls u v)
       ∙ ap₂ (λ (x y : Bool). (x || y) || named ls u v) (ap₂ _&&_ (flip u a) (flip v b)) (ap₂ _&&_ (flip v a) (flip u b));
@@ -135,10 +135,10 @@ behind-held : {ws : List ℕ} {done : List (ℕ × ℕ)} → Holds ws done → H
 unfolding named
 behind-held {done = done} h = record {
   long = h .long;
-  says = λ a b ha hb. h .says a b ha hb ∙ sym (behind-named done [] a b ∙ or-false (named done a b));
+  says = λ a b ha hb. h .says a b ha hb ∙ sym (behind-named _ _ _ _ ∙ or-false (named done a b));
 }
 
--- the matrix, and the links given before, judge a line alike
+-- the matrix, and the links given before, give the same answer to a line
 module _ (n : ℕ) (done : List (ℕ × ℕ)) (E : Edges) (agree : (a b : ℕ) → a < n → b < n → E a b ≡ named done a b) where
   judged : (o : Option (ℕ × ℕ × List ℕ)) → linkOf n (named done) o ≡ linkOf n E o
   unfolding linkOf
@@ -154,16 +154,16 @@ module _ (n : ℕ) (done : List (ℕ × ℕ)) (E : Edges) (agree : (a b : ℕ) �
       four true e = refl
       four false e =
           let h = of-or-false (leb n (l .0)) (leb n (l .1)) e in
-          ap otherwise (sym (agree (l .0) (l .1) (leb-false n (l .0) (h .0)) (leb-false n (l .1) (h .1))))
+          ap otherwise (sym (agree (l .0) (l .1) (leb-false _ (l .0) (h .0)) (leb-false _ (l .1) (h .1))))
 
-  -- what the lines behind the next one say, where m of them are left
+  -- what the lines behind the next one give, where m of them are left
   abbrev others : ℕ → ℕ → ℕ → List ℕ → Outcome (List (ℕ × ℕ))
   others m a b rest = readLinks n m ((a, b) ∷ done) rest
 
   reads-on : (m : ℕ) (t : List ℕ) → readLinks n (suc m) done t ≡ readOn (others m) (linkIn n E t)
   unfolding readLinks linkIn readOn
   reads-on m [] = refl
-  reads-on m (c ∷ t) = ap (readOn (others m)) (judged (line 76 (c ∷ t)))
+  reads-on m (c ∷ t) = ap (readOn (others m)) (judged _)
 
   -- after k of m lines, the next is read, and then the others
   module _ (m k : ℕ) (h : k < m) (t : List ℕ) where
@@ -179,7 +179,7 @@ module _ (n : ℕ) (done : List (ℕ × ℕ)) (E : Edges) (agree : (a b : ℕ) �
     next-taken : {a b : ℕ} {rest : List ℕ} → linkIn n E t ≡ answered (a, b, rest)
         → after done (readLinks n (m - k) done t) ≡ after ((a, b) ∷ done) (others (m - (k + 1)) a b rest)
     unfolding readOn
-    next-taken {a} {b} {rest} e = next-read ∙ rw e (after-on done (a, b) (others (m - (k + 1)) a b rest))
+    next-taken {a} {b} {rest} e = next-read ∙ rw e (after-on _ _ _)
 
 -- a link that is taken is between nodes below n
 pub link-below : (n : ℕ) (E : Edges) (t : List ℕ) {a b : ℕ} {rest : List ℕ}
@@ -187,7 +187,7 @@ pub link-below : (n : ℕ) (E : Edges) (t : List ℕ) {a b : ℕ} {rest : List �
 unfolding linkIn
 link-below n E [] e = never e
 link-below n E (c ∷ t) {a} {b} {rest} e =
-    let f = of-link-taken n E (line 76 (c ∷ t)) (a, b, rest) e .1 in
+    let f = of-link-taken _ _ _ _ e .1 in
     (f .below-a, f .below-b)
 
 -- after the last line the text must end
@@ -197,13 +197,13 @@ module _ (n m k : ℕ) (done : List (ℕ × ℕ)) (s : List ℕ) (at : ℕ) (h :
 
   last-more : at < length s → after done (readLinks n (m - k) done (drop at s)) ≡ refused 7
   unfolding after readLinks
-  last-more l = rw (none-left, drop-next s at l)
+  last-more l = rw (none-left, drop-next _ at l)
 
   last-end : length s ≤ at → after done (readLinks n (m - k) done (drop at s)) ≡ answered (behind done [])
   unfolding after readLinks
   last-end l = rw (none-left, drop-of-length-le s l)
 
--- ---- what the loop over the lines keeps: k of m lines are taken, and those that are left say the whole
+-- ---- what the loop over the lines keeps: k of m lines are taken, and those that are left still determine the result
 
 pub record Progress (n m : ℕ) (s : List ℕ) (at : ℕ) (ws : List ℕ) (next k : ℕ) : Type 0 where
   pub done : List (ℕ × ℕ)
@@ -216,7 +216,7 @@ progress-none n m s at e = record {
   done = [];
   within = omega arith;
   held = rw e none-held;
-  rest = let z : m - 0 ≡ m = omega arith in after-none (readLinks n (m - 0) [] (drop at s)) ∙ rw z;
+  rest = let z : m - 0 ≡ m = omega arith in after-none _ ∙ rw z;
 }
 
 module _ {n m : ℕ} {s : List ℕ} {at : ℕ} {ws : List ℕ} {next k : ℕ} (few : n ≤ 1024) (p : Progress n m s at ws next k) where

@@ -24,7 +24,7 @@ use Rattle.survey_reading_lists.specs.MatrixRows.{rowsIn}
 -- what is kept of the numbers below u is no more than of those below n
 kept-below : (f : ℕ → Bool) (u n : ℕ) → u ≤ n → length (keep f (upTo u)) ≤ length (keep f (upTo n))
 kept-below f u n h =
-    let e : upTo n ≡ upTo u ++ from u (n - u) = upTo-add u (n - u) n (omega arith) in
+    let e : upTo n ≡ upTo u ++ from u (n - u) = upTo-add _ _ _ (omega arith) in
     rw (e, keep-append, length-append) (omega arith)
 
 -- ---- a row, word by word
@@ -33,10 +33,10 @@ kept-below f u n h =
 unfoldable pub rowTo : List ℕ → ℕ → ℕ → List ℕ
 rowTo ws v w = keep (edgesIn ws v) (upTo (64 * w))
 
-word-bits : (ws : List ℕ) (v w i : ℕ) → w < 16 → i < 64 → edgesIn ws v (64 * w + i) ≡ bit (getD ws (v * 16 + w) 0) i
-word-bits ws v w i hw hi =
+word-bits : (ws : List ℕ) (v : ℕ) {w i : ℕ} → w < 16 → i < 64 → edgesIn ws v (64 * w + i) ≡ bit (getD ws (v * 16 + w) 0) i
+word-bits ws v {w} {i} hw hi =
     let e : 1024 * v + (64 * w + i) ≡ 64 * (v * 16 + w) + i = omega arith in
-    edge-bit ws v (64 * w + i) (omega arith) ∙ ap (member ws) e ∙ word-bit ws (v * 16 + w) i hi
+    edge-bit _ _ _ (omega arith) ∙ ap (member ws) e ∙ word-bit _ _ _ hi
 
 -- the set bits of word w of the row
 abbrev pub wordIn : List ℕ → ℕ → ℕ → List ℕ
@@ -50,7 +50,7 @@ pub record Row (ws : List ℕ) (v : ℕ) (x₀ x : List ℕ) (at pos w : ℕ) : 
 
 pub row-none : {ws : List ℕ} {v : ℕ} {x₀ : List ℕ} {at : ℕ} → at + length (rowsIn ws v) ≤ length x₀ → Row ws v x₀ x₀ at at 0
 unfolding rowTo upTo from keep
-row-none {x₀ = x₀} {at = at} room = record { room = room; within = omega arith; wrote = wrote-none x₀ at }
+row-none {x₀ = x₀} {at = at} room = record { room = room; within = omega arith; wrote = wrote-none _ at }
 
 module _ {ws : List ℕ} {v : ℕ} {x₀ x : List ℕ} {at pos w : ℕ} (r : Row ws v x₀ x at pos w) where
   pub row-long : length x ≡ length x₀
@@ -67,7 +67,7 @@ module _ {ws : List ℕ} {v : ℕ} {x₀ x : List ℕ} {at pos w : ℕ} (r : Row
   module _ (h : w < 16) where
     row-turn : rowTo ws v (w + 1) ≡ rowTo ws v w ++ wordIn ws v w
     unfolding rowTo
-    row-turn = next-word (edgesIn ws v) w (getD ws (v * 16 + w) 0) (λ i k. word-bits ws v w i h k)
+    row-turn = next-word _ _ _ (λ i k. word-bits _ _ h k)
 
     word-room : at + length (rowTo ws v w) + length (wordIn ws v w) ≤ length x₀
     unfolding rowTo rowsIn
@@ -88,7 +88,7 @@ gather-more G v = rw (add-one, gather-suc)
 
 gather-mono : (G : Graph) (v n : ℕ) → v ≤ n → length (gather G (upTo v)) ≤ length (gather G (upTo n))
 gather-mono G v n h =
-    let e : upTo n ≡ upTo v ++ from v (n - v) = upTo-add v (n - v) n (omega arith) in
+    let e : upTo n ≡ upTo v ++ from v (n - v) = upTo-add _ _ _ (omega arith) in
     rw (e, gather-append, length-append) (omega arith)
 
 -- the starts of the nodes below v
@@ -114,8 +114,8 @@ lists-none {s₀ = s₀} {x₀ = x₀} hs hx = record {
   starts-room = hs;
   neighbours-room = hx;
   within = omega arith;
-  starts = wrote-none s₀ 0;
-  neighbours = wrote-none x₀ 0;
+  starts = wrote-none _ _;
+  neighbours = wrote-none _ _;
 }
 
 module _ {G : Graph} {n : ℕ} {s₀ x₀ s x : List ℕ} {pos v : ℕ} (l : Lists G n s₀ x₀ s x pos v) where
@@ -139,7 +139,7 @@ module _ {G : Graph} {n : ℕ} {s₀ x₀ s x : List ℕ} {pos v : ℕ} (l : Lis
   starts-long = wrote-length (omega (arith, start-room)) (l .starts)
 
   start-more : Wrote s₀ (set s v pos) 0 (v + 1) (startsTo G (v + 1))
-  start-more = rw (starts-suc, ← place) (wrote-then start-room (l .starts) (wrote-one s v pos (omega (arith, start-here))))
+  start-more = rw (starts-suc, ← place) (wrote-then start-room (l .starts) (wrote-one _ _ _ (omega (arith, start-here))))
 
   pub neighbours-long : length x ≡ length x₀
   unfolding neighboursFrom
@@ -168,4 +168,4 @@ module _ {G : Graph} {n : ℕ} {s₀ x₀ s x : List ℕ} {pos v : ℕ} (l : Lis
   -- after the last node, with its start behind the others
   pub lists-done : v ≡ n → (set s n pos ≡ over (startsOf n G) s₀) × (x ≡ over (neighboursFrom n G) x₀)
   unfolding startsOf neighboursFrom startsTo
-  lists-done e = (wrote-over (startsOf n G) (rw e at start-more) .0, wrote-over (neighboursFrom n G) (rw e at (l .neighbours)) .0)
+  lists-done e = (wrote-over _ (rw e at start-more) .0, wrote-over _ (rw e at (l .neighbours)) .0)

@@ -30,7 +30,7 @@ use Rattle.survey_writing.specs.LinkLines.{linesOf}
 module _ (a b : ℕ) where
   pub one-line : a < b → linesOf a (b ∷ []) ≡ lineOf 76 a b
   unfolding linesOf linkLines keep gather
-  one-line h = rw (lt-ltb a b h) (append-nil (lineOf 76 a b))
+  one-line h = rw (lt-ltb a b h) (append-nil _)
 
   pub no-line : b ≤ a → linesOf a (b ∷ []) ≡ []
   unfolding linesOf linkLines keep gather
@@ -44,7 +44,7 @@ lines-append a k l = rw (keep-append, map-append, gather-append)
 
 module _ (a : ℕ) (l : List ℕ) (i : ℕ) where
   pub line-next : i < length l → linesOf a (drop i l) ≡ linesOf a (getD l i 0 ∷ []) ++ linesOf a (drop (i + 1) l)
-  line-next h = ap (linesOf a) (drop-next l i h) ∙ lines-append a (getD l i 0 ∷ []) (drop (i + 1) l)
+  line-next h = ap (linesOf a) (drop-next l i h) ∙ lines-append _ _ _
 
   pub line-end : length l ≤ i → linesOf a (drop i l) ≡ []
   unfolding linesOf linkLines keep gather
@@ -59,11 +59,11 @@ module _ (n : ℕ) (G : Graph) where
 
   pub rows-next : (v : ℕ) → v < n → rowsFrom v ≡ linesOf v (G v) ++ rowsFrom (v + 1)
   unfolding rowsFrom
-  rows-next v h = gather-next (λ a. linesOf a (G a)) n v h
+  rows-next v h = gather-next _ _ _ h
 
   pub rows-end : (v : ℕ) → n ≤ v → rowsFrom v ≡ []
   unfolding rowsFrom
-  rows-end v h = gather-end (λ a. linesOf a (G a)) n v h
+  rows-end v h = gather-end _ _ _ h
 
 -- the line with the numbers of nodes and links
 abbrev pub firstLine : (n : ℕ) (starts : List ℕ) → List ℕ
@@ -78,7 +78,7 @@ module _ (n : ℕ) (starts neighbours : List ℕ) where
   text-is = rw (gather-gather, sub-zero)
 
   pub length-text : length (textOf n starts neighbours) ≡ length (firstLine n starts) + length (rowsFrom n G 0)
-  length-text = ap length text-is ∙ length-append (firstLine n starts) (rowsFrom n G 0)
+  length-text = ap length text-is ∙ length-append (firstLine n starts) _
 
 -- ---- the length of a row's lines, of which i are counted
 
@@ -115,15 +115,15 @@ module _ {n : ℕ} {starts neighbours : List ℕ} (acc : Accepted n starts neigh
   start-few : (v : ℕ) → v ≤ n → getD starts v 0 ≤ 32768
   start-few v h = omega (arith, start-last n starts (acc .lists .rising) v h, acc .lists .few-links, acc .lists .even)
 
-  pub own-few : (v : ℕ) → v < n → length (neighboursOf starts neighbours v) ≤ 32768
-  own-few v h = omega (arith, own-end v h, start-few (v + 1) (omega arith))
+  pub own-few : {v : ℕ} → v < n → length (neighboursOf starts neighbours v) ≤ 32768
+  own-few {v} h = omega (arith, own-end v h, start-few (v + 1) (omega arith))
 
   pub text-none : {total : ℕ} → total ≡ length (firstLine n starts) → total ≤ 24 → TextCounted n starts neighbours total 0
   text-none e h = record { within = omega arith; sum = omega (arith, length-text n starts neighbours); few = omega arith }
 
   module _ {total v : ℕ} (c : TextCounted n starts neighbours total v) where
     pub total-few : total ≤ 1000000
-    total-few = omega (arith, start-few v (c .within))
+    total-few = omega (arith, start-few _ (c .within))
 
     pub text-more : {r : ℕ} → v < n
         → (r ≡ length (linesOf v (neighboursOf starts neighbours v))) × (r ≤ 24 * length (neighboursOf starts neighbours v))
@@ -145,7 +145,7 @@ module _ (n : ℕ) (starts neighbours buffer : List ℕ) where
   Promised r = (r ≡ writing n starts neighbours buffer) × WriteRight n starts neighbours r
 
   kept : {r : AfterWriting} → r ≡ writing n starts neighbours buffer → Promised r
-  kept e = promised (WriteRight n starts neighbours) (writing-right n starts neighbours buffer) e
+  kept e = promised (WriteRight n starts neighbours) (writing-right _ _ _ _) e
 
   pub writing-refused : (r : Refusal) → refused (number r) ≡ accepting n starts neighbours
       → Promised (writeReturned (counting.Refused r) buffer)
@@ -157,7 +157,7 @@ module _ (n : ℕ) (starts neighbours buffer : List ℕ) where
         → Promised (writeReturned (counting.Refused ShortBuffer) buffer)
     unfolding writing
     writing-short h = kept (
-        sym (write-short (textOf n starts neighbours) buffer h)
+        sym (write-short (textOf n starts neighbours) _ h)
         ∙ ap (λ (o : Outcome (Unit {0})). writingOf o (textOf n starts neighbours) buffer) e
         )
 
@@ -166,5 +166,5 @@ module _ (n : ℕ) (starts neighbours buffer : List ℕ) where
         → Promised (writeReturned (counting.Count k) b)
     writing-whole h i j = kept (
         ap₂ (λ (x : List ℕ) (y : ℕ). writeReturned (counting.Count y) x) i j
-        ∙ sym (writing-answers n starts neighbours (accepting-facts n starts neighbours tt (sym e)) buffer h)
+        ∙ sym (writing-answers _ _ _ (accepting-facts _ _ _ _ (sym e)) _ h)
         )

@@ -30,7 +30,7 @@ use Rattle.table_report.proofs.Reports.{report-same}
 
 -- not above n: below n + 1
 not-above : (x n : ℕ) → not (ltb n x) ≡ ltb x (n + 1)
-not-above x n = not-ltb n x ∙ sym (leb·suc-suc x n) ∙ ap (ltb x) (sym (add-one n))
+not-above x n = not-ltb n x ∙ sym (leb·suc-suc x n) ∙ ap (ltb x) (sym (add-one _))
 
 or-group : (a b c d : Bool) → (a || b || c || d) ≡ (a || (b || c || d))
 or-group true b c d = refl
@@ -52,9 +52,9 @@ room-is n s f l r h =
 -- ---- what was built
 
 -- the hubs stand in front of their list and are nodes
-pub chosen-below : (n s : ℕ) (G : Graph) (list : List ℕ) {list′ : List ℕ} {count : ℕ} → count ≡ length (hubs n s G)
+pub chosen-below : {n : ℕ} (s : ℕ) (G : Graph) (list : List ℕ) {list′ : List ℕ} {count : ℕ} → count ≡ length (hubs n s G)
     → list′ ≡ over (hubList n s G) list → (h : ℕ) → T (has h (take count list′)) → h < n
-chosen-below n s G list {list′} {count} c e = rw (hubs-front n s G list list′ count c e) (hubs-below n G s)
+chosen-below {n} s G list {list′} {count} c e = rw (hubs-front n s G list list′ count c e) (hubs-below _ _ _)
 
 -- the hubs were chosen, and the tables filled for them; ′ marks what a list holds at return
 pub record Filled (n s : ℕ) (G : Graph) (full low report list full′ low′ report′ list′ : List ℕ) (count : ℕ) : Type 0 where
@@ -75,7 +75,7 @@ tables-built {n} {s} {G} {full} {low} {report} {list} {full′} {low′} {report
     f .report-is
     ∙ ap (λ (hs : List ℕ). over (reportOf n full′ low′ hs) report) front
     ∙ ap₂ (λ (x y : List ℕ). over (reportOf n x y (hubs n s G)) report) full-built (f .low-is)
-    ∙ ap (λ (t : List ℕ). over t report) (report-same n _ _ full low (hubs n s G) (hubs-below n G s)) in
+    ∙ ap (λ (t : List ℕ). over t report) (report-same n _ _ full low (hubs n s G) (hubs-below _ _ _)) in
     λ i. record { answer = answered (f .counted i); full = full-built i; low = f .low-is i; report = report-built i; hubs = f .hubs-are i }
 
 -- ---- the refusals, in their order
@@ -90,9 +90,9 @@ Promised n starts neighbours full low report list r =
     (r ≡ building n starts neighbours full low report list) × BuildRight n (threshold n) starts neighbours r
 
 -- it holds where the value of `building` is returned
-kept : (n : ℕ) (starts neighbours full low report list : List ℕ) {r : AfterBuilding} → r ≡ building n starts neighbours full low report list
+kept : {n : ℕ} {starts neighbours : List ℕ} (full low report list : List ℕ) {r : AfterBuilding} → r ≡ building n starts neighbours full low report list
     → Promised n starts neighbours full low report list r
-kept n starts neighbours full low report list e =
+kept {n} {starts} {neighbours} full low report list e =
     promised (BuildRight n (threshold n) starts neighbours) (building-right n starts neighbours full low report list) e
 
 -- a refusal, which leaves the lists as they were
@@ -116,9 +116,9 @@ module _ {n : ℕ} {starts full low report list : List ℕ} where
   room-of some-node size e =
       let A = ltb (length starts) (n + 1) in
       let B = shortTables n (length full) (length low) (length report) in
-      let d = of-or-false (A || B) (ltb (length list) n) e in
-      let a = of-or-false A B (d .0) in
-      let tables = of-long-tables n (length full) (length low) (length report) (a .1) in
+      let d = of-or-false _ (ltb (length list) n) e in
+      let a = of-or-false _ _ (d .0) in
+      let tables = of-long-tables _ _ _ _ (a .1) in
       record {
         some-node = some-node;
         size = size;
@@ -133,23 +133,23 @@ module _ {n : ℕ} {starts full low report list : List ℕ} where
   module _ {neighbours : List ℕ} where
     pub build-size : badSize n ≡ true → Refuses n starts neighbours full low report list NodeCount
     unfolding building
-    build-size b = kept n starts neighbours full low report list (rw b)
+    build-size b = kept _ _ _ _ (rw b)
 
     pub build-short : 1 ≤ n → n ≤ 1024 → short n starts full low report list ≡ true → Refuses n starts neighbours full low report list ShortList
     unfolding building
-    build-short some-node size h = kept n starts neighbours full low report list (rw (good-size n some-node size, h))
+    build-short some-node size h = kept _ _ _ _ (rw (good-size n some-node size, h))
 
     module _ (room : Room n starts full low report list) where
       pub build-other : isSurvey n starts neighbours ≡ false → Refuses n starts neighbours full low report list NotSurvey
       unfolding building
-      build-other i = kept n starts neighbours full low report list (rw (good-size n (room .some-node) (room .size), room .not-short, i))
+      build-other i = kept _ _ _ _ (rw (good-size _ (room .some-node) (room .size), room .not-short, i))
 
       pub build-accepted : isSurvey n starts neighbours ≡ true → Accepted n starts neighbours
       build-accepted i = record {
         some-node = room .some-node;
         size = room .size;
         room = room .starts-room;
-        lists = survey-facts n starts neighbours (true-T (isSurvey n starts neighbours) i);
+        lists = survey-facts _ _ _ (true-T (isSurvey n starts neighbours) i);
       }
 
       pub build-done : {s count : ℕ} {full′ low′ report′ list′ : List ℕ} → Accepted n starts neighbours → s ≡ threshold n
@@ -157,7 +157,7 @@ module _ {n : ℕ} {starts full low report list : List ℕ} where
           ≡ built n s (neighboursOf starts neighbours) full low report list
           → Promised n starts neighbours full low report list (buildReturned (counting.Count count) full′ low′ report′ list′)
       build-done accepted t e =
-          kept n starts neighbours full low report list (
+          kept _ _ _ _ (
           e ∙ ap (λ (x : ℕ). built n x (neighboursOf starts neighbours) full low report list) t
-          ∙ sym (building-answers n starts neighbours accepted full low report list (room .full-room) (room .low-room) (room .report-room)
+          ∙ sym (building-answers _ _ _ accepted _ _ _ _ (room .full-room) (room .low-room) (room .report-room)
           (room .hubs-room)))

@@ -37,13 +37,13 @@ pub record FullTo (n : ℕ) (G : Graph) (hs t full : List ℕ) (i : ℕ) : Type 
 -- at first the front of a list t is filled with none
 module _ (n : ℕ) (t : List ℕ) {front : List ℕ} (room : n * n ≤ length t) (filled : front ≡ replicate (length (take (n * n) t)) none) where
   same-front : front ≡ replicate (n * n) none
-  same-front = filled ∙ ap (λ (k : ℕ). replicate k none) (length-take-le (n * n) t room)
+  same-front = filled ∙ ap (λ (k : ℕ). replicate k none) (length-take-le _ t room)
 
   front-length : length front ≡ n * n
-  front-length = ap length same-front ∙ length-replicate (n * n) none
+  front-length = ap length same-front ∙ length-replicate _ _
 
   same-rest : drop (n * n) (front ++ drop (n * n) t) ≡ drop (n * n) t
-  same-rest = drop-at front (drop (n * n) t) (n * n) front-length
+  same-rest = drop-at front _ (n * n) front-length
 
   pub filled-length : length (front ++ drop (n * n) t) ≡ length t
   filled-length = length-append front (drop (n * n) t) ∙ omega (arith, front-length, length-drop (n * n) t)
@@ -56,15 +56,15 @@ module _ (n : ℕ) (t : List ℕ) {front : List ℕ} (room : n * n ≤ length t)
     same = refl;
     rows =
         ap (λ (l : List ℕ). l ++ drop (n * n) t) same-front
-        ∙ one-value n none t
-        ∙ over-same n (λ a b. none) t (front ++ drop (n * n) t) (sym same-rest);
+        ∙ one-value _ _ _
+        ∙ over-same n _ t (front ++ drop (n * n) t) (sym same-rest);
   }
 
   pub full-done : {G : Graph} {hs full : List ℕ} {i : ℕ} → FullTo n G hs (front ++ drop (n * n) t) full i → length hs ≤ i
       → full ≡ over (fullOf n G hs) t
   full-done {G} {hs} {i = i} r h =
       let t′ = front ++ drop (n * n) t in
-      r .rows ∙ ap (λ (l : List ℕ). over (fullOf n G l) t′) (take-all i hs h) ∙ over-same n (fullEntry n G hs) t′ t same-rest
+      r .rows ∙ ap (λ (l : List ℕ). over (fullOf n G l) t′) (take-all i hs h) ∙ over-same _ _ _ _ same-rest
 
 -- one hub more
 module _ {n : ℕ} {G : Graph} {hs t full : List ℕ} {i : ℕ} (r : FullTo n G hs t full i) (h : i < length hs) where
@@ -75,13 +75,13 @@ module _ {n : ℕ} {G : Graph} {hs t full : List ℕ} {i : ℕ} (r : FullTo n G 
   more = ap (λ (k : ℕ). take k hs) (add-one i) ∙ take-suc hs i 0 h
 
   taken : T (has hub (take (i + 1) hs))
-  taken = rw more (has-later hub (take i hs) (hub ∷ []) (has-head hub []))
+  taken = rw more (has-later hub (take i hs) _ (has-head hub []))
 
   others : (u : ℕ) → (u ≡ hub → ⊥) → has u (take i hs) ≡ has u (take (i + 1) hs)
   others u d =
-      same-test (has u (take i hs)) (has u (take i hs ++ hub ∷ []))
+      same-test _ _
       (λ t. has-append u (take i hs) (hub ∷ []) t)
-      (λ t. at (of-append u (take i hs) (hub ∷ []) t))
+      (λ t. at (of-append _ _ _ t))
       ∙ ap (has u) (sym more)
     where
       at : T (has u (take i hs)) ⊎ T (has u (hub ∷ [])) → T (has u (take i hs))
@@ -99,7 +99,7 @@ module _ {n : ℕ} {G : Graph} {hs t full : List ℕ} {i : ℕ} (r : FullTo n G 
       ∙ row-same n (fewest (linked n G) n hub) (F hub) (λ b l. rw (T-true (has hub (take (i + 1) hs)) taken)) in
       let rows : full′ ≡ over (fullOf n G (take (i + 1) hs)) t =
       e ∙ ap₂ (λ (x y : List ℕ). written x (hub * n) y) (r .rows) row
-      ∙ put-row n hub k (fullEntry n G (take i hs)) F t (λ a b ha hb d.
+      ∙ put-row _ _ k _ _ _ (λ a b ha hb d.
       ap (λ (x : Bool). if x then fewest (linked n G) n a b else none) (others a d)) in
       record { within = omega arith; room = r .room; same = ap length rows ∙ over-length n F t (r .room); rows = rows }
 
@@ -108,7 +108,7 @@ module _ {n : ℕ} {G : Graph} {hs t full : List ℕ} {i : ℕ} (r : FullTo n G 
 module _ (n s : ℕ) (G : Graph) (g : IsGraph n G) where
   -- a search from a low node does not reach a high one
   high-missed : (a b : ℕ) → a < n → T (isLow s G a) → (T (isLow s G b) → ⊥) → fewest (lowLinks n s G) n a b ≡ none
-  high-missed a b ha la nb = fewest-missing (lowLinks n s G) n a (low-ends n s G g) ha b (λ k c. at k c)
+  high-missed a b ha la nb = fewest-missing _ _ _ (low-ends _ _ _ g) ha _ (λ k c. at k c)
     where
       at : Unjoined (lowLinks n s G) a b
       at zero c = nb (subst (λ (x : ℕ). T (isLow s G x)) (chain-zero c) la)
@@ -119,8 +119,8 @@ module _ (n s : ℕ) (G : Graph) (g : IsGraph n G) where
       → map (λ b. if p a then fewest (between p (linked n G)) n a b else none) (upTo n) ≡ map (lowEntry n s G a) (upTo n)
   unfolding lowLinks
   low-row p is a ha =
-      row-same n (λ b. if p a then fewest (between p (linked n G)) n a b else none) (lowEntry n s G a) (λ b hb.
-      ap₂ (λ (x : Bool) (E : Edges). if x then fewest E n a b else none) (is a ha) (between-same p (isLow s G) n G is)
+      row-same _ _ _ (λ b hb.
+      ap₂ (λ (x : Bool) (E : Edges). if x then fewest E n a b else none) (is _ ha) (between-same p (isLow s G) n G is)
       ∙ at b (isLow s G a) refl (passes (isLow s G b)))
     where
       at : (b : ℕ) (x : Bool) → isLow s G a ≡ x → T (isLow s G b) ⊎ (T (isLow s G b) → ⊥)
@@ -138,7 +138,7 @@ module _ {n : ℕ} (s : ℕ) (G : Graph) {t low : List ℕ} {a : ℕ} (r : RowsT
   low-next {p} {E} g h q links e =
       let row : map (λ b. if p a then fewest E n a b else none) (upTo n) ≡ map (lowEntry n s G a) (upTo n) =
       ap (λ (E : Edges). map (λ b. if p a then fewest E n a b else none) (upTo n)) links
-      ∙ low-row n s G g p (low-are n s G p q) a h in
+      ∙ low-row n s G g p (low-are _ _ _ _ q) a h in
       rows-next r h (e ∙ ap (written low (a * n)) row)
 
   pub low-done : n ≤ a → low ≡ over (lowTable n s G) t

@@ -37,8 +37,8 @@ module _ {n : ℕ} {f : ℕ → ℕ} {node most v : ℕ} (l : Leading n f node m
   leading-taken p = record {
     within = omega arith;
     below = h;
-    holds = le-refl (f v);
-    greatest = below-next (λ (w : ℕ). f w ≤ f v) v (λ w q. omega (arith, l .greatest w q)) (le-refl (f v));
+    holds = le-refl _;
+    greatest = below-next (λ (w : ℕ). f w ≤ f v) v (λ w q. omega (arith, l .greatest w q)) (le-refl _);
     ties = λ w q. omega (arith, l .greatest w q);
   }
 
@@ -53,7 +53,7 @@ module _ {n : ℕ} {f : ℕ → ℕ} {node most v : ℕ} (l : Leading n f node m
 
 pub leading-best : {n node most v : ℕ} (G : Graph) (U : List ℕ) → Leading n (gain G U) node most v → n ≤ v → node ≡ best n G U
 leading-best {n} {node} G U l h =
-    sym (best-of n G U node (record {
+    sym (best-of _ _ _ _ (record {
       below = l .below;
       most = λ w q. omega (arith, l .greatest w (omega arith), l .holds);
       ties = λ w q. omega (arith, l .ties w q, l .holds);
@@ -84,7 +84,7 @@ module _ (n : ℕ) (G : Graph) where
   unfolding gain
   fewer [] p b = absurd (omega arith)
   fewer (u ∷ U) p b =
-      omega (arith, keep-split (λ x. has x (closed G (best n G (u ∷ U)))) (u ∷ U), best-gains n G u U (b u (has-head u U)))
+      omega (arith, keep-split (λ x. has x (closed G (best n G (u ∷ U)))) (u ∷ U), best-gains n G u U (b u (has-head _ _)))
 
 -- the hubs chosen so far are written, and the greedy choice for the uncovered nodes gives the others
 pub record Choosing (n s : ℕ) (G : Graph) (list₀ list us : List ℕ) (count : ℕ) : Type 0 where
@@ -136,7 +136,7 @@ module _ {n s : ℕ} {G : Graph} {list₀ list us : List ℕ} {count : ℕ} (c :
 
   -- where the smallest member is below n, some node is uncovered
   pub choosing-some : {r : ℕ} → r ≡ firstOf (member us) (64 * length us) (upTo (64 * length us)) → r < n → 0 < length (uncovered n us)
-  choosing-some {r} e h = length-pos r W (some-left n us (c .long) (c .size) e h)
+  choosing-some {r} e h = length-pos r W (some-left _ _ (c .long) (c .size) e h)
 
   -- then the best node is written
   module _ (some : 0 < length (uncovered n us)) where
@@ -178,20 +178,20 @@ module _ {n s : ℕ} {G : Graph} {list₀ list us : List ℕ} {count : ℕ} (c :
     whole : Wrote list₀ list 0 count hs
     whole =
         let no-more : greedy n G (c .turns) W ≡ [] =
-        ap (greedy n G (c .turns)) (none-left n us (c .long) (c .size) e h) ∙ greedy-none n G (c .turns) in
+        ap (greedy n G (c .turns)) (none-left _ _ (c .long) (c .size) e h) ∙ greedy-none n G (c .turns) in
         left-none (subst (Left list₀ list 0 count hs) no-more (c .written))
 
     pub choosing-all : {t : List ℕ} → t ≡ replicate (length (midOf count (n - count) list)) none
         → (count ≡ length (hubs n s G)) × (putMid count (n - count) list t ≡ over (hubList n s G) list₀)
     unfolding hubList
     choosing-all {t} q =
-        let k : count ≡ length hs = wrote-over hs whole .1 in
-        let f : length (midOf count (n - count) list) ≡ n - count = mid-len count n list (choosing-part .1) in
+        let k : count ≡ length hs = wrote-over _ whole .1 in
+        let f : length (midOf count (n - count) list) ≡ n - count = mid-len _ _ _ (choosing-part .1) in
         let nones : t ≡ replicate (n - count) none = q ∙ ap (λ (j : ℕ). replicate j none) f in
-        let l : length t ≡ n - count = ap length nones ∙ length-replicate (n - count) none in
+        let l : length t ≡ n - count = ap length nones ∙ length-replicate (n - count) _ in
         let both = wrote-then (omega (arith, choosing-part .0, c .entries)) whole (wrote-part list count n t (choosing-part .0) l) in (
           k,
-          wrote-over (hs ++ t) both .0
+          wrote-over _ both .0
               ∙ ap (λ (b : List ℕ). over (hs ++ b) list₀) (nones ∙ ap (λ (j : ℕ). replicate (n - j) none) k),
         )
 
@@ -203,4 +203,4 @@ hubs-front n s G list list′ count c e =
     let hs : List ℕ = hubs n s G in
     let more : List ℕ = replicate (n - length hs) none in
     ap₂ (λ (k : ℕ) (l : List ℕ). take k l) c (e ∙ append-assoc hs more (drop (length (hs ++ more)) list))
-    ∙ take-at hs (more ++ drop (length (hs ++ more)) list) (length hs) refl
+    ∙ take-at hs (more ++ drop (length (hs ++ more)) list) _ refl

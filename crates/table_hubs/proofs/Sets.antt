@@ -35,7 +35,7 @@ module _ {list w₀ ws : List ℕ} {i : ℕ} (h : Inserted list w₀ ws i) where
     same = k ∙ h .same;
     says = λ x.
         ap (λ (p : Nodes). has x (drop (i + 1) list) || p x) e
-        ∙ or-turned (has x (drop (i + 1) list)) (eqb x (getD list i 0)) (member ws x)
+        ∙ or-turned (has x (drop (i + 1) list)) (eqb x (getD list i 0)) _
         ∙ ap (λ (r : List ℕ). has x r || member ws x) (sym (drop-next list i l)) ∙ h .says x;
   }
 
@@ -46,14 +46,14 @@ module _ {list w₀ ws : List ℕ} {i : ℕ} (h : Inserted list w₀ ws i) where
 -- ---- the closed neighbourhood of a node
 
 -- the node is put into the empty set w₀, which gives p, and then its neighbours, which gives q
-pub closed-set : (G : Graph) (v : ℕ) {w₀ row : List ℕ} {p q : Nodes} → w₀ ≡ replicate 16 0 → p ≡ inserted (member w₀) v
+pub closed-set : (G : Graph) {v : ℕ} {w₀ row : List ℕ} {p q : Nodes} → w₀ ≡ replicate 16 0 → p ≡ inserted (member w₀) v
     → row ≡ G v → q ≡ (λ x. has x row || p x) → q ≡ (λ x. has x (closed G v))
 unfolding closed has inserted emptySet
-closed-set G v {p = p} empty node own all =
+closed-set G {v} {p = p} empty node own all =
     let alone : p ≡ inserted emptySet v = node ∙ ap (λ (m : Nodes). inserted m v) (ap member empty ∙ empty-words 16) in
     all ∙ fun-ext (λ x.
     ap₂ (λ (l : List ℕ) (m : Nodes). has x l || m x) own alone
-    ∙ ap (λ (b : Bool). has x (G v) || b) (or-false (eqb x v))
+    ∙ ap (λ (b : Bool). has x (G v) || b) (or-false _)
     ∙ or-comm (has x (G v)) (eqb x v))
 
 closed-below : {n : ℕ} {G : Graph} → IsGraph n G → (v : ℕ) → v < n → (x : ℕ) → T (has x (closed G v)) → x < n
@@ -74,37 +74,37 @@ pub gain-words : {n : ℕ} {starts neighbours : List ℕ} → Accepted n starts 
 unfolding gain intersection
 gain-words {n} {starts} {neighbours} a v h ws us l e =
     let near : Nodes = λ x. has x (closed (neighboursOf starts neighbours) v) in
-    let both : Nodes = λ x. member us x && near x in
+    let both : Nodes = λ x. member us x && near _ in
     let swapped : intersection (member ws) (member us) ≡ both =
-    fun-ext (λ x. ap (λ (p : Nodes). p x && member us x) e ∙ and-comm (near x) (member us x)) in
+    fun-ext (λ x. ap (λ (p : Nodes). p x && member us x) e ∙ and-comm (near _) _) in
     let k : 64 * length ws ≡ 1024 = omega arith in
     ap₂ (λ (p : Nodes) (m : ℕ). length (keep p (upTo m))) swapped k
     ∙ ap length (
-    keep-below both n 1024 (a .size) (λ x t. closed-below (a .lists .graph) v h x (and-r (member us x) (near x) t))
-    ∙ sym (keep-keep near (member us) (upTo n)))
+    keep-below _ _ _ (a .size) (λ x t. closed-below (a .lists .graph) _ h _ (and-r (member us x) (near _) t))
+    ∙ sym (keep-keep _ _ _))
 
 -- where the smallest member is below n, some node is uncovered; where it is not, none is
 module _ (n : ℕ) (us : List ℕ) (long : length us ≡ 16) (size : n ≤ 1024)
     {r : ℕ} (e : r ≡ firstOf (member us) (64 * length us) (upTo (64 * length us))) where
   pub some-left : r < n → T (has r (uncovered n us))
-  some-left h = at (first-of (member us) (64 * length us) (64 * length us) e)
+  some-left h = at (first-of _ _ _ e)
     where
       at : First (member us) (64 * length us) 0 (64 * length us) r → T (has r (uncovered n us))
       at (found lo hi t least) = has-keep (member us) (upTo n) r (has-upTo n r h) t
       at (nothing q miss) = absurd (omega arith)
 
   pub none-left : n ≤ r → uncovered n us ≡ []
-  none-left h = keep-none (member us) (upTo n) (λ x m t. past-smallest n us (omega arith) r e h x (of-upTo n x m) t)
+  none-left h = keep-none _ _ (λ x m t. past-smallest n us (omega arith) r e h x (of-upTo _ _ m) t)
 
 -- at first the high nodes are uncovered
 pub high-kept : (n s : ℕ) (G : Graph) {p : Nodes} → p ≡ (λ x. ltb x n && isHigh s G x)
     → keep p (upTo n) ≡ keep (isHigh s G) (upTo n)
 high-kept n s G e =
     ap (λ (p : Nodes). keep p (upTo n)) e
-    ∙ keep-same (λ x. ltb x n && isHigh s G x) (isHigh s G) (upTo n) (λ x m t. and-r (ltb x n) (isHigh s G x) t)
-    (λ x m t. subst (λ (b : Bool). T (b && isHigh s G x)) (sym (lt-ltb x n (of-upTo n x m))) t)
+    ∙ keep-same _ _ _ (λ x m t. and-r (ltb x n) (isHigh s G x) t)
+    (λ x m t. subst (λ (b : Bool). T (b && isHigh s G x)) (sym (lt-ltb x n (of-upTo _ _ m))) t)
 
 -- what is left of the uncovered nodes p without the set c
 pub covered-kept : (n : ℕ) (p c : Nodes) {q : Nodes} → q ≡ difference p c → keep q (upTo n) ≡ keep (λ x. not (c x)) (keep p (upTo n))
 unfolding difference
-covered-kept n p c e = ap (λ (f : Nodes). keep f (upTo n)) e ∙ sym (keep-keep (λ x. not (c x)) p (upTo n))
+covered-kept n p c e = ap (λ (f : Nodes). keep f (upTo n)) e ∙ sym (keep-keep _ _ _)

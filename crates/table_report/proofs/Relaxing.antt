@@ -10,7 +10,7 @@ use lib.Seq.{take-all, append-snoc, take-suc-set, drop-set-lt}
 use Rattle.model.proofs.Loops.{drop-next}
 use Rattle.table_report.specs.Relaxed.{relaxed}
 
--- after b entries: the front is improved, and what is left still says the whole
+-- after b entries: the front is improved, and what is left still determines the result
 pub record Relaxing (x : ℕ) (other row₀ row : List ℕ) (b : ℕ) : Type 0 where
   pub long : length row₀ ≡ length other
   pub within : b ≤ length row

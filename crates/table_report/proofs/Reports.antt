@@ -1,4 +1,4 @@
--- A row of Report, hub by hub; and Report, row by row.
+-- A row of Report, hub by hub; and Report from tables that stand in front of longer lists.
 -- Assumes nothing.
 use mathlib.Core.Path.{_≡_, refl, sym, ap, ap₂, _∙_}
 use mathlib.Core.Logic.{_⊎_, inl, inr}
@@ -11,10 +11,10 @@ use borrow.Author.Tests.{eq-eqb, ne-eqb}
 use borrow.Rule.Slice.PartMut.{midOf}
 use lib.Dec.{T, eqb}
 use lib.ListN.{length, getD, take, drop, set, length-set}
-use lib.Seq.{take-at, ext-getD, getD-take, getD-drop, take-suc, take-all, getD-set-same, getD-set-other}
+use lib.Seq.{take-at, getD-take, getD-drop, take-suc, take-all, getD-set-same, getD-set-other}
 use Rattle.base_lists.specs.Written.{Wrote}
 use Rattle.base_lists.proofs.Written.{wrote-over, over-whole}
-use Rattle.base_lists.proofs.TableRows.{part-length, row-same, table-same}
+use Rattle.base_lists.proofs.TableRows.{part-length, is-row, row-same, table-same}
 use Rattle.model.specs.Basics.{none, if_then_else_, upTo, has, over}
 use Rattle.model.specs.Tables.{table, entryAt, sum, via, least, reportEntry, reportOf}
 use Rattle.model.proofs.Allowance.{least-base}
@@ -23,18 +23,11 @@ use Rattle.model.proofs.Lists.{has-head, has-tail}
 use Rattle.model.proofs.Tests.{eq-or}
 use Rattle.table_report.specs.Relaxed.{relaxed}
 
--- a list of n entries is a row if its entries are
-is-row : (n : ℕ) (f : ℕ → ℕ) (l : List ℕ) → length l ≡ n → ((b : ℕ) → b < n → getD l b 0 ≡ f b) → l ≡ map f (upTo n)
-is-row n f l size e =
-    ext-getD 0 l (map f (upTo n)) (size ∙ sym (length-row f n)) (λ b k.
-    let j : b < n = omega (arith, size) in
-    e b j ∙ sym (getD-row f n b 0 j))
-
 -- row a of a table, as a part of the list
 own-row : (n a : ℕ) (t : List ℕ) → a < n → n * n ≤ length t → midOf (a * n) (a * n + n - a * n) t ≡ map (entryAt n t a) (upTo n)
 unfolding entryAt
 own-row n a t h room =
-    is-row n (entryAt n t a) (midOf (a * n) (a * n + n - a * n) t) (part-length n a t h room) (λ b k.
+    is-row _ _ _ (part-length n a t h room) (λ b k.
     getD-take (a * n + n - a * n) (drop (a * n) t) b 0 (omega arith) ∙ getD-drop (a * n) t b 0)
 
 relaxed-row : (x : ℕ) (f g : ℕ → ℕ) (l : List ℕ) → relaxed x (map f l) (map g l) ≡ map (λ b. min (x + f b) (g b)) l
@@ -43,9 +36,9 @@ relaxed-row x f g [] = refl
 relaxed-row x f g (y ∷ l) = ap (λ (r : List ℕ). min (x + f y) (g y) ∷ r) (relaxed-row x f g l)
 
 -- a sum with a none in it is never the lesser
-lesser-sum : (x y e : ℕ) → e ≤ none → min (x + y) e ≡ min (sum x y) e
+lesser-sum : (x y : ℕ) {e : ℕ} → e ≤ none → min (x + y) e ≡ min (sum x y) e
 unfolding sum
-lesser-sum x y e h = at (eq-or x none) (eq-or y none)
+lesser-sum x y {e} h = at (eq-or _ _) (eq-or _ _)
   where
     at : (x ≡ none) ⊎ (x ≡ none → ⊥) → (y ≡ none) ⊎ (y ≡ none → ⊥)
         → min (x + y) e ≡ min (if eqb x none || eqb y none then none else x + y) e
@@ -75,7 +68,7 @@ pub row-none : {n e : ℕ} {full low hs : List ℕ} {a : ℕ} {row₀ row : List
     → Wrote row₀ row 0 e (midOf (a * n) (a * n + n - a * n) low) → RowTo n full low hs a row 0
 row-none {n} {low = low} {a = a} {row₀} {row} room h long w =
     let part = midOf (a * n) (a * n + n - a * n) low in
-    let copied : row ≡ part = wrote-over part w .0 ∙ over-whole part row₀ (long ∙ sym (part-length n a low h room)) in
+    let copied : row ≡ part = wrote-over _ w .0 ∙ over-whole _ _ (long ∙ sym (part-length n a _ h room)) in
     record {
       within = omega arith;
       long = ap length copied ∙ part-length n a low h room;
@@ -94,20 +87,20 @@ module _ {n : ℕ} {full low hs : List ℕ} {a : ℕ} {row : List ℕ} {k : ℕ}
       let more : take (k + 1) hs ≡ take k hs ++ u ∷ [] = ap (λ (j : ℕ). take j hs) (add-one k) ∙ take-suc hs k 0 h in
       let lesser : (b : ℕ) → b < n → min (entryAt n full u a + entryAt n full u b) (to k b) ≡ to (k + 1) b =
       λ b l.
-      lesser-sum (entryAt n full u a) (entryAt n full u b) (to k b)
+      lesser-sum _ _
       (omega (arith, small (a * n + b), least-base (via n full a b) (entryAt n low a b) (take k hs)))
       ∙ sym (least-snoc (via n full a b) (entryAt n low a b) u (take k hs))
       ∙ ap (least (via n full a b) (entryAt n low a b)) (sym more) in
       let says : row′ ≡ map (to (k + 1)) (upTo n) =
-      e ∙ ap₂ (relaxed (entryAt n full u a)) (own-row n u full below room) (r .says)
-      ∙ relaxed-row (entryAt n full u a) (entryAt n full u) (to k) (upTo n)
-      ∙ row-same n (λ b. min (entryAt n full u a + entryAt n full u b) (to k b)) (to (k + 1)) lesser in
+      e ∙ ap₂ (relaxed (entryAt n full u a)) (own-row n u _ below room) (r .says)
+      ∙ relaxed-row _ (entryAt n full u) (to k) (upTo n)
+      ∙ row-same n _ _ lesser in
       record { within = omega arith; long = ap length says ∙ length-row (to (k + 1)) n; says = says }
 
   -- all hubs, and 0 at a itself
   pub row-done : length hs ≤ k → a < n → set row a 0 ≡ map (reportEntry n full low hs a) (upTo n)
   row-done h l =
-      is-row n (reportEntry n full low hs a) (set row a 0) (length-set row a 0 ∙ r .long) (λ b j. at b j (eq-or a b))
+      is-row _ _ _ (length-set row a 0 ∙ r .long) (λ b j. at b j (eq-or _ _))
     where
       at : (b : ℕ) → b < n → (a ≡ b) ⊎ (a ≡ b → ⊥) → getD (set row a 0) b 0 ≡ reportEntry n full low hs a b
       at b j (inl e) =
@@ -120,21 +113,19 @@ module _ {n : ℕ} {full low hs : List ℕ} {a : ℕ} {row : List ℕ} {k : ℕ}
           ∙ getD-row (leastTo n full low hs a k) n b 0 j
           ∙ ap (least (via n full a b) (entryAt n low a b)) (take-all k hs h))
 
--- ---- Report, row by row
-
 -- ---- Report from tables that stand in front of longer lists
 
 entry-over : (n : ℕ) (f : ℕ → ℕ → ℕ) (t : List ℕ) (a b : ℕ) → a < n → b < n
     → entryAt n (over (table n f) t) a b ≡ entryAt n (table n f) a b
 unfolding over
 entry-over n f t a b ha hb =
-    entry-front n (over (table n f) t) (table n f) (take-at (table n f) (drop (length (table n f)) t) (n * n) (length-table n f)) a b ha hb
+    entry-front n _ _ (take-at _ _ _ (length-table _ _)) a b ha hb
 
 pub report-same : (n : ℕ) (f g : ℕ → ℕ → ℕ) (full low hs : List ℕ) → ((h : ℕ) → T (has h hs) → h < n)
     → reportOf n (over (table n f) full) (over (table n g) low) hs ≡ reportOf n (table n f) (table n g) hs
 unfolding via
 report-same n f g full low hs below =
-    table-same n (reportEntry n full′ low′ hs) (reportEntry n (table n f) (table n g) hs) (λ a b ha hb.
+    table-same _ _ _ (λ a b ha hb.
     ap (λ (x : ℕ). if eqb a b then 0 else x) (at a b ha hb hs below))
   where
     full′ : List ℕ
@@ -147,5 +138,5 @@ report-same n f g full low hs below =
         → least (via n full′ a b) (entryAt n low′ a b) l ≡ least (via n (table n f) a b) (entryAt n (table n g) a b) l
     at a b ha hb [] below = entry-over n g low a b ha hb
     at a b ha hb (h ∷ l) below =
-        let k = below h (has-head h l) in
+        let k = below h (has-head _ _) in
         ap₂ min (ap₂ sum (entry-over n f full h a k ha) (entry-over n f full h b k hb)) (at a b ha hb l (λ u m. below u (has-tail u h l m)))

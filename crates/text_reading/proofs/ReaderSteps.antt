@@ -77,14 +77,14 @@ module _ {M : Type 1} {𝓤 : URA M} {H : Heap 𝓤} {A : Atoms 𝓤} {K : Type 
   local t n e = load t (from t (stop t)) (look t n e)
 
   module _ {G : Goal 𝓤 H} where
-    -- a text is Copy: what it owns is had twice
+    -- a text is Copy: what it owns is available twice
     pub text-twice : K → (κ : Lft) (s : RefT (List ℕ)) (vs : List Val)
         → Step K W (‵ (Text κ .own s vs) ∷ ‵ (Text κ .own s vs) ∷ Γ) G (‵ (Text κ .own s vs) ∷ Γ) G
     text-twice t κ s vs = step (λ r.
         use1 W (‵ (Text κ .own s vs) ⊛ ‵ (Text κ .own s vs)) (shr-slice-copy 𝓤 H A W (named 0) κ u8 .twice s vs) $
         split t $ r)
 
-    -- what a number owns is had for nothing; it is put in front of what the parameters behind it own
+    -- what a number owns always holds; it is put in front of what the parameters behind it own
     pub and-usize : K → (n : ℕ) → n < 2 ^ 64 → {P : Fml} → Step K W (‵ (fsep (usize .own n (vint w64 n ∷ [])) P) ∷ Γ) G (‵ P ∷ Γ) G
     and-usize t n ok = step (λ s. owned t usize (Is usize) (uint-makes 𝓤 H A W w64) n _ (refl, ok) $ fjoin t $ s)
 

@@ -99,9 +99,9 @@ module _ (t : List ℕ) (i : ℕ) (h : i < length t) where
   pub run-at-stop : (b < 48) ⊎ (57 < b) → i ≡ i + length (run (drop i t))
   run-at-stop s = rw (drop-next t i h, run-stop b rest (not-digit b s)) (omega arith)
 
-  pub turn : (v : ℕ) → Digits (drop i t) → Turn t i v
+  pub turn : {v : ℕ} → Digits (drop i t) → Turn t i v
   unfolding all valueFrom
-  turn v a =
+  turn a =
       let every : Digits (b ∷ rest) = rw (drop-next t i h) at a in
       let d = digit-bounds b (and-l (isDigit b) (all isDigit rest) every) in
       record {
@@ -111,11 +111,11 @@ module _ (t : List ℕ) (i : ℕ) (h : i < length t) where
         goes-on = rw (drop-next t i h);
       }
 
-pub run-at-end : (t : List ℕ) (i : ℕ) → length t ≤ i → i ≡ i + length (run (drop i t))
-run-at-end t i h = rw (drop-of-length-le t h, run-nil) (omega arith)
+pub run-at-end : (t : List ℕ) {i : ℕ} → length t ≤ i → i ≡ i + length (run (drop i t))
+run-at-end t h = rw (drop-of-length-le t h, run-nil) (omega arith)
 
-pub pow-turn : (v i d : ℕ) → v < 10 ^ i → d ≤ 9 → v * 10 + d < 10 ^ (i + 1)
-pow-turn v i d h k = rw (add-one, pow-suc) (omega arith)
+pub pow-turn : {v : ℕ} (i : ℕ) {d : ℕ} → v < 10 ^ i → d ≤ 9 → v * 10 + d < 10 ^ (i + 1)
+pow-turn i h k = rw (add-one, pow-suc) (omega arith)
 
-pub pow-nine : (v i : ℕ) → v < 10 ^ i → i < 10 → v < 1000000000
-pow-nine v i h k = lt-of-lt-of-le h (pow-le-pow-right {n = 10} (zero-lt-suc 9) {i = i} {j = 9} (omega arith))
+pub pow-nine : {v : ℕ} (i : ℕ) → v < 10 ^ i → i < 10 → v < 1000000000
+pow-nine i h k = lt-of-lt-of-le h (pow-le-pow-right {n = 10} (zero-lt-suc 9) {i = i} {j = 9} (omega arith))

@@ -1,4 +1,4 @@
--- What the reader of a number and of a line tests comes to the model's line: a number is found at a place exactly where the bytes there
+-- What the reader of a number and of a line tests gives the model's line: a number is found at a place exactly where the bytes there
 -- begin with its decimal text and no digit follows, and a line exactly where the bytes there begin with its text.
 -- Assumes nothing.
 use mathlib.Core.Path.{_≡_, refl, sym, ap, _∙_}
@@ -76,7 +76,7 @@ number-sound {s} {at} {v} {e} h = go (isNumber t) refl
         let ev : valueOf t ≡ v = cc in
         let ee : at + length t ≡ e = cc in
         let d : digits v ≡ t = ap digits (sym ev) ∙ digits-value t is in
-        let rest : drop (length t) (drop at s) ≡ drop e s = drop-drop (length t) at s ∙ ap (λ (k : ℕ). drop k s) ee in
+        let rest : drop (length t) (drop at s) ≡ drop e s = drop-drop _ at s ∙ ap (λ (k : ℕ). drop k s) ee in
         record {
           small = rw ev at (value-below t is);
           ends = rw d (sym ee);
@@ -93,9 +93,9 @@ number-complete : {s : List ℕ} {at v e : ℕ} → IsNumberAt s at v e → numb
 unfolding numberAt
 number-complete {s} {at} {v} {e} h =
     ap (λ (t : List ℕ). numberOf at (run t)) (h .text)
-    ∙ ap (numberOf at) (run-append (digits v) (drop e s) (digits-all v) (h .whole))
-    ∙ of-number at (digits v) (digits-number v (h .small))
-    ∙ rw (value-digits v, ← h .ends)
+    ∙ ap (numberOf at) (run-append _ _ (digits-all _) (h .whole))
+    ∙ of-number at (digits v) (digits-number _ (h .small))
+    ∙ rw (value-digits, ← h .ends)
 
 -- ---- what the reader of a number tests
 
@@ -106,20 +106,20 @@ none-short (b ∷ t) h = absurd (omega arith)
 
 none-long : (t : List ℕ) → 10 < length t → isNumber t ≡ false
 none-long [] h = absurd (omega arith)
-none-long (b ∷ t) h = no-false (isNumber (b ∷ t)) (λ n. let f = number-text b t n .few in omega arith)
+none-long (b ∷ t) h = no-false _ (λ n. let f = number-text _ _ n .few in omega arith)
 
 none-zero : (t : List ℕ) → 1 < length t → getD t 0 0 ≡ 48 → isNumber t ≡ false
 none-zero [] h e = absurd (omega arith)
 none-zero (b ∷ t) h e =
-    no-false (isNumber (b ∷ t)) (λ n.
-    ⊎-elim (λ z. omega arith) (λ z. T-not (eqb b 48) z (eq-T b 48 e)) (number-text b t n .lead))
+    no-false _ (λ n.
+    ⊎-elim (λ z. omega arith) (λ z. T-not (eqb b 48) z (eq-T b 48 e)) (number-text _ _ n .lead))
 
 some-number : (t : List ℕ) → Digits t → 0 < length t → length t ≤ 10 → (1 < length t → getD t 0 0 ≡ 48 → ⊥) → T (isNumber t)
 some-number [] a h k f = absurd (omega arith)
-some-number (b ∷ []) a h k f = text-number b [] (record { every = a; few = zero-le; lead = inl refl })
+some-number (b ∷ []) a h k f = text-number _ _ (record { every = a; few = zero-le; lead = inl refl })
 some-number (b ∷ c ∷ t) a h k f =
     let lead = inr (not-T (eqb b 48) (λ z. f (omega arith) (eqb→eq b 48 z))) in
-    text-number b (c ∷ t) (record { every = a; few = omega arith; lead = lead })
+    text-number _ _ (record { every = a; few = omega arith; lead = lead })
 
 -- s is the text, and the digits from place at on end at e
 module _ (s : List ℕ) (at : ℕ) {e : ℕ} (is : e ≡ at + length (run (drop at s))) where
@@ -134,21 +134,21 @@ module _ (s : List ℕ) (at : ℕ) {e : ℕ} (is : e ≡ at + length (run (drop 
   count = omega arith
 
   read-part : take (e - at) (drop at s) ≡ t
-  read-part = rw count (ap (take (length t)) (run-split (drop at s)) ∙ take-append-seam t rest)
+  read-part = rw count (ap (take (length t)) (run-split _) ∙ take-append-seam _ _)
 
   pub read-digits : e - at ≤ 10 → (length (take (e - at) (drop at s)) ≤ 10) × Digits (take (e - at) (drop at s))
-  read-digits h = rw read-part (omega (arith, count), run-all (drop at s))
+  read-digits h = rw read-part (omega (arith, count), run-all _)
 
   pub read-within : (e ≡ at → ⊥) → (at < length s) × (e ≤ length s)
   read-within h =
-      let f = ap length (run-split (drop at s)) ∙ length-append t rest in
+      let f = ap length (run-split _) ∙ length-append t rest in
       let g = length-drop at s in
       (omega arith, omega arith)
 
   first : 0 < e - at → getD t 0 0 ≡ getD s at 0
   first h =
       sym (List·getD-append t rest 0 0 (omega arith))
-      ∙ ap (λ (x : List ℕ). getD x 0 0) (sym (run-split (drop at s)))
+      ∙ ap (λ (x : List ℕ). getD x 0 0) (sym (run-split _))
       ∙ getD-drop at s 0 0
       ∙ ap (λ (k : ℕ). getD s k 0) (add-zero at)
 
@@ -157,20 +157,20 @@ module _ (s : List ℕ) (at : ℕ) {e : ℕ} (is : e ≡ at + length (run (drop 
   none h = rw h
 
   pub read-empty : e ≡ at → number.Malformed ≡ numberAt s at
-  read-empty h = none (none-short t (omega arith))
+  read-empty h = none (none-short _ (omega arith))
 
   pub read-long : 10 < e - at → number.Malformed ≡ numberAt s at
-  read-long h = none (none-long t (omega (arith, count)))
+  read-long h = none (none-long _ (omega (arith, count)))
 
   pub read-zero : 1 < e - at → getD s at 0 ≡ 48 → number.Malformed ≡ numberAt s at
-  read-zero h z = none (none-zero t (omega (arith, count)) (first (omega arith) ∙ z))
+  read-zero h z = none (none-zero _ (omega (arith, count)) (first (omega arith) ∙ z))
 
   pub read-found : {v : ℕ} → (e ≡ at → ⊥) → e - at ≤ 10 → (1 < e - at → getD s at 0 ≡ 48 → ⊥)
       → v ≡ valueOf (take (e - at) (drop at s)) → number.Value v e ≡ numberAt s at
   unfolding numberAt
   read-found h k z w =
       let no-zero : 1 < length t → getD t 0 0 ≡ 48 → ⊥ = λ l f. z (omega (arith, count)) (sym (first (omega arith)) ∙ f) in
-      let n = some-number t (run-all (drop at s)) (omega arith) (omega (arith, count)) no-zero in
+      let n = some-number t (run-all _) (omega arith) (omega (arith, count)) no-zero in
       rw (w ∙ ap valueOf read-part, is) (sym (of-number at t n))
 
 -- ---- what the reader of a line tests
@@ -268,7 +268,7 @@ number-first : (s : List ℕ) (i v : ℕ) {b : ℕ} {t : List ℕ} → v < 10 ^ 
     → (numberAt s i ≡ number.Value v (i + length (digits v))) × (drop (i + length (digits v)) s ≡ b ∷ t)
 number-first s i v {b} {t} h n e =
     let k = length (digits v) in
-    let d : drop (i + k) s ≡ b ∷ t = sym (drop-drop k i s) ∙ ap (drop k) e ∙ drop-append-seam (digits v) (b ∷ t) in
+    let d : drop (i + k) s ≡ b ∷ t = sym (drop-drop k i s) ∙ ap (drop k) e ∙ drop-append-seam (digits v) _ in
     (number-complete (record { small = h; ends = refl; text = rw d e; whole = rw d n }), d)
 
 at-complete : {s : List ℕ} {at letter a b e : ℕ} → IsLineAt s at letter a b e → lineAt s at letter ≡ pair.Pair a b e
@@ -279,14 +279,14 @@ at-complete {s} {at} {letter} {a} {b} {e} h =
     let two : at + 1 + 1 ≡ at + 2 = omega arith in
     let end : j + 1 ≡ e = omega (arith, h .ends, length-line letter a b) in
     let text : drop at s ≡ letter ∷ 44 ∷ (digits a ++ 44 ∷ (digits b ++ 10 ∷ drop e s)) = h .text ∙ simp append-assoc in
-    let name = has-first s at text in
+    let name = has-first _ at text in
     let comma = has-first s (at + 1) (name .1) in
     let na = number-first s (at + 2) a (h .small-a) tt (rw two at (comma .1)) in
-    let second-comma = has-first s i (na .1) in
-    let nb = number-first s (i + 1) b (h .small-b) tt (second-comma .1) in
+    let second-comma = has-first _ _ (na .1) in
+    let nb = number-first _ _ _ (h .small-b) _ (second-comma .1) in
     let first : First s at letter a i = record { begun = record { named = name .0; comma = comma .0 }; value = na .0 } in
     let second : Second s at letter a i b j = record { first = first; comma = second-comma .0; value = nb .0 } in
-    sym (line-whole second (has-first s j (nb .1) .0)) ∙ ap (pair.Pair a b) end
+    sym (line-whole second (has-first _ _ (nb .1) .0)) ∙ ap (pair.Pair a b) end
 
 -- the parts of a line that is found, put together
 line-of : {s : List ℕ} {at letter a i b j : ℕ} → Second s at letter a i b j → hasByte s j 10 ≡ true → IsLineAt s at letter a b (j + 1)
@@ -341,7 +341,7 @@ at-sound {s} {at} {letter} {a} {b} {e} h = go-letter (hasByte s at letter) refl
 
     go-comma : hasByte s at letter ≡ true → (x : Bool) → hasByte s (at + 1) 44 ≡ x → Is
     go-comma l true p = go-first (record { named = l; comma = p }) (numberAt s (at + 2)) refl
-    go-comma l false p = clash (line-no-comma s at letter l p)
+    go-comma l false p = clash (line-no-comma _ at letter l p)
 
     go-letter : (x : Bool) → hasByte s at letter ≡ x → Is
     go-letter true l = go-comma l (hasByte s (at + 1) 44) refl
@@ -362,7 +362,7 @@ agrees s at letter after = go (lineAt s at letter) refl (line letter (drop at s)
         let r = model.line-sound letter (drop at s) (x .0) (x .1) (x .2) q in
         let l = lineOf letter (x .0) (x .1) in
         let e = at + length l in
-        let d : drop e s ≡ x .2 = sym (drop-drop (length l) at s) ∙ ap (drop (length l)) (r .is-text) ∙ drop-append-seam l (x .2) in
+        let d : drop e s ≡ x .2 = sym (drop-drop _ at s) ∙ ap (drop (length l)) (r .is-text) ∙ drop-append-seam l (x .2) in
         let f : lineAt s at letter ≡ pair.Pair (x .0) (x .1) e =
         at-complete (record { small-a = r .small-x; small-b = r .small-y; ends = refl; text = rw d (r .is-text) }) in
         let z : _≡_ {A = ℕ} 0 1 = cc in
@@ -370,4 +370,4 @@ agrees s at letter after = go (lineAt s at letter) refl (line letter (drop at s)
 
 -- what the reader finds is the model's line
 pub meets : (s : List ℕ) (at : ℕ) {letter : ℕ} {r : Line} → 44 < letter → r ≡ lineAt s at letter → found s r ≡ line letter (drop at s)
-meets s at {letter} after e = ap (found s) e ∙ agrees s at letter after
+meets s at {letter} after e = ap (found s) e ∙ agrees _ at letter after

@@ -46,7 +46,7 @@ all-given : {n d : ℕ} {o : Option (List ℕ)} {old new : List ℕ} (E : Edges)
     → true ≡ isFound o → Leaves o old new → PartIs n o (d + 1) old new
 all-given {o = missing} E v goal s h e w = let z : _≡_ {A = ℕ} 0 1 = cc in absurd (omega arith)
 all-given {d = d} {o = some l} E v goal s h e w = record {
-  counted = add-one d ∙ sym (s .1);
+  counted = add-one _ ∙ sym (s .1);
   few = omega arith;
   missed = λ z. absurd (omega arith);
   left = w;
@@ -59,14 +59,14 @@ module _ {part : Part} {table : List ℕ} (inside : Inside part table) {G : Grap
 
   pub part-long : part .n ≤ left → {nodes : List ℕ} → PartIs (part .n) (stepsIn part G may table left v) 0 nodes nodes
   unfolding stepsIn
-  part-long l = no-part (too-long (part .n) G g may (leftIn part table) (part .goal) left v h (omega arith) l)
+  part-long l = no-part (too-long (part .n) G g may _ (part .goal) _ v h (omega arith) l)
 
   pub part-given : left < part .n → {old new : List ℕ}
       → true ≡ isFound (stepsIn part G may table left v) → Leaves (stepsIn part G may table left v) old new
       → PartIs (part .n) (stepsIn part G may table left v) (left + 1) old new
   unfolding stepsIn
   part-given l e w =
-      all-given (linked (part .n) G) v (part .goal) (steps-sound (part .n) G g may (leftIn part table) (part .goal) left v h) l e w
+      all-given (linked (part .n) G) v (part .goal) (steps-sound (part .n) G g may _ (part .goal) _ v h) l e w
 
 -- ---- the columns of Low, and the rows of Full
 
@@ -110,13 +110,13 @@ row-left : (n : ℕ) (table : List ℕ) (i x : ℕ) → getD (from (i * n) table
 unfolding entryAt
 row-left n table i x = rw (behind (i * n) table, mul-one) (getD-drop (i * n) table x 0)
 
--- steps by a set of nodes and a part of a table are those by a test and by entries that say the same of nodes below n
+-- steps by a set of nodes and a part of a table are those by a test and by entries that agree with them on nodes below n
 by-same : (part : Part) (G : Graph) → IsGraph (part .n) G → (may may′ : Nodes) (table : List ℕ) (left : ℕ → ℕ) (v : ℕ) → v < part .n
     → ((x : ℕ) → x < part .n → may x ≡ may′ x) → ((x : ℕ) → leftIn part table x ≡ left x)
     → stepsIn part G may table (leftIn part table v) v ≡ steps G may′ left (part .goal) (left v) v
 unfolding stepsIn
 by-same part G g may may′ table left v h e f =
-    steps-same (part .n) G g may may′ (leftIn part table) left (part .goal) e (λ x l. f x) (leftIn part table v) v h
+    steps-same (part .n) G g may _ _ _ (part .goal) e (λ x l. f x) _ v h
     ∙ ap (λ (d : ℕ). steps G may′ left (part .goal) d v) (f v)
 
 module _ {n : ℕ} {G : Graph} (g : IsGraph n G) {may : Nodes} {count : ℕ} {old new : List ℕ} where

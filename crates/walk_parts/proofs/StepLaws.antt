@@ -24,7 +24,7 @@ use Rattle.walk_parts.specs.Parts.{leftIn, leadsOn, stepsIn, isFound, Le
 pub place-small : {part : Part} {table : List ℕ} (inside : Inside part table) {x : ℕ} → x < part .n → x * part .stride ≤ 1048576
 place-small inside {x} h = let few : x ≤ 1024 = omega (arith, inside .few) in mul-le-mul few (inside .near)
 
--- ---- the steps from v where the way on leads nowhere, or to x
+-- ---- the steps from v where there is no next node, or x is the next
 
 module _ (G : Graph) (may : ℕ → Bool) (left : ℕ → ℕ) (goal : ℕ) where
   steps-stuck : (d v x : ℕ) → (d ≡ 0 → ⊥) → x ≡ next G may left (d - 1) v → x ≡ none → steps G may left goal d v ≡ missing
@@ -32,7 +32,7 @@ module _ (G : Graph) (may : ℕ → Bool) (left : ℕ → ℕ) (goal : ℕ) wher
   steps-stuck zero v x f e z = absurd (f refl)
   steps-stuck (suc d) v x f e z =
       let k : suc d - 1 ≡ d = omega arith in
-      rw (eq-eqb (next G may left d v) none (ap (λ (j : ℕ). next G may left j v) (sym k) ∙ sym e ∙ z))
+      rw (eq-eqb _ _ (ap (λ (j : ℕ). next G may left j v) (sym k) ∙ sym e ∙ z))
 
   steps-on : (d v x : ℕ) → (d ≡ 0 → ⊥) → x ≡ next G may left (d - 1) v → (x ≡ none → ⊥)
       → steps G may left goal d v ≡ before v (steps G may left goal (d - 1) x)
@@ -55,18 +55,18 @@ unfolding over
 over-more l nodes d v e h =
     let f : drop (length (reverse l)) (set nodes d v) ≡ v ∷ drop (suc d) nodes =
     ap (λ (k : ℕ). drop k (set nodes d v)) (length-reverse l ∙ e) ∙ ap (drop d) (set-split nodes d v h)
-    ∙ drop-at (take d nodes) (v ∷ drop (suc d) nodes) d (length-take-le d nodes (omega arith)) in
+    ∙ drop-at (take d nodes) _ d (length-take-le d nodes (omega arith)) in
     let g : length (reverse (v ∷ l)) ≡ suc d = length-reverse (v ∷ l) ∙ ap suc e in
     ap (λ (t : List ℕ). reverse l ++ t) f ∙ sym (append-snoc (reverse l) v (drop (suc d) nodes))
     ∙ ap₂ (λ (t : List ℕ) (k : ℕ). t ++ drop k nodes) (sym (reverse-cons v l)) (sym g)
 
 -- the same for the part that there may be, of k links
-before-done : (o : Option (List ℕ)) (d v : ℕ) (nodes new : List ℕ) (r : Bool) → d < length nodes
+before-done : (o : Option (List ℕ)) {d : ℕ} (v : ℕ) (nodes new : List ℕ) {r : Bool} → d < length nodes
     → (E : Edges) (k x goal : ℕ) → suc k ≡ d → Sound E k x goal o
     → (r ≡ isFound o) × Leaves o (set nodes d v) new → (r ≡ isFound (before v o)) × Leaves (before v o) nodes new
 unfolding before
-before-done missing d v nodes new r h E k x goal e s w = (w .0, tt)
-before-done (some l) d v nodes new r h E k x goal e s w = (w .0, w .1 ∙ over-more l nodes d v (s .1 ∙ e) h)
+before-done missing v nodes new h E k x goal e s w = (w .0, tt)
+before-done (some l) {d} v nodes new h E k x goal e s w = (w .0, w .1 ∙ over-more l nodes d v (s .1 ∙ e) h)
 
 -- ---- one call
 
@@ -109,13 +109,13 @@ module _ {part : Part} {G : Graph} {d v : ℕ} {nodes : List ℕ} (going : Going
     pub no-step : x ≡ none → Done part G may table d v false nodes (set nodes d v)
     unfolding stepsIn
     no-step z =
-        none-left nodes (set nodes d v) (steps-stuck G may (leftIn part table) (part .goal) d v x (step .some-left) on z)
+        none-left _ _ (steps-stuck G may _ (part .goal) d v x (step .some-left) on z)
 
     -- a step leads on to a node below n
     pub step-below : (x ≡ none → ⊥) → x < part .n
     step-below f =
         subst (λ (k : ℕ). k < part .n) (sym on)
-        (next-below (part .n) G (going .graph) may (leftIn part table) (d - 1) v (going .below) (λ z. f (on ∙ z)))
+        (next-below (part .n) G (going .graph) may _ _ v (going .below) (λ z. f (on ∙ z)))
 
     -- and the steps from there make those from v
     pub step-on : (x ≡ none → ⊥) → {r : Bool} (new : List ℕ) → Done part G may table (d - 1) x r (set nodes d v) new
@@ -126,5 +126,5 @@ module _ {part : Part} {G : Graph} {d v : ℕ} {nodes : List ℕ} (going : Going
         let sound = steps-sound (part .n) G (going .graph) may (leftIn part table) (part .goal) (d - 1) x (step-below f) in
         let one : suc (d - 1) ≡ d = omega (arith, step .some-left) in
         subst (λ (o : Option (List ℕ)). (r ≡ isFound o) × Leaves o nodes new)
-        (sym (steps-on G may (leftIn part table) (part .goal) d v x (step .some-left) on f))
-        (before-done rest d v nodes new r (going .room) (linked (part .n) G) (d - 1) x (part .goal) one sound w)
+        (sym (steps-on G may _ (part .goal) d v x (step .some-left) on f))
+        (before-done _ _ _ _ (going .room) (linked (part .n) G) (d - 1) x (part .goal) one sound w)

@@ -53,7 +53,7 @@ found {count = count} {o = some l} {old = old} p f = record {
   is = refl;
   counted = p .counted;
   some-node = omega arith;
-  front = ap (take count) (p .left) ∙ take-at (reverse l) (drop (length (reverse l)) old) count (length-reverse l ∙ sym (p .counted));
+  front = ap (take count) (p .left) ∙ take-at _ _ _ (length-reverse l ∙ sym (p .counted));
 }
 
 module _ {o : Option (List ℕ)} {count : ℕ} {nodes : List ℕ} (f : Found o count nodes) where
@@ -101,7 +101,7 @@ module _ {list : List ℕ} (blank : list ≡ replicate (length list) none) (x : 
 
   pub short-refused : (l : List ℕ) → length list < length l → outcome (refused 8) list ≡ fit (length list) x (some l)
   unfolding refuseWalk
-  short-refused l h = ap (outcome (refused 8)) blank ∙ sym (fit-short (length list) x l h)
+  short-refused l h = ap (outcome (refused 8)) blank ∙ sym (fit-short (length list) _ _ h)
 
   pub fits-given : (l : List ℕ) {walk : List ℕ} → length l ≤ length list → walk ≡ over l list
       → outcome (answered x) walk ≡ fit (length list) x (some l)

@@ -1,4 +1,4 @@
--- `answer_pair::attaining_hub` meets its contract: the nodes that are left still say which is the smallest.
+-- `answer_pair::attaining_hub` meets its contract: the nodes that are left still determine which is the smallest.
 -- Assumes nothing.
 use mathlib.Core.Path.{sym, _∙_}
 use Prim.Native.Nat.{_-_}

@@ -1,4 +1,4 @@
--- `answer_pair::hub_attains` meets its contract: at each `return` the tests that led there say whether h counts as a hub.
+-- `answer_pair::hub_attains` meets its contract: at each `return` the tests that led there decide whether h counts as a hub.
 -- Assumes nothing.
 use borrow.Author.Needs.{needs}
 use borrow.Author.Tests.{eq-eqb, ne-eqb}

@@ -1,11 +1,35 @@
--- `answer_pair::pair_answer` meets its contract: at each `return` the tests that led there say which case holds.
+-- `answer_pair::pair_answer` meets its contract: at each `return` the tests that led there decide which case holds.
 -- Assumes nothing.
-use mathlib.Core.Path.{_∙_}
+use mathlib.Core.Path.{_≡_, _∙_}
 use borrow.Author.Tests.{eq-eqb, ne-eqb}
 use borrow.Author.Needs.{needs}
-use Rattle.model.specs.Pair.{choose, pairBy, pair}
+use lib.Dec.{eqb}
+use Rattle.model.specs.declared.Route.the-variants.{Low, Through}
+use Rattle.model.specs.Answers.{refused, answered}
+use Rattle.model.specs.Basics.{none, if_then_else_}
+use Rattle.model.specs.Pair.{withRoute, choose, attaining, taken, pairBy, pair}
 use Rattle.answer_pair.proofs.pair_answer.Statement.{statement}
 use Rattle.answer_pair.proofs.pair_answer.Tie as tie
+
+-- where a and b differ and the report is not none, the entry of Low and the attaining hub decide
+joined : (c : tie.After-entry-at2)
+    → (let entered = c .before .before .before in
+    let args = entered .before .before .before .before .args in
+    let r = entered .entry-at .result in
+    let h = attaining (taken (args .n) (args .full .now) (args .a) (args .b)) (args .n) (args .full .now) (args .a) (args .b) r in
+    pair (args .n) (args .full .now) (args .low .now) (args .report .now) (args .a) (args .b) ≡ (
+    if eqb (c .entry-at2 .result) r then answered (withRoute r Low)
+    else if eqb h none then refused 11
+    else answered (withRoute r (Through h))))
+unfolding pair pairBy choose
+joined c =
+    let apart = c .before .before in
+    rw (
+      ne-eqb _ _ (apart .if1 .left),
+      ← apart .before .entry-at .ensures,
+      ne-eqb _ _ (c .before .if3 .left),
+      ← c .entry-at2 .ensures,
+    )
 
 entry-at-requires : tie.Need-entry-at-requires
 entry-at-requires c κs = search needs
@@ -43,57 +67,25 @@ answer-by-requires-3 : tie.Need-answer-by-requires-3
 answer-by-requires-3 c κs = search needs
 
 returns-4 : tie.Need-returns-4
-unfolding pair pairBy choose
-returns-4 c =
-    let joined = c .before .before .before in
-    let apart = joined .before in
-    c .answer-by3 .ensures
-    ∙ rw (
-      ne-eqb _ _ (apart .if1 .left),
-      ← apart .before .entry-at .ensures,
-      ne-eqb _ _ (joined .if3 .left),
-      ← c .before .before .entry-at2 .ensures,
-      eq-eqb _ _ (c .before .if4 .taken),
-    )
+returns-4 c = c .answer-by3 .ensures ∙ rw (joined (c .before .before), eq-eqb _ _ (c .before .if4 .taken))
 
 attaining-hub-requires : tie.Need-attaining-hub-requires
 attaining-hub-requires c κs = search needs
 
 returns-5 : tie.Need-returns-5
-unfolding pair pairBy choose
 returns-5 c =
     let not-low = c .before .before in
-    let joined = not-low .before .before in
-    let apart = joined .before in
-    rw (
-      ne-eqb _ _ (apart .if1 .left),
-      ← apart .before .entry-at .ensures,
-      ne-eqb _ _ (joined .if3 .left),
-      ← not-low .before .entry-at2 .ensures,
-      ne-eqb _ _ (not-low .if4 .left),
-      ← c .before .attaining-hub .ensures,
-      eq-eqb _ _ (c .if5 .taken),
-    )
+    rw (joined (not-low .before), ne-eqb _ _ (not-low .if4 .left), ← c .before .attaining-hub .ensures, eq-eqb _ _ (c .if5 .taken))
 
 answer-by-requires-4 : tie.Need-answer-by-requires-4
 answer-by-requires-4 c κs = search needs
 
 returns-6 : tie.Need-returns-6
-unfolding pair pairBy choose
 returns-6 c =
-    let not-low = c .before .before .before in
-    let joined = not-low .before .before in
-    let apart = joined .before in
+    let searched = c .before .before in
+    let not-low = searched .before in
     c .answer-by4 .ensures
-    ∙ rw (
-      ne-eqb _ _ (apart .if1 .left),
-      ← apart .before .entry-at .ensures,
-      ne-eqb _ _ (joined .if3 .left),
-      ← not-low .before .entry-at2 .ensures,
-      ne-eqb _ _ (not-low .if4 .left),
-      ← c .before .before .attaining-hub .ensures,
-      ne-eqb _ _ (c .before .if5 .left),
-    )
+    ∙ rw (joined (not-low .before), ne-eqb _ _ (not-low .if4 .left), ← searched .attaining-hub .ensures, ne-eqb _ _ (c .before .if5 .left))
 
 pub pair-answer-spec : {M : Type 1} → statement M
 pair-answer-spec =

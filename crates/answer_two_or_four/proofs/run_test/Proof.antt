@@ -6,9 +6,13 @@ use Rattle.answer_two_or_four.proofs.Sources.{InFront, sources-fit, sou
 use Rattle.answer_two_or_four.proofs.run_test.Statement.{statement}
 use Rattle.answer_two_or_four.proofs.run_test.Tie as tie
 
+-- the function's entry, once the sources are found
+abbrev start : tie.After-find-sources → tie.Start
+start c = c .before .before .before .before
+
 -- the sources stand in front of the list
 in-front : (c : tie.After-find-sources)
-    → (let args = c .before .before .before .before .args in
+    → (let args = start c .args in
     let find-sources = c .find-sources in
     InFront (args .n) (args .s) (neighboursOf (args .starts .now) (args .neighbours .now))
     (find-sources .last .1 .1 .1 .1 .0) (find-sources .result))
@@ -29,7 +33,7 @@ slice-aggregate-search-depth c = sources-long (in-front (c .before .before))
 search-depth-requires : tie.Need-search-depth-requires
 search-depth-requires c κs =
     let found = c .before .before in
-    let pre = found .before .before .before .before .pre in
+    let pre = start found .pre in
     (pre, sources-below (in-front found) (pre .lists .graph) (pre .size))
 
 verdict-on-requires : tie.Need-verdict-on-requires
@@ -38,8 +42,7 @@ verdict-on-requires c κs = search needs
 returns : tie.Need-returns
 returns c =
     let found = c .before .before .before .before in
-    let pre = found .before .before .before .before .pre in
-    result-is (in-front found) (pre .size) (c .verdict-on .ensures) (c .before .search-depth .ensures)
+    result-is (in-front found) (start found .pre .size) (c .verdict-on .ensures) (c .before .search-depth .ensures)
 
 pub run-test-spec : {M : Type 1} → statement M
 run-test-spec =

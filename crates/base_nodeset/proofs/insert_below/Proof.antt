@@ -33,7 +33,7 @@ loop-less : tie.Need-loop-less Inv-loop μ-loop
 loop-less c = search needs
 
 loop-again : tie.Need-loop-again Inv-loop μ-loop
-loop-again c = (omega arith, below-word _ (omega arith) (c .before .loop .inv .1))
+loop-again c = (omega arith, below-word (omega arith) (c .before .loop .inv .1))
 
 -- all whole words are full
 full : (c : tie.After-loop Inv-loop μ-loop) → Below (c .before .loop .words) (64 * (c .before .before .args .n / 64))

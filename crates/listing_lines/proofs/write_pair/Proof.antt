@@ -1,7 +1,7 @@
 -- `listing_lines::write_pair` meets its contract: the letter, four fields and the line feed, one behind the other.
 -- Assumes nothing.
 use mathlib.Core.List.{List, [], _∷_, _++_}
-use Prim.Native.Nat.{ℕ, _+_}
+use Prim.Native.Nat.{ℕ}
 use borrow.Author.Needs.{needs}
 use Rattle.model.specs.Answers.{answered}
 use Rattle.model.specs.Numbers.{digits}

@@ -51,6 +51,10 @@ module _ (c : tie.After-build-tables) where
   room : 0 + length first + length pairs ≤ length (start .args .buffer .now)
   room = omega (arith, ap length listed, length-append first pairs)
 
+-- the place where the tables were built, from behind the first line
+abbrev built : tie.After-write-line → tie.After-build-tables
+built c = c .before .before .before .before .before .before .before .before .before
+
 threshold-at-requires : tie.Need-threshold-at-requires
 threshold-at-requires c κs = search needs
 
@@ -72,9 +76,8 @@ write-line-requires c κs = omega (arith, room (c .before .before .before .befor
 write-pairs-requires : tie.Need-write-pairs-requires
 write-pairs-requires c κs =
     let line = c .before .before .before .before .before .before in
-    let build = line .before .before .before .before .before .before .before .before .before in
-    let pre = start build .pre .0 in
-    (omega arith, wrote-room (pairs build) (room build) (line .write-line .ensures))
+    let pre = start (built line) .pre .0 in
+    (omega arith, wrote-room (pairs (built line)) (room (built line)) (line .write-line .ensures))
 
 same-length : tie.Need-same-length
 same-length c = search needs
@@ -92,8 +95,8 @@ returns : tie.Need-returns
 returns c =
     let lines = c .before .before in
     let line = lines .before .before .before .before .before .before .before in
-    let build = line .before .before .before .before .before .before .before .before .before in
-    rw (listed build) at (wrote-then {u = pairs build} (room build) (line .write-line .ensures) (lines .write-pairs .ensures))
+    let done = built line in
+    rw (listed done) at (wrote-then {u = pairs done} (room done) (line .write-line .ensures) (lines .write-pairs .ensures))
 
 pub list-tables-spec : {M : Type 1} → statement M
 list-tables-spec =

@@ -1,4 +1,4 @@
--- `listing_writing::list_text` meets its contract: what reading says is listed.
+-- `listing_writing::list_text` meets its contract: what reading gives is listed.
 -- Assumes nothing.
 use Prim.Native.Nat.{ℕ}
 use borrow.Author.Needs.{needs}

@@ -34,13 +34,14 @@ same-length-4 c = search needs
 returns : tie.Need-returns
 returns c =
     let call = c .before .before .before .before .before .before .before .before .before .build in
+    let lent = call .last .1 .1 .1 in
     passed-on countField countIn (λ (x : AfterBuilding). x .answer)
     (λ o. record {
       answer = o;
-      full = call .last .1 .1 .1 .0;
-      low = call .last .1 .1 .1 .1 .0;
-      report = call .last .1 .1 .1 .1 .1 .0;
-      hubs = call .last .1 .1 .1 .1 .1 .1 .0;
+      full = lent .0;
+      low = lent .1 .0;
+      report = lent .1 .1 .0;
+      hubs = lent .1 .1 .1 .0;
     })
     (BuildRight _ _ _ _) (λ o. refl) (c .counting-code .ensures) (call .ensures .0) (call .ensures .1)
 

@@ -2,7 +2,6 @@
 -- Assumes nothing.
 use Prim.Native.Nat.{_-_}
 use lib.ListN.{length}
-use Rattle.search_depths.specs.Depth.{greatest}
 use Rattle.search_depths.proofs.Depths.{RowMost, row-turn, row-end}
 use borrow.Author.Needs.{needs}
 use Rattle.search_depths.proofs.row_depth.Statement.{statement}

@@ -12,7 +12,7 @@ contains-requires : tie.Need-contains-requires
 contains-requires c κs = search needs
 
 returns : tie.Need-returns
-returns c = link-not (member _) _ _ (sym (c .before .contains .ensures) ∙ not-true _ (c .if1 .taken))
+returns c = link-not (member _) _ (sym (c .before .contains .ensures) ∙ not-true _ (c .if1 .taken))
 
 mul-insert : tie.Need-mul-insert
 mul-insert c = search needs
@@ -31,7 +31,7 @@ returns-2 c =
     let insert = c .before .before .insert in
     let found = c .before .before .before .before in
     let start = found .before .before .before .before in
-    link-put _ _ (member _) _ _ (start .pre .1) (sym (found .before .contains .ensures) ∙ not-false _ (found .if1 .left)) (insert .ensures)
+    link-put _ _ (member _) _ (start .pre .1) (sym (found .before .contains .ensures) ∙ not-false _ (found .if1 .left)) (insert .ensures)
 
 pub link-spec : {M : Type 1} → statement M
 link-spec =

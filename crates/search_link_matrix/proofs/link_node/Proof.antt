@@ -3,7 +3,6 @@
 use mathlib.Core.Path.{sym, _∙_}
 use native.Mathlib.Omega.{arith}
 use borrow.Author.Tests.{not-true, not-false}
-use Rattle.model.specs.Basics.{has}
 use Rattle.model.specs.Survey.{neighboursOf}
 use Rattle.base_nodeset.specs.NodeSet.{member}
 use Rattle.search_link_matrix.proofs.LinkPutting.{node-not, node-put}
@@ -15,7 +14,7 @@ contains-requires : tie.Need-contains-requires
 contains-requires c κs = search needs
 
 returns : tie.Need-returns
-returns c = node-not _ (neighboursOf _ _) (member _) _ (sym (c .before .contains .ensures) ∙ not-true _ (c .if1 .taken))
+returns c = node-not _ (neighboursOf _ _) (member _) (sym (c .before .contains .ensures) ∙ not-true _ (c .if1 .taken))
 
 own-requires : tie.Need-own-requires
 own-requires c κs = search needs

@@ -27,7 +27,7 @@ long c = ap length (c .pre .2) ∙ length-replicate {A = ℕ} 16384 0
 loop-holds : tie.Need-loop-holds Inv-loop μ-loop
 loop-holds c =
     let start = c .before .before .before .before in
-    (omega arith, long start, rows-none _ _ (start .pre .2))
+    (omega arith, long start, rows-none _ (start .pre .2))
 
 link-node-requires : tie.Need-link-node-requires Inv-loop μ-loop
 link-node-requires c κs = search needs
@@ -48,7 +48,7 @@ same-length : tie.Need-same-length Inv-loop μ-loop
 same-length c = c .before .loop .inv .1 ∙ sym (long (c .before .before .before .before .before .before))
 
 returns : tie.Need-returns Inv-loop μ-loop
-returns c = rows-all _ (neighboursOf _ _) (member _) _ (omega arith) (c .before .loop .inv .2)
+returns c = rows-all _ (neighboursOf _ _) (member _) (omega arith) (c .before .loop .inv .2)
 
 pub link-rows-spec : {M : Type 1} → statement M
 link-rows-spec =

@@ -53,15 +53,16 @@ loop-holds c =
     let filled = fill16 .fill16 .ensures ∙ ap (λ (k : ℕ). replicate k none) (pre .1 .2) in
     search-start (pre .0 .0 .size) (pre .1 .0) refl refl filled (search needs) (unvisited-nodes .ensures)
 
+-- the function's entry, from the loop
+abbrev start : tie.At-loop Inv-loop μ-loop → tie.Start Inv-loop μ-loop
+start c = c .before .before .before .before .before .before .before .before .before .before .before .before
+
 -- the node that a turn takes from the queue, and its distance
 module _ (c : tie.In-loop Inv-loop μ-loop) where
-  abbrev start : tie.Start Inv-loop μ-loop
-  start = c .before .before .before .before .before .before .before .before .before .before .before .before .before
-
   abbrev v : ℕ
   v = getD (c .before .loop .queue) (c .before .loop .head) 0
 
-  v-below : v < start .args .n
+  v-below : v < start (c .before) .args .n
   v-below = c .before .loop .inv .bfs .node _ (c .loop-test .taken)
 
   near : getD (c .before .loop .row) v 0 ≤ c .before .loop .head
@@ -86,7 +87,7 @@ add-d : tie.Need-add-d Inv-loop μ-loop
 add-d c = omega (arith, near (c .before))
 
 own-requires : tie.Need-own-requires Inv-loop μ-loop
-own-requires c κs = (rows-of (start (c .before) .pre .0 .0), v-below (c .before))
+own-requires c κs = (rows-of (start (c .before .before) .pre .0 .0), v-below (c .before))
 
 slice-aggregate-visit-all : tie.Need-slice-aggregate-visit-all Inv-loop μ-loop
 slice-aggregate-visit-all c = search needs
@@ -96,7 +97,7 @@ visit-all-requires c κs =
     let own = c .before .before .before .own in
     let turn = c .before .before .before .before .before in
     let S = turn .before .loop .inv in
-    let below = own-below S (turn .loop-test .taken) (start turn .pre .0 .0 .lists .graph) (own .ensures) in
+    let below = own-below S (turn .loop-test .taken) (start (turn .before) .pre .0 .0 .lists .graph) (own .ensures) in
     ((below, omega (arith, near turn)), ((omega arith, search needs), (S .words, S .unvisited)))
 
 -- once the neighbours are visited
@@ -113,29 +114,27 @@ slice-aggregate-next-place c = search needs
 next-place-requires : tie.Need-next-place-requires Inv-loop μ-loop
 next-place-requires c κs =
     let visited = c .before .before .before .before in
-    (start (turn visited) .pre .0 .0 .size, search needs, omega (arith, queue-longer visited))
+    (start (turn visited .before) .pre .0 .0 .size, search needs, omega (arith, queue-longer visited))
 
 loop-less : tie.Need-loop-less Inv-loop μ-loop
 loop-less c =
-    let longer = queue-longer (c .before .before .before .before .before) in
+    let more = queue-longer (c .before .before .before .before .before) in
     ⊎-elim (λ e. omega arith) (λ r. omega arith) (c .next-place .ensures)
 
 loop-again : tie.Need-loop-again Inv-loop μ-loop
 loop-again c =
     let visited = c .before .before .before .before .before in
     let own = visited .before .before .before .before .own in
-    let turn = turn visited in
-    let pre = start turn .pre in
-    search-turn (turn .before .loop .inv) (turn .loop-test .taken) (pre .0 .0 .lists .graph) (own .ensures) (pre .1 .1)
+    let loop = turn visited .before in
+    let pre = start loop .pre in
+    search-turn (loop .loop .inv) (turn visited .loop-test .taken) (pre .0 .0 .lists .graph) (own .ensures) (pre .1 .1)
     (visited .visit-all .ensures .0) (search needs) (visited .visit-all .ensures .1) (c .next-place .ensures)
 
 same-length : tie.Need-same-length Inv-loop μ-loop
 same-length c = search needs
 
 returns : tie.Need-returns Inv-loop μ-loop
-returns c =
-    let start = c .before .before .before .before .before .before .before .before .before .before .before .before .before in
-    search-end (c .before .loop .inv) (c .loop-test .left) (start .pre .1 .0)
+returns c = search-end (c .before .loop .inv) (c .loop-test .left) (start (c .before) .pre .1 .0)
 
 pub search-spec : {M : Type 1} → statement M
 search-spec =

@@ -1,4 +1,4 @@
--- `search_queue::next_place` meets its contract: the smallest unvisited node tells whether there is one.
+-- `search_queue::next_place` meets its contract: the search for the smallest unvisited node shows whether there is one.
 -- Assumes nothing.
 use mathlib.Core.Path.{refl}
 use mathlib.Core.Logic.{inl, inr}

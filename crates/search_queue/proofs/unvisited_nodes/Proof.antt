@@ -49,7 +49,7 @@ returns c =
     let closed = all .before .before .before in
     let others = closed .before .before .before in
     let below = others .before .before .before in
-    unvisited-start (member _) _ _ (below .insert-below .ensures) (others .subtract .ensures) (closed .insert .ensures)
+    unvisited-start (member _) (below .insert-below .ensures) (others .subtract .ensures) (closed .insert .ensures)
     (all .insert-below2 .ensures) (left .subtract2 .ensures) (below .before .before .before .before .pre .2)
 
 pub unvisited-nodes-spec : {M : Type 1} → statement M

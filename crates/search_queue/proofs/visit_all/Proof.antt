@@ -20,6 +20,10 @@ Inv-loop nodes d allowed unvisited₀ row₀ queue₀ tail end₀ i₀ unvisited
 abbrev μ-loop : tie.MeasureT-loop
 μ-loop nodes d allowed unvisited₀ row₀ queue₀ tail end₀ i₀ unvisited row queue end i = length nodes - i
 
+-- the function's entry, from a turn of the loop
+abbrev start : tie.In-loop Inv-loop μ-loop → tie.Start Inv-loop μ-loop
+start c = c .before .before .before .before .before .before
+
 loop-holds : tie.Need-loop-holds Inv-loop μ-loop
 loop-holds c = search needs
 
@@ -35,7 +39,7 @@ cast-visit c = omega (arith, c .shared-slice-known3 .given (c .before .before .l
 visit-requires : tie.Need-visit-requires Inv-loop μ-loop
 visit-requires c κs =
     let turn = c .before .before .before .before in
-    let pre = turn .before .before .before .before .before .before .pre in
+    let pre = start turn .pre in
     let inv = turn .before .loop .inv in (
       (next-below (inv .0) (pre .0 .0) (turn .loop-test .taken), omega arith, pre .0 .1, search needs),
       (inv .1, inv .2),
@@ -51,7 +55,7 @@ loop-again : tie.Need-loop-again Inv-loop μ-loop
 loop-again c =
     let visit = c .before .before .before .before .visit in
     let turn = c .before .before .before .before .before .before .before .before .before in
-    let pre = turn .before .before .before .before .before .before .pre in
+    let pre = start turn .pre in
     let inv = turn .before .loop .inv in (
       visiting-next (inv .0) (pre .0 .0) (turn .loop-test .taken) (pre .0 .1) (visit .ensures .0),
       search needs,

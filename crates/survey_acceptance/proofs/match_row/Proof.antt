@@ -1,4 +1,4 @@
--- `survey_acceptance::match_row` meets its contract: what is left of the row still says whether it fits.
+-- `survey_acceptance::match_row` meets its contract: what is left of the row still determines whether it fits.
 -- Assumes nothing.
 use Prim.Native.Nat.{ℕ, _-_}
 use native.Mathlib.Omega.{arith}

@@ -1,4 +1,4 @@
--- `survey_acceptance::match_rows` meets its contract: the rows below v are matched, and a row that does not fit is no survey's.
+-- `survey_acceptance::match_rows` meets its contract: the rows below v are matched, and with a row that does not fit the lists are no survey.
 -- Assumes nothing.
 use mathlib.Core.Path.{_≡_, refl, sym, _∙_}
 use mathlib.Core.Bool.{true}
@@ -21,6 +21,18 @@ Inv-loop n starts neighbours cursors₀ last v₀ cursors v =
 abbrev μ-loop : tie.MeasureT-loop
 μ-loop n starts neighbours cursors₀ last v₀ cursors v = n - v
 
+-- the function's entry, from the loop
+abbrev start : tie.At-loop Inv-loop μ-loop → tie.Start Inv-loop μ-loop
+start c = c .before .before .before .before .before
+
+-- once row v is tested: the turn of the loop, behind its test of the cursor
+module _ (c : tie.After-match-row Inv-loop μ-loop) where
+  abbrev behind : tie.Else1 Inv-loop μ-loop
+  behind = c .before .before .before
+
+  abbrev turn : tie.In-loop Inv-loop μ-loop
+  turn = behind .before .before .before
+
 mul-last : tie.Need-mul-last Inv-loop μ-loop
 mul-last c = search needs
 
@@ -32,8 +44,8 @@ cast-last c = search needs
 
 loop-holds : tie.Need-loop-holds Inv-loop μ-loop
 loop-holds c =
-    let start = c .before .before .before .before in
-    (omega arith, refl, upto-none (start .pre .0 .0) _ (start .pre .1 .1))
+    let pre = c .before .before .before .before .pre in
+    (omega arith, refl, upto-none (pre .0 .0) (pre .1 .1))
 
 mul-at : tie.Need-mul-at Inv-loop μ-loop
 mul-at c = search needs
@@ -62,8 +74,7 @@ same-length c = search needs
 returns : tie.Need-returns Inv-loop μ-loop
 returns c =
     let turn = c .before .before .before in
-    let rows = turn .before .before .before .before .before .before .pre .0 .0 in
-    sym (fails _ _ _ (at-cursor rows (turn .before .loop .inv .2) (turn .loop-test .taken)) (λ l. omega arith))
+    sym (fails _ _ _ (at-cursor (start (turn .before) .pre .0 .0) (turn .before .loop .inv .2) (turn .loop-test .taken)) (λ l. omega arith))
 
 mul-match-row : tie.Need-mul-match-row Inv-loop μ-loop
 mul-match-row c = omega (arith, c .before .before .slice-known2 .given (c .before .before .before .before .loop .v))
@@ -72,9 +83,7 @@ part-match-row-start : tie.Need-part-match-row-start Inv-loop μ-loop
 part-match-row-start c = search needs
 
 part-match-row-end : tie.Need-part-match-row-end Inv-loop μ-loop
-part-match-row-end c =
-    let start = c .before .before .before .before .before .before .before .before .before in
-    start-within _ _ _ (start .pre .0 .0) (_ + 1) (omega arith)
+part-match-row-end c = start-within _ _ _ (start (c .before .before .before .before) .pre .0 .0) (_ + 1) (omega arith)
 
 match-row-requires : tie.Need-match-row-requires Inv-loop μ-loop
 match-row-requires c κs = search needs
@@ -84,12 +93,10 @@ same-length-2 c = search needs
 
 returns-2 : tie.Need-returns-2 Inv-loop μ-loop
 returns-2 c =
-    let match-row = c .before .before .before .match-row in
-    let inside = c .before .before .before .before .before .before in
-    let turn = inside .before .before .before in
-    let rows = turn .before .before .before .before .before .before .pre .0 .0 in
-    sym (fails _ _ _ (survey-fits rows (turn .before .loop .inv .2) (turn .loop-test .taken) (inside .if1 .left))
-    (row-fails (match-row .ensures .0) (not-true _ (c .if2 .taken))))
+    let tested = c .before .before .before in
+    let loop = turn tested .before in
+    sym (fails _ _ _ (survey-fits (start loop .pre .0 .0) (loop .loop .inv .2) (turn tested .loop-test .taken) (behind tested .if1 .left))
+    (row-fails (tested .match-row .ensures .0) (not-true _ (c .if2 .taken))))
 
 add-v : tie.Need-add-v Inv-loop μ-loop
 add-v c = search needs
@@ -99,14 +106,13 @@ loop-less c = search needs
 
 loop-again : tie.Need-loop-again Inv-loop μ-loop
 loop-again c =
-    let match-row = c .before .before .before .match-row in
-    let inside = c .before .before .before .before .before .before in
-    let turn = inside .before .before .before in
-    let rows = turn .before .before .before .before .before .before .pre .0 .0 in
+    let tested = c .before .before .before in
+    let match-row = tested .match-row in
+    let loop = turn tested .before in
     let good : match-row .result ≡ true = not-false _ (c .if2 .left) in (
       omega arith,
-      match-row .kept .1 .1 .1 .1 .1 .0 ∙ turn .before .loop .inv .1,
-      upto-next rows (turn .before .loop .inv .2) (turn .loop-test .taken) (inside .if1 .left)
+      match-row .kept .1 .1 .1 .1 .1 .0 ∙ loop .loop .inv .1,
+      upto-next (start loop .pre .0 .0) (loop .loop .inv .2) (turn tested .loop-test .taken) (behind tested .if1 .left)
           (row-facts (match-row .ensures .0) good) _ (match-row .ensures .1 good),
     )
 
@@ -115,7 +121,7 @@ same-length-3 c = search needs
 
 returns-3 : tie.Need-returns-3 Inv-loop μ-loop
 returns-3 c =
-    let pre = c .before .before .before .before .before .before .pre .0 in
+    let pre = start (c .before) .pre .0 in
     sym (holds (upto-all (pre .0) (c .before .loop .inv .2) (c .loop-test .left) (pre .1) (pre .2)))
 
 pub match-rows-spec : {M : Type 1} → statement M

@@ -1,4 +1,4 @@
--- `survey_acceptance::starts_rise` meets its contract: what was found and what is left make the whole test.
+-- `survey_acceptance::starts_rise` meets its contract: what was found and what is left still determine the result.
 -- Assumes nothing.
 use Prim.Native.Nat.{_-_}
 use Rattle.survey_acceptance.proofs.Rest.{Tested, tested-none, tested-next, tested-all}

@@ -1,4 +1,4 @@
--- `survey_reading::read_within` meets its contract: both lists are cleared, then the first line says whether the others are read.
+-- `survey_reading::read_within` meets its contract: both lists are cleared, then the first line decides whether the others are read.
 -- Assumes nothing.
 use native.Mathlib.Omega.{arith}
 use Rattle.survey_reading.proofs.ReadLaws.{Cleared, cleared-own, counts-within, first-refused, first-read}

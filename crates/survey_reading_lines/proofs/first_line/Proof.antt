@@ -1,4 +1,4 @@
--- `survey_reading_lines::first_line` meets its contract: at each `return` the tests that led there say which case holds.
+-- `survey_reading_lines::first_line` meets its contract: at each `return` the tests that led there decide which case holds.
 -- Assumes nothing.
 use mathlib.Core.Path.{_≡_, sym, ap, _∙_}
 use mathlib.Core.List.{List}

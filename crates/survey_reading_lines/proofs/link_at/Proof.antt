@@ -1,4 +1,4 @@
--- `survey_reading_lines::link_at` meets its contract: at each `return` the tests that led there say which case holds.
+-- `survey_reading_lines::link_at` meets its contract: at each `return` the tests that led there decide which case holds.
 -- Assumes nothing.
 use mathlib.Core.Path.{_≡_, sym, ap, _∙_}
 use mathlib.Core.List.{List}
@@ -38,9 +38,9 @@ module _ (c : tie.After-a) where
 
 -- once both numbers are tested
 below : (c : tie.Else2) → (let said = c .before .before in (a said < start said .args .n) × (b said < start said .args .n))
-below c = both-below _ _ _ (not-false _ (c .if2 .left))
+below c = both-below (not-false _ (c .if2 .left))
 
--- the matrix tells whether the link was given before
+-- the matrix shows whether the link was given before
 given : (c : tie.After-contains) → (let said = c .before .before .before .before in
     edgesIn (start said .args .bits .now) (a said) (b said) ≡ c .contains .result)
 given c = edge-bit _ _ _ (omega (arith, below (c .before .before))) ∙ sym (c .contains .ensures)

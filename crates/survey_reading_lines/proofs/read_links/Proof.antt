@@ -1,4 +1,4 @@
--- `survey_reading_lines::read_links` meets its contract: the lines still to come, after the links taken, say what all of them say.
+-- `survey_reading_lines::read_links` meets its contract: the lines still to come, after the links taken, give what all lines give.
 -- Assumes nothing.
 use mathlib.Core.Path.{_≡_, sym, ap, _∙_}
 use mathlib.Core.List.{List}

@@ -18,7 +18,7 @@ abbrev μ-loop : tie.MeasureT-loop
 row-few : (c : tie.After-own Inv-loop μ-loop) → length (c .own .result .now) ≤ 32768
 row-few c =
     let start = c .before .before .before .before .before .before .before in
-    rw (c .own .ensures) (own-few (start .pre) _ (c .before .loop-test .taken))
+    rw (c .own .ensures) (own-few (start .pre) (c .before .loop-test .taken))
 
 cast-line-length : tie.Need-cast-line-length Inv-loop μ-loop
 cast-line-length c = search needs

@@ -1,4 +1,4 @@
--- `table_building::build` meets its contract: at each `return` the tests that led there say which case holds.
+-- `table_building::build` meets its contract: at each `return` the tests that led there decide which case holds.
 -- Assumes nothing.
 use mathlib.Core.Path.{sym, _∙_}
 use borrow.Author.Tests.{not-true, not-false}

@@ -1,4 +1,4 @@
--- `table_building::build_tables` meets its contract: hubs first, then the tables that rest on them.
+-- `table_building::build_tables` meets its contract: hubs first, then the tables that depend on them.
 -- Assumes nothing.
 use mathlib.Core.Path.{sym}
 use mathlib.Core.List.{List}
@@ -32,7 +32,7 @@ module _ (c : tie.After-choose-hubs) where
   chosen = take (c .choose-hubs .result) (c .choose-hubs .last .1 .1 .1 .1 .0)
 
   below : (h : ℕ) → T (has h chosen) → h < start .args .n
-  below = chosen-below _ _ G _ (c .choose-hubs .ensures .0) (c .choose-hubs .ensures .1)
+  below = chosen-below _ G _ (c .choose-hubs .ensures .0) (c .choose-hubs .ensures .1)
 
 -- that place, from the one where Report is to be filled
 abbrev earlier : tie.After-fill-report-arg → tie.After-choose-hubs

@@ -7,6 +7,14 @@ use borrow.Author.Needs.{needs}
 use Rattle.table_degree_split.proofs.low_nodes.Statement.{statement}
 use Rattle.table_degree_split.proofs.low_nodes.Tie as tie
 
+-- the place where the high nodes were found, and the function's entry
+module _ (c : tie.After-insert-below) where
+  abbrev high : tie.After-high-nodes
+  high = c .before .before .before
+
+  abbrev start : tie.Start
+  start = high .before .before .before .before .before
+
 slice-aggregate-high-nodes : tie.Need-slice-aggregate-high-nodes
 slice-aggregate-high-nodes c = search needs
 
@@ -22,19 +30,17 @@ slice-aggregate-subtract c = search needs
 -- both sets have 16 words
 subtract-requires : tie.Need-subtract-requires
 subtract-requires c κs =
-    let all = c .before .before .before .before .insert-below in
-    let high = c .before .before .before .before .before .before .before .high-nodes in
-    let start = c .before .before .before .before .before .before .before .before .before .before .before .before in
-    all .kept .0 ∙ ap length (start .pre .1) ∙ sym (high .kept .1 .1 .1 .1 .0)
+    let all = c .before .before .before .before in
+    all .insert-below .kept .0 ∙ ap length (start all .pre .1) ∙ sym (high all .high-nodes .kept .1 .1 .1 .1 .0)
 
 same-length : tie.Need-same-length
 same-length c = search needs
 
 returns : tie.Need-returns
 returns c =
-    let all = c .before .before .before .before .before .before .before .insert-below in
-    let high = c .before .before .before .before .before .before .before .before .before .before .high-nodes in
-    low-set _ _ _ (all .ensures) (high .ensures) (c .before .before .subtract .ensures)
+    let subtracted = c .before .before in
+    let all = subtracted .before .before .before .before .before in
+    low-set _ _ _ (all .insert-below .ensures) (high all .high-nodes .ensures) (subtracted .subtract .ensures)
 
 pub low-nodes-spec : {M : Type 1} → statement M
 low-nodes-spec =

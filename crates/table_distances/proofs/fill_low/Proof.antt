@@ -18,9 +18,13 @@ Inv-loop n s starts neighbours low₀ low-nodes rows a₀ low a = RowsTo n (lowE
 abbrev μ-loop : tie.MeasureT-loop
 μ-loop n s starts neighbours low₀ low-nodes rows a₀ low a = n - a
 
--- the function's entry, from a turn of the loop
-abbrev start : tie.In-loop Inv-loop μ-loop → tie.Start Inv-loop μ-loop
-start turn = turn .before .before .before .before .before .before .before .before .before .before .before .before
+-- once the links are in the matrix: the place where the low nodes were found, and the function's entry
+module _ (c : tie.After-link-rows Inv-loop μ-loop) where
+  abbrev split : tie.After-low-nodes2 Inv-loop μ-loop
+  split = c .before .before .before .before
+
+  abbrev start : tie.Start Inv-loop μ-loop
+  start = split .before .before .before .before .before
 
 slice-aggregate-low-nodes : tie.Need-slice-aggregate-low-nodes Inv-loop μ-loop
 slice-aggregate-low-nodes c = search needs
@@ -38,7 +42,7 @@ link-rows-requires : tie.Need-link-rows-requires Inv-loop μ-loop
 link-rows-requires c κs = search needs
 
 loop-holds : tie.Need-loop-holds Inv-loop μ-loop
-loop-holds c = rows-none (c .before .before .before .before .before .before .before .before .before .before .pre .1)
+loop-holds c = rows-none (start (c .before) .pre .1)
 
 slice-aggregate-low-row : tie.Need-slice-aggregate-low-row Inv-loop μ-loop
 slice-aggregate-low-row c = search needs
@@ -49,11 +53,10 @@ slice-aggregate-low-row-2 c = search needs
 low-row-requires : tie.Need-low-row-requires Inv-loop μ-loop
 low-row-requires c κs =
     let turn = c .before .before .before in
-    let links = turn .before .before .before .link-rows in
-    let low-nodes = turn .before .before .before .before .before .before .before .low-nodes2 in (
-      start turn .pre .0 .size,
-      links .kept .1 .1 .1 .1 .0 ∙ length-replicate {A = ℕ} 16384 0,
-      low-nodes .kept .1 .1 .1 .1 .0,
+    let linked = turn .before .before .before in (
+      start linked .pre .0 .size,
+      linked .link-rows .kept .1 .1 .1 .1 .0 ∙ length-replicate {A = ℕ} 16384 0,
+      split linked .low-nodes2 .kept .1 .1 .1 .1 .0,
       turn .loop-test .taken,
       omega arith,
     )
@@ -68,10 +71,9 @@ loop-again : tie.Need-loop-again Inv-loop μ-loop
 loop-again c =
     let low-row = c .before .before .low-row in
     let turn = c .before .before .before .before .before .before in
-    let links = turn .before .before .before .link-rows in
-    let low-nodes = turn .before .before .before .before .before .before .before .low-nodes2 in
-    low-next _ _ (turn .before .loop .inv) (start turn .pre .0 .lists .graph) (turn .loop-test .taken) (low-nodes .ensures) (links .ensures)
-    (low-row .ensures)
+    let linked = turn .before .before .before in
+    low-next _ _ (turn .before .loop .inv) (start linked .pre .0 .lists .graph) (turn .loop-test .taken) (split linked .low-nodes2 .ensures)
+    (linked .link-rows .ensures) (low-row .ensures)
 
 same-length : tie.Need-same-length Inv-loop μ-loop
 same-length c = search needs

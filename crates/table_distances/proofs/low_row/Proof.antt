@@ -12,6 +12,10 @@ use borrow.Author.Needs.{needs}
 use Rattle.table_distances.proofs.low_row.Statement.{statement}
 use Rattle.table_distances.proofs.low_row.Tie as tie
 
+-- the function's entry, from the test of the row's node
+abbrev start : tie.After-contains → tie.Start
+start c = c .before .before .before .before
+
 -- row a ends in its table
 row-end : (c : tie.Start) → c .args .a * c .args .n + c .args .n ≤ c .args .n * c .args .n
 row-end c = row-within _ _ (c .pre .3)
@@ -33,7 +37,7 @@ contains-requires : tie.Need-contains-requires
 contains-requires c κs = search needs
 
 mul-search : tie.Need-mul-search
-mul-search c = omega (arith, row-end (c .before .before .before .before .before))
+mul-search c = omega (arith, row-end (start (c .before)))
 
 sub-search : tie.Need-sub-search
 sub-search c = search needs
@@ -42,7 +46,7 @@ part-search-start : tie.Need-part-search-start
 part-search-start c = search needs
 
 part-search-end : tie.Need-part-search-end
-part-search-end c = omega (arith, row-end (c .before .before .before .before .before))
+part-search-end c = omega (arith, row-end (start (c .before)))
 
 search-requires : tie.Need-search-requires
 search-requires c κs = search needs
@@ -54,12 +58,11 @@ returns : tie.Need-returns
 returns c =
     let search = c .before .before .search in
     let branch = c .before .before .before .before in
-    let start = branch .before .before .before .before .before in
     rw (sym (branch .before .contains .ensures) ∙ branch .if1 .taken)
-    (row-put (_ * _) _ _ _ _ (search .kept .1 .1 .1 .0 ∙ part-is start) (search .ensures))
+    (row-put (_ * _) _ _ _ _ (search .kept .1 .1 .1 .0 ∙ part-is (start (branch .before))) (search .ensures))
 
 mul-fill16 : tie.Need-mul-fill16
-mul-fill16 c = omega (arith, row-end (c .before .before .before .before .before))
+mul-fill16 c = omega (arith, row-end (start (c .before)))
 
 sub-fill16 : tie.Need-sub-fill16
 sub-fill16 c = search needs
@@ -68,7 +71,7 @@ part-fill16-start : tie.Need-part-fill16-start
 part-fill16-start c = search needs
 
 part-fill16-end : tie.Need-part-fill16-end
-part-fill16-end c = omega (arith, row-end (c .before .before .before .before .before))
+part-fill16-end c = omega (arith, row-end (start (c .before)))
 
 fill16-requires : tie.Need-fill16-requires
 fill16-requires c κs = search needs
@@ -80,10 +83,9 @@ returns-2 : tie.Need-returns-2
 returns-2 c =
     let fill16 = c .before .before .fill16 in
     let branch = c .before .before .before .before in
-    let start = branch .before .before .before .before .before in
+    let size = part-is (start (branch .before)) in
     rw (sym (branch .before .contains .ensures) ∙ branch .if1 .left)
-    (row-put (_ * _) _ _ _ _ (fill16 .kept .0 ∙ part-is start)
-    (fill16 .ensures ∙ ap (λ (k : ℕ). replicate k none) (part-is start) ∙ none-row _ none))
+    (row-put (_ * _) _ _ _ _ (fill16 .kept .0 ∙ size) (fill16 .ensures ∙ ap (λ (k : ℕ). replicate k none) size ∙ none-row _ none))
 
 pub low-row-spec : {M : Type 1} → statement M
 low-row-spec =

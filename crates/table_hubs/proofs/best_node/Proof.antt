@@ -1,4 +1,4 @@
--- `table_hubs::best_node` meets its contract: `node` leads the nodes below v.
+-- `table_hubs::best_node` meets its contract: `node` is the best of the nodes below v.
 -- Assumes nothing.
 use borrow.Author.Needs.{needs}
 use mathlib.Core.Logic.{⊎-elim}

@@ -22,26 +22,30 @@ abbrev μ-loop : tie.MeasureT-loop
 row-end : (c : tie.Start Inv-loop μ-loop) → c .args .a * c .args .n + c .args .n ≤ c .args .n * c .args .n
 row-end c = row-within _ _ (c .pre .0 .3)
 
+-- the function's entry, from the loop
+abbrev start : tie.At-loop Inv-loop μ-loop → tie.Start Inv-loop μ-loop
+start c = c .before .before .before .before .before .before .before .before .before .before
+
 -- in a turn of the loop
 module _ (c : tie.In-loop Inv-loop μ-loop) where
-  abbrev start : tie.Start Inv-loop μ-loop
-  start = c .before .before .before .before .before .before .before .before .before .before .before
+  abbrev at-start : tie.Start Inv-loop μ-loop
+  at-start = start (c .before)
 
   abbrev n : ℕ
-  n = start .args .n
+  n = at-start .args .n
 
   abbrev hub : ℕ
-  hub = getD (start .args .hubs .now) (c .before .loop .k) 0
+  hub = getD (at-start .args .hubs .now) (c .before .loop .k) 0
 
   hub-below : hub < n
-  hub-below = start .pre .1 hub (getD-has (start .args .hubs .now) _ (c .loop-test .taken))
+  hub-below = at-start .pre .1 hub (getD-has (at-start .args .hubs .now) _ (c .loop-test .taken))
 
   -- so does the hub's row, and its entry at a stands in it
   hub-end : hub * n + n ≤ n * n
   hub-end = row-within n hub hub-below
 
-  entry-inside : hub * n + start .args .a < n * n
-  entry-inside = place-inside n hub _ hub-below (start .pre .0 .3)
+  entry-inside : hub * n + at-start .args .a < n * n
+  entry-inside = place-inside n hub _ hub-below (at-start .pre .0 .3)
 
 mul-start : tie.Need-mul-start Inv-loop μ-loop
 mul-start c = omega (arith, row-end (c .before .before .before .before))
@@ -108,7 +112,7 @@ part-relax-end c = omega (arith, hub-end (c .before .before .before))
 relax-requires : tie.Need-relax-requires Inv-loop μ-loop
 relax-requires c κs =
     let turn = c .before .before .before .before in
-    turn .before .loop .inv .long ∙ sym (part-length _ (hub turn) _ (hub-below turn) (start turn .pre .0 .1))
+    turn .before .loop .inv .long ∙ sym (part-length _ (hub turn) _ (hub-below turn) (at-start turn .pre .0 .1))
 
 add-k : tie.Need-add-k Inv-loop μ-loop
 add-k c = omega arith
@@ -120,7 +124,7 @@ loop-again : tie.Need-loop-again Inv-loop μ-loop
 loop-again c =
     let turn = c .before .before .before .before .before .before .before in
     let low-known = turn .before .before .before .before .before .before .before .before .before .shared-slice-known2 in
-    row-next (turn .before .loop .inv) (start turn .pre .0 .1) (λ i. omega (arith, low-known .given i)) (turn .loop-test .taken)
+    row-next (turn .before .loop .inv) (at-start turn .pre .0 .1) (λ i. omega (arith, low-known .given i)) (turn .loop-test .taken)
     (hub-below turn) (c .before .before .relax .ensures)
 
 mul-row : tie.Need-mul-row Inv-loop μ-loop
@@ -130,14 +134,10 @@ slice-write-row : tie.Need-slice-write-row Inv-loop μ-loop
 slice-write-row c = search needs
 
 same-length : tie.Need-same-length Inv-loop μ-loop
-same-length c =
-    let start = c .before .before .before .before .before .before .before .before .before .before .before in
-    simp length-set (c .before .loop .inv .long ∙ sym (start .pre .0 .4))
+same-length c = simp length-set (c .before .loop .inv .long ∙ sym (start (c .before) .pre .0 .4))
 
 returns : tie.Need-returns Inv-loop μ-loop
-returns c =
-    let start = c .before .before .before .before .before .before .before .before .before .before .before in
-    row-done (c .before .loop .inv) (c .loop-test .left) (start .pre .0 .3)
+returns c = row-done (c .before .loop .inv) (c .loop-test .left) (start (c .before) .pre .0 .3)
 
 pub report-row-spec : {M : Type 1} → statement M
 report-row-spec =

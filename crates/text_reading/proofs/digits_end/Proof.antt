@@ -45,7 +45,7 @@ loop-again c =
     run-at-digit _ _ (turn .loop-test .taken) (c .before .if1 .left) (c .if2 .left) ∙ turn .before .loop .inv
 
 returns-3 : tie.Need-returns-3 Inv-loop μ-loop
-returns-3 c = run-at-end _ _ (c .loop-test .left) ∙ c .before .loop .inv
+returns-3 c = run-at-end _ (c .loop-test .left) ∙ c .before .loop .inv
 
 pub digits-end-spec : {M : Type 1} → statement M
 digits-end-spec =

@@ -1,7 +1,7 @@
 -- `text_reading::line_at` meets its contract: a walk of its MIR, by hand. The `LineReader` that `lines_from` returns is held in a local and
--- passed to `next_line`; the proof knows of the two only that each meets its contract.
+-- passed to `next_line`; the proof uses of the two only that each meets its contract.
 -- In a local MIR erases the lifetime of the struct's type, so the value is shown to have the type at `erased`: what the struct owns does
--- not say the lifetime's name.
+-- not depend on the lifetime's name.
 -- Assumes nothing.
 use mathlib.Core.Path.{_≡_, refl}
 use Prim.Native.Nat.{ℕ, _<_, _^_}
@@ -18,7 +18,7 @@ use ghost.Atoms.{Atoms, sem}
 use contract.Monad.{Fun, fact}
 use contract.Running.{givenOf, tables, tablesOf}
 use types.Kit.{Given, ‵, raw, _⊛_, ⋆, _$_, _∵_, !, qed, by, move, drop as leave, use1, use2, split, join, fsplit, fjoin, suffices, frame, done}
-use types.Run.{init, stop, from, and-then, no-more, land, returns, enter, params1, pass1, pass0}
+use types.Run.{init, stop, from, and-then, no-more, land, enter, params1, pass1, pass0}
 use sound.WpLaws.{FmC, fmOf, WpFn-mono}
 use denote.RattleType.{owns}
 use denote.Laws.{Is}
@@ -59,15 +59,15 @@ use Rattle.text_reading.proofs.line_at as lineAt
 use Rattle.text_reading.proofs.line_at.Statement as stated
 use Rattle.text_reading.proofs.line_at.Code as code
 
--- what is had of the parameters at exit: what they own, as they were passed
+-- what holds of the parameters at exit: what they own, as they were passed
 abbrev stayed : Stays (lineAt.ended .signature .params) (lineAt.ended .kept)
 stayed = (stay-none-slice (0 ∷ []) tt (plain (λ _. u8)) yes, (stay-none (λ _. usize) yes, (stay-none (λ _. u8) yes, tt)))
 
--- what `lines_from` says of the reader r that it makes of the text s and the place n
+-- what `lines_from` ensures of the reader r that it makes of the text s and the place n
 abbrev SaidReader : RefT (List ℕ) → ℕ → LineReader → Type 0
 SaidReader s n r = (r .text ≡ s) × (r .at ≡ n)
 
--- what the two calls say, put together
+-- what the two calls ensure, put together
 chain : (s : RefT (List ℕ)) (n letter : ℕ) (r : LineReader) (l : Line)
     → SaidReader s n r → SaidLine (r .text) (r .at) letter l → SaidLine s n letter l
 chain s n letter r l e f = rw (e .0, e .1) at f
@@ -96,7 +96,7 @@ module _ {M : Type 1} (𝓤 : URA M) (H : Heap 𝓤) (A : Atoms 𝓤) (mem : Mem
       abbrev values : Vals lineAt.signature (κ, tt)
       values = (v ∷ [], (vint w64 n ∷ [], (vint w8 letter ∷ [], tt)))
 
-      -- the call as its contract binds it, what is had on entry, and what is to be had at exit
+      -- the call as its contract binds it, what holds on entry, and what must hold at exit
       abbrev call : walkOf 𝓤 H A lineAt.ended stayed clauses .Ghost
       call = (((κ, tt), (q, tt), tt, (s, (n, (letter, tt))), values), tt)
 

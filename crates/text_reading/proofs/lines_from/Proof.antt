@@ -1,6 +1,6 @@
 -- `text_reading::lines_from` meets its contract: a walk of its MIR, by hand. A `LineReader` is made of the slice and the number passed, in
 -- the result's local.
--- A `&[u8]` is Copy, so what it owns is had twice: once for text at exit, and once inside the result, beside the facts of at.
+-- A `&[u8]` is Copy, so what it owns is available twice: once for text at exit, and once inside the result, beside the facts of at.
 -- Assumes nothing.
 use mathlib.Core.Path.{refl}
 use Prim.Native.Nat.{ℕ, _<_, _^_}
@@ -36,7 +36,6 @@ use denote.Triple.Walked.{says, Stays, stay-none, stay-none-slice, walkOf, goes-
 use denote.Exit.{yes}
 use denote.Triple.Clauses.{Clauses}
 use Rattle.text_reading.specs.declared.LineReader.{LineReader}
-use Rattle.text_reading.proofs.LineReader as T
 use Rattle.text_reading.proofs.LineReader.Laws as T′
 use Rattle.text_reading.proofs.ReaderSteps.{Text, textVal, readerType, readerLaws, token, local, text-twice, and-usize}
 use Rattle.text_reading.proofs.lines_from.Key.{name as #text-reading·lines-from}
@@ -44,7 +43,7 @@ use Rattle.text_reading.proofs.lines_from as lines
 use Rattle.text_reading.proofs.lines_from.Statement as stated
 use Rattle.text_reading.proofs.lines_from.Code as code
 
--- what is had of the parameters at exit: what they own, as they were passed
+-- what holds of the parameters at exit: what they own, as they were passed
 abbrev stayed : Stays (lines.ended .signature .params) (lines.ended .kept)
 stayed = (stay-none-slice (0 ∷ []) tt (plain (λ _. u8)) yes, (stay-none (λ _. usize) yes, tt))
 
@@ -67,7 +66,7 @@ module _ {M : Type 1} (𝓤 : URA M) (H : Heap 𝓤) (A : Atoms 𝓤) (W : Given
     abbrev values : Vals lines.signature (κ, tt)
     values = (v ∷ [], (vint w64 n ∷ [], tt))
 
-    -- the call as its contract binds it, what is had on entry, and what is to be had at exit
+    -- the call as its contract binds it, what holds on entry, and what must hold at exit
     abbrev call : walkOf 𝓤 H A lines.ended stayed clauses .Ghost
     call = (((κ, tt), (q, tt), tt, (s, (n, tt)), values), tt)
 

@@ -1,6 +1,6 @@
 -- `text_reading::next_line` meets its contract: a walk of its MIR, by hand. The struct is taken apart, and `scan_line` is called on the
--- slice, the number and the letter; the proof knows of it only that it meets its contract.
--- The struct is Copy: what it owns is had twice, one copy is kept whole for the exit, and of the other what text owns goes to the callee,
+-- slice, the number and the letter; the proof uses of it only that it meets its contract.
+-- The struct is Copy: what it owns is available twice: one copy is kept whole for the exit, and of the other what text owns goes to the callee,
 -- beside the lifetime's token, which comes back.
 -- Assumes nothing.
 use mathlib.Core.Path.{_≡_, refl}
@@ -40,10 +40,8 @@ use denote.Triple.Table.{entered, cited}
 use denote.Triple.Walked.{says, Stays, stay-none, walkOf, goes-none, Walks, ends-at, walked, walk-meets}
 use denote.Exit.{yes}
 use denote.Triple.Clauses.{Clauses, ensured, lasts}
-use Rattle.text_reading.specs.Scan.{found}
 use Rattle.text_reading.specs.declared.LineReader.{LineReader}
 use Rattle.text_reading.specs.declared.Line.{Line}
-use Rattle.text_reading.proofs.LineReader as T
 use Rattle.text_reading.proofs.LineReader.Laws as T′
 use Rattle.text_reading.proofs.Line as S
 use Rattle.text_reading.proofs.Line.Laws as S′
@@ -58,7 +56,7 @@ use Rattle.text_reading.proofs.next_line as next
 use Rattle.text_reading.proofs.next_line.Statement as stated
 use Rattle.text_reading.proofs.next_line.Code as code
 
--- what is had of the parameters at exit: what they own, as they were passed
+-- what holds of the parameters at exit: what they own, as they were passed
 abbrev stayed : Stays (next.ended .signature .params) (next.ended .kept)
 stayed = (stay-none Reader yes, (stay-none (λ _. u8) yes, tt))
 
@@ -84,7 +82,7 @@ module _ {M : Type 1} (𝓤 : URA M) (H : Heap 𝓤) (A : Atoms 𝓤) (mem : Mem
       abbrev values : Vals next.signature (κ, tt)
       values = (mach ∷ [], (vint w8 letter ∷ [], tt))
 
-      -- the call as its contract binds it, what is had on entry, and what is to be had at exit
+      -- the call as its contract binds it, what holds on entry, and what must hold at exit
       abbrev call : walkOf 𝓤 H A next.ended stayed clauses .Ghost
       call = (((κ, tt), (q, tt), tt, (r, (letter, tt)), values), tt)
 
@@ -108,7 +106,7 @@ module _ {M : Type 1} (𝓤 : URA M) (H : Heap 𝓤) (A : Atoms 𝓤) (mem : Mem
       abbrev fields : Values (D .parts)
       fields = (r .text, (r .at, tt))
 
-      -- the call of `scan_line`: its arguments, what it asks, and what it says of the line found
+      -- the call of `scan_line`: its arguments, what it requires, and what it ensures of the line found
       abbrev args : Args scan.signature (κ, tt)
       args = (r .text, (r .at, (letter, tt)))
 
@@ -128,7 +126,7 @@ module _ {M : Type 1} (𝓤 : URA M) (H : Heap 𝓤) (A : Atoms 𝓤) (mem : Mem
       apart : r .at < 2 ^ 64 → ent 𝓤 Entry (sep 𝓤 (ScanLine .pre to) (sem 𝓤 H A Own))
       apart fits =
           qed W (token κ q ∷ ‵ (owns (Reader (κ, tt) ∷ u8 ∷ []) (r, (letter, tt)) values) ∷ []) ∵
-          -- what the struct owns is had twice
+          -- what the struct owns is available twice
           move ! (1 ∷ []) $ fsplit ! $ move ! (1 ∷ []) $ leave ! $
           use1 W (‵ Own ⊛ ‵ Own) (LL.copy D (T′.the-copy (namedLft 1 0 tt (κ, tt))) 𝓤 H A W .twice r (mach ∷ [])) $ split ! $
           -- one copy is taken apart

@@ -20,11 +20,11 @@ abbrev μ-loop : tie.MeasureT-loop
 
 -- the next byte is a digit
 next : (c : tie.In-loop Inv-loop μ-loop) → Turn (c .before .before .args .text .now) (c .before .loop .i) (c .before .loop .v)
-next c = turn _ _ (c .loop-test .taken) _ (c .before .loop .inv .2)
+next c = turn _ _ (c .loop-test .taken) (c .before .loop .inv .2)
 
 -- at most nine digits were read
 small : (c : tie.In-loop Inv-loop μ-loop) → c .before .loop .v < 1000000000
-small c = let loop = c .before .loop in pow-nine _ (loop .i) (loop .inv .1) (omega arith)
+small c = let loop = c .before .loop in pow-nine (loop .i) (loop .inv .1) (omega arith)
 
 loop-holds : tie.Need-loop-holds Inv-loop μ-loop
 loop-holds c = search needs
@@ -54,7 +54,7 @@ loop-again : tie.Need-loop-again Inv-loop μ-loop
 loop-again c =
     let inv = c .before .before .loop .inv in
     let t = next (c .before) in
-    (omega arith, pow-turn _ _ _ (inv .1) (omega arith), t .rest, t .goes-on ∙ inv .3)
+    (omega arith, pow-turn _ (inv .1) (omega arith), t .rest, t .goes-on ∙ inv .3)
 
 returns : tie.Need-returns Inv-loop μ-loop
 unfolding valueFrom valueOf

@@ -41,9 +41,13 @@ module _ (t : ℕ) where
       Going (args .part) (neighboursOf (args .starts .now) (args .neighbours .now)) (args .d) (args .v) (args .nodes .now))
   going c = record { graph = c .pre .1 .0 .0 .lists .graph; below = c .pre .1 .1 .0; room = c .pre .1 .1 .1 }
 
+  -- the call's entry, from the search for a step
+  abbrev start : lts.After-next-node calls (At t) reads.Post → lts.Start calls (At t) reads.Post
+  start c = c .before .before .before .before .before .before .before .before
+
   -- the search for a step
   step : (c : lts.After-next-node calls (At t) reads.Post)
-      → (let args = c .before .before .before .before .before .before .before .before .args in
+      → (let args = start c .args in
       let G = neighboursOf (args .starts .now) (args .neighbours .now) in
       Step (args .part) G (member (args .allowed .now)) (args .table .now) (args .d) (args .v) (c .next-node .result))
   step c = record { some-left = c .before .before .if1 .left; search = rw (c .before .own .ensures) at (c .next-node .ensures) }
@@ -61,9 +65,7 @@ module _ (t : ℕ) where
   same-length c = simp length-set
 
   returns : lts.Need-returns calls (At t) reads.Post
-  returns c =
-      let start = c .before .before .before .before .before .before .before in
-      last-step (going start) _ _ (c .before .if1 .taken)
+  returns c = last-step (going (c .before .before .before .before .before .before .before)) _ _ (c .before .if1 .taken)
 
   own-requires : lts.Need-own-requires calls (At t) reads.Post
   own-requires c κs =
@@ -82,9 +84,7 @@ module _ (t : ℕ) where
   same-length-2 c = simp length-set
 
   returns-2 : lts.Need-returns-2 calls (At t) reads.Post
-  returns-2 c =
-      let start = c .before .before .before .before .before .before .before .before .before in
-      no-step (going start) (step (c .before)) (c .if2 .taken)
+  returns-2 c = no-step (going (start (c .before))) (step (c .before)) (c .if2 .taken)
 
   sub-take-steps : lts.Need-sub-take-steps calls (At t) reads.Post
   sub-take-steps c = omega arith
@@ -95,9 +95,9 @@ module _ (t : ℕ) where
   take-steps-requires : lts.Need-take-steps-requires calls (At t) reads.Post
   take-steps-requires c κs =
       let found = c .before in
-      let start = found .before .before .before .before .before .before .before .before .before in
-      let below = step-below (going start) (step (found .before)) (found .if2 .left) in
-      (omega (arith, start .pre .0), (start .pre .1 .0, (below, simp length-set (omega (arith, going start .room)))))
+      let entry = start (found .before) in
+      let below = step-below (going entry) (step (found .before)) (found .if2 .left) in
+      (omega (arith, entry .pre .0), (entry .pre .1 .0, (below, simp length-set (omega (arith, going entry .room)))))
 
   same-length-3 : lts.Need-same-length-3 calls (At t) reads.Post
   same-length-3 c = c .before .before .take-steps .kept .1 .1 .1 .1 .1 .1 .1 .0 ∙ simp length-set
@@ -105,8 +105,7 @@ module _ (t : ℕ) where
   returns-3 : lts.Need-returns-3 calls (At t) reads.Post
   returns-3 c =
       let found = c .before .before .before .before in
-      let start = found .before .before .before .before .before .before .before .before .before in
-      step-on (going start) (step (found .before)) (found .if2 .left) _ (c .before .before .take-steps .ensures)
+      step-on (going (start (found .before))) (step (found .before)) (found .if2 .left) _ (c .before .before .take-steps .ensures)
 
 pub +take-steps-spec : {M : Type 1} → statement M
 +take-steps-spec = close μ λ t. lts.spec (calls t)

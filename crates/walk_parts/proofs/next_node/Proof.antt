@@ -1,4 +1,4 @@
--- `walk_parts::next_node` meets its contract: the nodes that are left still say which is the first.
+-- `walk_parts::next_node` meets its contract: the nodes that are left still determine which is the first.
 -- Assumes nothing.
 use mathlib.Core.Path.{refl, sym, _∙_}
 use Prim.Native.Nat.{_-_}

@@ -1,4 +1,4 @@
--- `walk_writing::write_walk` meets its contract: the list becomes all none, then the answer that was judged says what is written.
+-- `walk_writing::write_walk` meets its contract: the list becomes all none, then the answer that was judged decides what is written.
 -- Assumes nothing.
 use mathlib.Core.Path.{ap, _∙_}
 use borrow.Author.Needs.{needs}
