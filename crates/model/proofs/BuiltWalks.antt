@@ -153,7 +153,7 @@ module _ (n s : ℕ) (G : Graph) (g : IsGraph n G) (size : n ≤ 1024) (full low
     -- a node that attains the report is a hub, if the report is not none
     pub attaining-hub : (h : ℕ) → h < n → (entryAt n report a b ≡ none → ⊥) → via n full a b h ≡ entryAt n report a b
         → T (has h (hubs n s G))
-    attaining-hub h hh f e = let v = via-sum (λ x. true) n full a b h (entryAt n report a b) e f in full-is′ h a hh ha (v .0) .0
+    attaining-hub h hh f e = let v = via-sum n full a b h e f in full-is′ h a hh ha (v .0) .0
 
   -- the hubs that count: every hub that attains the report is among them
   module _ (a b : ℕ) (ha : a < n) (hb : b < n) (isHub : ℕ → Bool)
@@ -248,7 +248,7 @@ module _ (n s : ℕ) (G : Graph) (g : IsGraph n G) (size : n ≤ 1024) (full low
             (low-given (λ q. f (sym e ∙ q))) (roomy f)
         at (to-hub x f y z) =
             let i = attains isHub n full a b r z in
-            let v = via-sum isHub n full a b hub r (i .2) f in
+            let v = via-sum n full a b hub (i .2) f in
             fits-sound (linked n G) a b w (withRoute r (Through hub)) (join (toHub n G full hub a) (toHub n G full hub b))
             (route-sound n s G g full low a b ha hb isHub report (withRoute r (Through hub)) (to-hub x f y z) f)
             (join-given (toHub n G full hub a) (toHub n G full hub b) (hub-given hub a (i .0) ha (v .0)) (hub-given hub b (i .0) hb (v .1)))
@@ -262,7 +262,7 @@ module _ (n s : ℕ) (G : Graph) (g : IsGraph n G) (size : n ≤ 1024) (full low
     pub taken-right : (h : ℕ) → h < n → (entryAt n report a b ≡ none → ⊥) → via n full a b h ≡ entryAt n report a b → T (taken n full a b h)
     unfolding taken
     taken-right h hh f e =
-        let v = via-sum (λ x. true) n full a b h (entryAt n report a b) e f in
+        let v = via-sum n full a b h e f in
         and-i (not (eqb (entryAt n full h a) none)) (not (eqb (entryAt n full h b) none))
         (not-T (eqb (entryAt n full h a) none) (λ t. v .0 (eqb→eq (entryAt n full h a) none t)))
         (not-T (eqb (entryAt n full h b) none) (λ t. v .1 (eqb→eq (entryAt n full h b) none t)))

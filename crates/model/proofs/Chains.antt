@@ -2,7 +2,7 @@
 -- lead from nodes below n to nodes below n.
 -- Assumes nothing.
 use mathlib.Core.Path.{_≡_, refl, sym, ap, subst}
-use mathlib.Core.Logic.{_⊎_, inl, inr}
+use mathlib.Core.Logic.{_⊎_, inl, inr, ⊎-elim}
 use mathlib.Core.Bool.{Bool, _||_}
 use mathlib.Core.List.{List, [], _∷_}
 use Prim.Native.Nat.{ℕ, zero, suc, _+_, _≤_, _<_, suc-le-suc, zero-le}
@@ -10,7 +10,7 @@ use native.Mathlib.Nat.{zero-add, suc-add, le-step, le-refl, le-antisymm}
 use native.Mathlib.Omega.{arith}
 use lib.Dec.{T}
 use lib.ListN.{length}
-use Rattle.model.specs.Basics.{none, upTo, has, any, keep, firstOf}
+use Rattle.model.specs.Basics.{none, upTo, has, any, keep}
 use Rattle.model.specs.Graph.{Edges, Chain, here, link, Fewest, Walked, stop, go, reach, fewest, Unjoined}
 use Rattle.model.proofs.Tests.{or-l, or-r, or-e}
 use Rattle.model.proofs.Lists.{has-head, of-single, any-of, of-any, has-keep, of-keep, has-upTo, of-upTo, First}
@@ -60,27 +60,29 @@ module _ {E : Edges} where
   chain-walked (link {a = a} t c) = let w = chain-walked c in (a ∷ w .0, ap suc (w .1), go t (w .2))
 
 module _ (E : Edges) (n a : ℕ) where
+  -- v is reached with k links
+  abbrev pub Reached : ℕ → ℕ → Type 0
+  Reached k v = T (has v (reach E n a k))
+
+  -- layer j + 1 adds nothing to layer j
+  abbrev Stable : ℕ → Type 0
+  Stable j = (v : ℕ) → Reached (suc j) v → Reached j v
+
   -- a node that is reached with k + 1 links is reached with k, or linked from one that is
-  grown : (k v : ℕ) → T (has v (reach E n a (suc k)))
-      → (v < n) × (T (has v (reach E n a k)) ⊎ ((u : ℕ) × T (has u (reach E n a k)) × T (E u v)))
+  grown : (k v : ℕ) → Reached (suc k) v → (v < n) × (Reached k v ⊎ ((u : ℕ) × Reached k u × T (E u v)))
   unfolding reach
   grown k v h =
       let r = reach E n a k in
       let i = of-keep (λ v. has v r || any (λ u. E u v) r) (upTo n) v h in
-      (of-upTo n v (i .0), at (or-e (has v r) (any (λ u. E u v) r) (i .1)))
-    where
-      at : T (has v (reach E n a k)) ⊎ T (any (λ u. E u v) (reach E n a k))
-          → T (has v (reach E n a k)) ⊎ ((u : ℕ) × T (has u (reach E n a k)) × T (E u v))
-      at (inl s) = inl s
-      at (inr s) = inr (of-any (λ u. E u v) (reach E n a k) s)
+      (of-upTo n v (i .0), ⊎-elim inl (λ s. inr (of-any (λ u. E u v) r s)) (or-e (has v r) (any (λ u. E u v) r) (i .1)))
 
-  pub stay : (k v : ℕ) → v < n → T (has v (reach E n a k)) → T (has v (reach E n a (suc k)))
+  pub stay : (k v : ℕ) → v < n → Reached k v → Reached (suc k) v
   unfolding reach
   stay k v b h =
       let r = reach E n a k in
       has-keep (λ v. has v r || any (λ u. E u v) r) (upTo n) v (has-upTo n v b) (or-l (has v r) (any (λ u. E u v) r) h)
 
-  pub step : (k u v : ℕ) → v < n → T (has u (reach E n a k)) → T (E u v) → T (has v (reach E n a (suc k)))
+  pub step : (k u v : ℕ) → v < n → Reached k u → T (E u v) → Reached (suc k) v
   unfolding reach
   step k u v b h t =
       let r = reach E n a k in
@@ -88,15 +90,13 @@ module _ (E : Edges) (n a : ℕ) where
       (or-r (has v r) (any (λ u. E u v) r) (any-of (λ u. E u v) r u h t))
 
   -- what is reached with k links is joined by a chain of k or fewer
-  sound : (k v : ℕ) → T (has v (reach E n a k)) → (j : ℕ) × (j ≤ k) × Chain E j a v
+  sound : (k v : ℕ) → Reached k v → (j : ℕ) × (j ≤ k) × Chain E j a v
   unfolding reach
   sound zero v h = (0, zero-le, subst (λ (z : ℕ). Chain E 0 a z) (sym (of-single v a h)) here)
-  sound (suc k) v h = at (grown k v h .1) (λ u s. sound k u s)
-    where
-      at : T (has v (reach E n a k)) ⊎ ((u : ℕ) × T (has u (reach E n a k)) × T (E u v))
-          → ((u : ℕ) → T (has u (reach E n a k)) → (j : ℕ) × (j ≤ k) × Chain E j a u) → (j : ℕ) × (j ≤ suc k) × Chain E j a v
-      at (inl s) rec = let i = rec v s in (i .0, le-step (i .1), i .2)
-      at (inr s) rec = let i = rec (s .0) (s .1) in (suc (i .0), suc-le-suc (i .1), snoc (i .2) (s .2))
+  sound (suc k) v h = ⊎-elim
+      (λ s. let i = sound k v s in (i .0, le-step (i .1), i .2))
+      (λ s. let i = sound k (s .0) (s .1) in (suc (i .0), suc-le-suc (i .1), snoc (i .2) (s .2)))
+      (grown k v h .1)
 
   module _ (ends : (u v : ℕ) → u < n → T (E u v) → v < n) (start : a < n) where
     pub inside : {k b v : ℕ} → b < n → Chain E k b v → v < n
@@ -104,42 +104,32 @@ module _ (E : Edges) (n a : ℕ) where
     inside h (link t r) = inside (ends _ _ h t) r
 
     -- and the other end of a chain of k links is reached with k
-    complete : (k v : ℕ) → Chain E k a v → T (has v (reach E n a k))
+    complete : (k v : ℕ) → Chain E k a v → Reached k v
     unfolding reach
     complete zero v c = subst (λ (z : ℕ). T (has z (a ∷ []))) (chain-zero c) (has-head a [])
     complete (suc k) v c =
         let s = split-last c in
         step k (s .0) v (inside start c) (complete k (s .0) (s .1)) (s .2)
 
-    starts : (k : ℕ) → T (has a (reach E n a k))
+    starts : (k : ℕ) → Reached k a
     unfolding reach
     starts zero = has-head a []
     starts (suc k) = stay k a start (starts k)
 
     -- once a layer adds nothing, no later one does
-    stable : (j : ℕ) → ((v : ℕ) → T (has v (reach E n a (suc j))) → T (has v (reach E n a j)))
-        → (k v : ℕ) → T (has v (reach E n a k)) → T (has v (reach E n a j))
+    stable : (j : ℕ) → Stable j → (k v : ℕ) → Reached k v → Reached j v
     unfolding reach
-    stable j f zero v h = subst (λ (z : ℕ). T (has z (reach E n a j))) (sym (of-single v a h)) (starts j)
-    stable j f (suc k) v h = at (grown k v h) (λ u s. stable j f k u s)
-      where
-        at : (v < n) × (T (has v (reach E n a k)) ⊎ ((u : ℕ) × T (has u (reach E n a k)) × T (E u v)))
-            → ((u : ℕ) → T (has u (reach E n a k)) → T (has u (reach E n a j))) → T (has v (reach E n a j))
-        at g rec = case (g .1)
-          where
-            case : T (has v (reach E n a k)) ⊎ ((u : ℕ) × T (has u (reach E n a k)) × T (E u v)) → T (has v (reach E n a j))
-            case (inl s) = rec v s
-            case (inr s) = f v (step j (s .0) v (g .0) (rec (s .0) (s .1)) (s .2))
+    stable j f zero v h = subst (λ (z : ℕ). Reached j z) (sym (of-single v a h)) (starts j)
+    stable j f (suc k) v h =
+        let g = grown k v h in
+        ⊎-elim (stable j f k v) (λ s. f v (step j (s .0) v (g .0) (stable j f k (s .0) (s .1)) (s .2))) (g .1)
 
     count : ℕ → ℕ
     count k = length (keep (λ v. has v (reach E n a k)) (upTo n))
 
-    Stable : ℕ → Type 0
-    Stable j = (v : ℕ) → T (has v (reach E n a (suc j))) → T (has v (reach E n a j))
-
     -- each layer adds a node until one adds nothing
     layers : (k : ℕ) → ((j : ℕ) × (j < k) × Stable j) ⊎ (k < count k)
-    unfolding count Stable
+    unfolding count
     layers zero = inr (length-pos a (keep (λ v. has v (reach E n a 0)) (upTo n))
         (has-keep (λ v. has v (reach E n a 0)) (upTo n) a (has-upTo n a start) (starts 0)))
     layers (suc k) =
@@ -147,7 +137,7 @@ module _ (E : Edges) (n a : ℕ) where
         (λ v b h. stay k v (of-upTo n v b) h))
       where
         at : ((j : ℕ) × (j < k) × Stable j) ⊎ (k < count k)
-            → ((v : ℕ) → T (has v (upTo n)) → T (has v (reach E n a (suc k))) → T (has v (reach E n a k))) ⊎ (count k < count (suc k))
+            → ((v : ℕ) → T (has v (upTo n)) → Reached (suc k) v → Reached k v) ⊎ (count k < count (suc k))
             → ((j : ℕ) × (j < suc k) × Stable j) ⊎ (suc k < count (suc k))
         at (inl s) g = inl (s .0, le-step (s .1), s .2)
         at (inr c) (inl f) = inl (k, le-refl (suc k), λ v h. f v (has-upTo n v (grown k v h .0)) h)
@@ -156,30 +146,22 @@ module _ (E : Edges) (n a : ℕ) where
     -- so a layer below n adds nothing
     settled : (j : ℕ) × (j < n) × Stable j
     unfolding count
-    settled = at (layers n)
-      where
-        at : ((j : ℕ) × (j < n) × Stable j) ⊎ (n < count n) → (j : ℕ) × (j < n) × Stable j
-        at (inl s) = s
-        at (inr c) = absurd (omega (arith, keep-length (λ v. has v (reach E n a n)) (upTo n), length-upTo n))
+    settled = ⊎-elim (λ s. s)
+        (λ c. absurd (omega (arith, keep-length (λ v. has v (reach E n a n)) (upTo n), length-upTo n))) (layers n)
 
     -- what the search for b finds, and what it misses
     pub fewest-cases : (b : ℕ) → ((fewest E n a b < n) × Fewest E a b (fewest E n a b)) ⊎ ((fewest E n a b ≡ none) × Unjoined E a b)
-    unfolding fewest Stable
-    fewest-cases b = at (first-below p none n)
+    unfolding fewest
+    fewest-cases b = at (first-below (λ k. has b (reach E n a k)) none n)
       where
-        p : ℕ → Bool
-        p k = has b (reach E n a k)
-
-        at : First p none 0 n (firstOf p none (upTo n))
-            → ((firstOf p none (upTo n) < n) × Fewest E a b (firstOf p none (upTo n))) ⊎ ((firstOf p none (upTo n) ≡ none) × Unjoined E a b)
-        at (found lo hi t least) =
-            let r = firstOf p none (upTo n) in
+        at : {r : ℕ} → First (λ k. has b (reach E n a k)) none 0 n r → ((r < n) × Fewest E a b r) ⊎ ((r ≡ none) × Unjoined E a b)
+        at {r} (found lo hi t least) =
             let s = sound r b t in
             let low : (k : ℕ) → Chain E k a b → r ≤ k = λ k c. fit k (λ h. least k zero-le h (complete k b c)) in
             let e : s .0 ≡ r = le-antisymm (s .1) (low (s .0) (s .2)) in
             inl (omega arith, (subst (λ (k : ℕ). Chain E k a b) e (s .2), low))
           where
-            fit : (k : ℕ) → (k < firstOf p none (upTo n) → ⊥) → firstOf p none (upTo n) ≤ k
+            fit : (k : ℕ) → (k < r → ⊥) → r ≤ k
             fit k f = omega arith
         at (nothing e least) =
             let s = settled in
@@ -188,30 +170,15 @@ module _ (E : Edges) (n a : ℕ) where
 -- The same as four facts: what a number other than none says, what none says, and the two converses.
 module _ (E : Edges) (n a : ℕ) (ends : (u v : ℕ) → u < n → T (E u v) → v < n) (start : a < n) where
   pub fewest-is : (b : ℕ) → (fewest E n a b ≡ none → ⊥) → Fewest E a b (fewest E n a b)
-  fewest-is b h = at (fewest-cases E n a ends start b)
-    where
-      at : ((fewest E n a b < n) × Fewest E a b (fewest E n a b)) ⊎ ((fewest E n a b ≡ none) × Unjoined E a b)
-          → Fewest E a b (fewest E n a b)
-      at (inl s) = s .1
-      at (inr s) = absurd (h (s .0))
+  fewest-is b h = ⊎-elim (λ s. s .1) (λ s. absurd (h (s .0))) (fewest-cases E n a ends start b)
 
   pub fewest-none : n ≤ none → (b : ℕ) → fewest E n a b ≡ none → Unjoined E a b
-  fewest-none m b e = at (fewest-cases E n a ends start b)
-    where
-      at : ((fewest E n a b < n) × Fewest E a b (fewest E n a b)) ⊎ ((fewest E n a b ≡ none) × Unjoined E a b) → Unjoined E a b
-      at (inl s) = absurd (omega arith)
-      at (inr s) = s .1
+  fewest-none m b e = ⊎-elim (λ s. absurd (omega arith)) (λ s. s .1) (fewest-cases E n a ends start b)
 
   pub fewest-of : (b d : ℕ) → Fewest E a b d → fewest E n a b ≡ d
-  fewest-of b d f = at (fewest-cases E n a ends start b)
-    where
-      at : ((fewest E n a b < n) × Fewest E a b (fewest E n a b)) ⊎ ((fewest E n a b ≡ none) × Unjoined E a b) → fewest E n a b ≡ d
-      at (inl s) = le-antisymm (s .1 .1 d (f .0)) (f .1 (fewest E n a b) (s .1 .0))
-      at (inr s) = absurd (s .1 d (f .0))
+  fewest-of b d f = ⊎-elim
+      (λ s. le-antisymm (s .1 .1 d (f .0)) (f .1 (fewest E n a b) (s .1 .0))) (λ s. absurd (s .1 d (f .0)))
+      (fewest-cases E n a ends start b)
 
   pub fewest-missing : (b : ℕ) → Unjoined E a b → fewest E n a b ≡ none
-  fewest-missing b f = at (fewest-cases E n a ends start b)
-    where
-      at : ((fewest E n a b < n) × Fewest E a b (fewest E n a b)) ⊎ ((fewest E n a b ≡ none) × Unjoined E a b) → fewest E n a b ≡ none
-      at (inl s) = absurd (f (fewest E n a b) (s .1 .0))
-      at (inr s) = s .0
+  fewest-missing b f = ⊎-elim (λ s. absurd (f (fewest E n a b) (s .1 .0))) (λ s. s .0) (fewest-cases E n a ends start b)

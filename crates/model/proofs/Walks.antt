@@ -15,7 +15,7 @@ use lib.ListN.{length, replicate, length-append, length-reverse}
 use Rattle.model.specs.declared.Route.the-variants.{Itself, Low, Through, NoRoute}
 use Rattle.model.specs.declared.Answer.{Answer}
 use Rattle.model.specs.Answers.{Outcome, refused, answered}
-use Rattle.model.specs.Basics.{none, if_then_else_, has, keep, upTo, firstOf}
+use Rattle.model.specs.Basics.{none, if_then_else_, has, keep, upTo}
 use Rattle.model.specs.Graph.{Edges, Walked, stop, go, linked}
 use Rattle.model.specs.Survey.{Graph, IsGraph}
 use Rattle.model.specs.Hubs.{isLow}
@@ -71,6 +71,23 @@ chosen a b r l h = one (eqb a b) refl
 
 -- ---- one part of a walk
 
+-- a step from v, with d links left after it, leads to x: a neighbour that is allowed and has d left. Where x is none, there is no such
+-- neighbour
+data Next (G : Graph) (may : ℕ → Bool) (left : ℕ → ℕ) (d v x : ℕ) : Type 0 where
+  leads : T (has x (G v)) → T (may x) → left x ≡ d → Next G may left d v x
+  ends : x ≡ none → ((y : ℕ) → T (has y (G v)) → T (may y) → left y ≡ d → ⊥) → Next G may left d v x
+
+next-cases : (G : Graph) (may : ℕ → Bool) (left : ℕ → ℕ) (d v : ℕ) → Next G may left d v (next G may left d v)
+unfolding next
+next-cases G may left d v = at (first-in p none (G v))
+  where
+    p : ℕ → Bool
+    p x = may x && eqb (left x) d
+
+    at : {x : ℕ} → (T (has x (G v)) × T (p x)) ⊎ ((x ≡ none) × ((y : ℕ) → T (has y (G v)) → T (p y) → ⊥)) → Next G may left d v x
+    at {x} (inl r) = leads (r .0) (and-l (may x) (eqb (left x) d) (r .1)) (eqb→eq (left x) d (and-r (may x) (eqb (left x) d) (r .1)))
+    at (inr r) = ends (r .0) (λ y m t e. r .1 y m (and-i (may y) (eqb (left y) d) t (eq-T (left y) d e)))
+
 -- where there are nodes, they are a chain of d links from v to goal
 abbrev pub Sound : Edges → ℕ → ℕ → ℕ → Option (List ℕ) → Type 0
 Sound E d v goal missing = Unit {0}
@@ -78,47 +95,40 @@ Sound E d v goal (some l) = Walked E l v goal × (length l ≡ suc d)
 
 module _ (n : ℕ) (G : Graph) (g : IsGraph n G) (may : ℕ → Bool) (left : ℕ → ℕ) (goal : ℕ) where
   pub steps-sound : (d v : ℕ) → v < n → Sound (linked n G) d v goal (steps G may left goal d v)
-  unfolding steps next before
+  unfolding steps before
   steps-sound zero v h = at (eqb v goal) refl
     where
       at : (t : Bool) → eqb v goal ≡ t → Sound (linked n G) 0 v goal (if t then some (v ∷ []) else missing)
       at true e = (subst (λ (z : ℕ). Walked (linked n G) (v ∷ []) v z) (eqb-true v goal e) stop, refl)
       at false e = tt
-  steps-sound (suc d) v h = at (eqb x none) refl (first-in p none (G v)) (λ b. steps-sound d x b)
+  steps-sound (suc d) v h = at (eqb x none) refl (next-cases G may left d v) (λ b. steps-sound d x b)
     where
-      p : ℕ → Bool
-      p x = may x && eqb (left x) d
-
       x : ℕ
-      x = firstOf p none (G v)
+      x = next G may left d v
 
       add : (o : Option (List ℕ)) → T (linked n G v x) → Sound (linked n G) d x goal o → Sound (linked n G) (suc d) v goal (before v o)
       add missing t s = tt
       add (some l) t s = (go t (s .0), ap suc (s .1))
 
-      at : (t : Bool) → eqb x none ≡ t → (T (has x (G v)) × T (p x)) ⊎ ((x ≡ none) × ((y : ℕ) → T (has y (G v)) → T (p y) → ⊥))
-          → (x < n → Sound (linked n G) d x goal (steps G may left goal d x))
+      at : (t : Bool) → eqb x none ≡ t → Next G may left d v x → (x < n → Sound (linked n G) d x goal (steps G may left goal d x))
           → Sound (linked n G) (suc d) v goal (if t then missing else before v (steps G may left goal d x))
-      at true e r rec = tt
-      at false e (inl r) rec = add (steps G may left goal d x) (linked-of n G g v x h (r .0)) (rec (g .below v x h (r .0)))
-      at false e (inr r) rec = absurd (eqb-false x none e (r .0))
+      at true e c rec = tt
+      at false e (leads m t l) rec = add (steps G may left goal d x) (linked-of n G g v x h m) (rec (g .below v x h m))
+      at false e (ends q f) rec = absurd (eqb-false x none e q)
 
   -- where each node has a next one, one link nearer, the steps lead to the goal
   pub steps-given : n ≤ none → ((v d : ℕ) → v < n → suc d < none → left v ≡ suc d → (u : ℕ) × T (has u (G v)) × T (may u) × (left u ≡ d))
       → ((v : ℕ) → v < n → left v ≡ 0 → v ≡ goal) → (d v : ℕ) → v < n → d < none → left v ≡ d → IsSome (steps G may left goal d v)
-  unfolding steps next before
-  steps-given size next end zero v h z q = at (eqb v goal) (eq-T v goal (end v h q))
+  unfolding steps before
+  steps-given size nearer end zero v h z q = at (eqb v goal) (eq-T v goal (end v h q))
     where
       at : (t : Bool) → T t → IsSome (if t then some (v ∷ []) else missing)
       at true t = tt
       at false t = t
-  steps-given size next end (suc d) v h z q = at (first-in p none (G v)) (λ b e. steps-given size next end d x b (omega arith) e)
+  steps-given size nearer end (suc d) v h z q = at (next-cases G may left d v) (λ b e. steps-given size nearer end d x b (omega arith) e)
     where
-      p : ℕ → Bool
-      p x = may x && eqb (left x) d
-
       x : ℕ
-      x = firstOf p none (G v)
+      x = next G may left d v
 
       add : (o : Option (List ℕ)) → IsSome o → IsSome (before v o)
       add missing t = t
@@ -129,30 +139,19 @@ module _ (n : ℕ) (G : Graph) (g : IsGraph n G) (may : ℕ → Bool) (left : �
       away true e b s = let w : x ≡ none = eqb-true x none e in absurd (omega arith)
       away false e b s = add (steps G may left goal d x) s
 
-      at : (T (has x (G v)) × T (p x)) ⊎ ((x ≡ none) × ((y : ℕ) → T (has y (G v)) → T (p y) → ⊥))
-          → (x < n → left x ≡ d → IsSome (steps G may left goal d x))
+      at : Next G may left d v x → (x < n → left x ≡ d → IsSome (steps G may left goal d x))
           → IsSome (if eqb x none then missing else before v (steps G may left goal d x))
-      at (inl r) rec =
-          let b = g .below v x h (r .0) in
-          away (eqb x none) refl b (rec b (eqb→eq (left x) d (and-r (may x) (eqb (left x) d) (r .1))))
-      at (inr r) rec =
-          let u = next v d h z q in
-          absurd (r .1 (u .0) (u .1) (and-i (may (u .0)) (eqb (left (u .0)) d) (u .2) (eq-T (left (u .0)) d (u .3))))
+      at (leads m t l) rec = let b = g .below v x h m in away (eqb x none) refl b (rec b l)
+      at (ends e f) rec = let u = nearer v d h z q in absurd (f (u .0) (u .1) (u .2) (u .3))
 
 -- the next node, if there is one, is below n
 pub next-below : (n : ℕ) (G : Graph) → IsGraph n G → (may : ℕ → Bool) (left : ℕ → ℕ) (d v : ℕ) → v < n → (next G may left d v ≡ none → ⊥)
     → next G may left d v < n
-unfolding next
-next-below n G g may left d v h f = at (first-in p none (G v))
+next-below n G g may left d v h = at (next-cases G may left d v)
   where
-    p : ℕ → Bool
-    p x = may x && eqb (left x) d
-
-    at : (T (has (firstOf p none (G v)) (G v)) × T (p (firstOf p none (G v))))
-        ⊎ ((firstOf p none (G v) ≡ none) × ((y : ℕ) → T (has y (G v)) → T (p y) → ⊥))
-        → firstOf p none (G v) < n
-    at (inl r) = g .below v (firstOf p none (G v)) h (r .0)
-    at (inr r) = absurd (f (r .0))
+    at : {x : ℕ} → Next G may left d v x → (x ≡ none → ⊥) → x < n
+    at {x} (leads m t l) f = g .below v x h m
+    at (ends e miss) f = absurd (f e)
 
 -- steps depend only on nodes below n
 module _ (n : ℕ) (G : Graph) (g : IsGraph n G) (may may′ : ℕ → Bool) (left left′ : ℕ → ℕ) (goal : ℕ)
@@ -232,15 +231,12 @@ module _ (n : ℕ) (G : Graph) (g : IsGraph n G) (may : ℕ → Bool) (left : �
   under d = length (keep (λ x. ltb (left x) d) (upTo n))
 
   depth-under : (d v : ℕ) → v < n → depth G may left d v ≤ under d
-  unfolding depth next under
+  unfolding depth under
   depth-under zero v h = zero-le
-  depth-under (suc d) v h = at (eqb x none) refl (first-in p none (G v)) (λ b. depth-under d x b)
+  depth-under (suc d) v h = at (eqb x none) refl (next-cases G may left d v) (λ b. depth-under d x b)
     where
-      p : ℕ → Bool
-      p x = may x && eqb (left x) d
-
       x : ℕ
-      x = firstOf p none (G v)
+      x = next G may left d v
 
       more : x < n → left x ≡ d → under d < under (suc d)
       more b e = side (keep-grows (λ y. ltb (left y) d) (λ y. ltb (left y) (suc d)) (upTo n)
@@ -254,15 +250,11 @@ module _ (n : ℕ) (G : Graph) (g : IsGraph n G) (may : ℕ → Bool) (left : �
           side (inl f) = absurd (let l = ltb→lt (left x) d (f x (has-upTo n x b) (lt→ltb (left x) (suc d) (omega arith))) in omega arith)
           side (inr l) = l
 
-      at : (t : Bool) → eqb x none ≡ t → (T (has x (G v)) × T (p x)) ⊎ ((x ≡ none) × ((y : ℕ) → T (has y (G v)) → T (p y) → ⊥))
-          → (x < n → depth G may left d x ≤ under d) → (if t then 0 else suc (depth G may left d x)) ≤ under (suc d)
-      at true e r rec = zero-le
-      at false e (inl r) rec =
-          let b = g .below v x h (r .0) in
-          let l = rec b in
-          let m = more b (eqb→eq (left x) d (and-r (may x) (eqb (left x) d) (r .1))) in
-          omega arith
-      at false e (inr r) rec = absurd (eqb-false x none e (r .0))
+      at : (t : Bool) → eqb x none ≡ t → Next G may left d v x → (x < n → depth G may left d x ≤ under d)
+          → (if t then 0 else suc (depth G may left d x)) ≤ under (suc d)
+      at true e c rec = zero-le
+      at false e (leads m t l) rec = let b = g .below v x h m in omega (arith, rec b, more b l)
+      at false e (ends q f) rec = absurd (eqb-false x none e q)
 
   pub depth-bounded : (d v : ℕ) → v < n → depth G may left d v ≤ n
   unfolding under
@@ -337,6 +329,16 @@ fit-none E a b w =
     ∙ ap (λ (k : ℕ). record { answer = answered (withRoute none NoRoute); walk = replicate k none }) (sub-zero w)))
     no-way
 
+-- where a sum of two entries is not none, neither entry is, and it is their sum
+pub via-sum : (n : ℕ) (full : List ℕ) (a b h : ℕ) {z : ℕ} → via n full a b h ≡ z → (z ≡ none → ⊥)
+    → (entryAt n full h a ≡ none → ⊥) × (entryAt n full h b ≡ none → ⊥) × (entryAt n full h a + entryAt n full h b ≡ z)
+unfolding via
+via-sum n full a b h {z} e f = at (sum-is (entryAt n full h a) (entryAt n full h b)) e
+  where
+    at : {x y u : ℕ} → Sum x y u → u ≡ z → (x ≡ none → ⊥) × (y ≡ none → ⊥) × (x + y ≡ z)
+    at (whole p q s) e = (p, q, sym s ∙ e)
+    at (part s p) e = absurd (f (sym e ∙ s))
+
 module _ (isHub : ℕ → Bool) (n : ℕ) (full : List ℕ) (a b : ℕ) where
   -- the hub found for a report is below n, counts as a hub, and its two entries add up to the report
   pub attains : (r : ℕ) → (attaining isHub n full a b r ≡ none → ⊥)
@@ -354,17 +356,6 @@ module _ (isHub : ℕ → Bool) (n : ℕ) (full : List ℕ) (a b : ℕ) where
         eqb→eq (via n full a b x) r (and-r (isHub x) (eqb (via n full a b x) r) t),
       )
       at (nothing e miss) d = absurd (d e)
-
-  -- where a sum of two entries is not none, neither entry is, and it is their sum
-  pub via-sum : (h z : ℕ) → via n full a b h ≡ z → (z ≡ none → ⊥)
-      → (entryAt n full h a ≡ none → ⊥) × (entryAt n full h b ≡ none → ⊥) × (entryAt n full h a + entryAt n full h b ≡ z)
-  unfolding via
-  via-sum h z e f = at (sum-is (entryAt n full h a) (entryAt n full h b)) e
-    where
-      at : {y : ℕ} → Sum (entryAt n full h a) (entryAt n full h b) y → y ≡ z
-          → (entryAt n full h a ≡ none → ⊥) × (entryAt n full h b ≡ none → ⊥) × (entryAt n full h a + entryAt n full h b ≡ z)
-      at (whole p q s) e = (p, q, sym s ∙ e)
-      at (part s p) e = absurd (f (sym e ∙ s))
 
 module _ (n s : ℕ) (G : Graph) (g : IsGraph n G) (full low : List ℕ) (a b : ℕ) (ha : a < n) (hb : b < n) where
   low-sound : Sound (linked n G) (entryAt n low a b) a b (byLow n s G low a b)
@@ -393,7 +384,7 @@ module _ (n s : ℕ) (G : Graph) (g : IsGraph n G) (full low : List ℕ) (a b : 
     route-sound x (to-hub f g y z) m =
         let hub = attaining isHub n full a b (entryAt n report a b) in
         let i = attains isHub n full a b (entryAt n report a b) z in
-        let e = via-sum isHub n full a b hub (entryAt n report a b) (i .2) g in
+        let e = via-sum n full a b hub (i .2) g in
         subst (λ (d : ℕ). Sound (linked n G) d a b (join (toHub n G full hub a) (toHub n G full hub b))) (e .2) (hub-sound hub)
 
     -- with no route there are no nodes
