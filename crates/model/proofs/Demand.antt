@@ -233,12 +233,10 @@ module _ (n : ℕ) (starts neighbours : List ℕ) (acc : Accepted n starts neigh
     unfolding pair
     asking-answers =
         let g = acc .lists .graph in
-        let i =
-        pair-built n s G g (acc .size) full low report own a b ha hb (taken n full a b)
-        (taken-right n s G g (acc .size) full low report own a b ha hb) in (
+        let i = pair-built g (acc .size) own ha hb (taken n full a b) (taken-right g (acc .size) own ha hb) in (
           withRoute (entryAt n report a b) (i .0),
           asks full low report hf hl hr a b ha hb ∙ i .1,
-          report-at n s G g (acc .size) full low report own a b ha hb,
+          report-at g (acc .size) own ha hb,
         )
 
     -- the report is none exactly where no chain joins the pair, else from the fewest links to two more
@@ -260,11 +258,11 @@ module _ (n : ℕ) (starts neighbours : List ℕ) (acc : Accepted n starts neigh
       let f = full-room n s G full low report own in
       let l = low-room n s G full low report own in
       let r = report-room n s G full low report own in
-      let p = taken-right n s G g (acc .size) full low report own a b ha hb in
-      let i = pair-built n s G g (acc .size) full low report own a b ha hb (taken n full a b) p in
+      let p = taken-right g (acc .size) own ha hb in
+      let i = pair-built g (acc .size) own ha hb (taken n full a b) p in
       let q : withRoute (entryAt n report a b) (i .0) ≡ x = cc (asks full low report f l r a b ha hb, i .1) in
       ap (λ (y : AfterWalking). y .answer) (walks full low report f l r a b ha hb w)
-      ∙ walk-built n s G g (acc .size) full low report own a b ha hb (taken n full a b) p w
+      ∙ walk-built g (acc .size) own ha hb (taken n full a b) p w
       (subst (λ (y : Answer). (y .report ≡ none) ⊎ (y .report < w)) (sym q) room)
       ∙ sym (asks full low report f l r a b ha hb) ∙ e
 

@@ -80,10 +80,9 @@ module _ (text : List ℕ) (x : Parsed) (e : parse 128 2048 (128 + 1) (2 * 2048)
       let low = lowTable n s G in
       let report = reportTable n s G in
       let i =
-      pair-built n s G g size full low report own a b ha hb (taken n full a b)
-      (taken-right n s G g size full low report own a b ha hb) in (
+      pair-built g size own ha hb (taken n full a b) (taken-right g size own ha hb) in (
         i .1 ∙ ap answered (sym (ap valueIn (i .1))),
-        ap (λ (o : Outcome Answer). valueIn o .report) (i .1) ∙ report-at n s G g size full low report own a b ha hb,
+        ap (λ (o : Outcome Answer). valueIn o .report) (i .1) ∙ report-at g size own ha hb,
       )
 
   -- the first line, then for each a < b in order a line with an allowed report and a route
