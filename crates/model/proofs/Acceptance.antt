@@ -1,7 +1,7 @@
 -- An accepted survey as a test and as facts, each from the other; and what the facts say of its graph.
 -- Assumes nothing.
 use mathlib.Core.Path.{_≡_, refl, sym, ap, _∙_, subst}
-use mathlib.Core.Logic.{_⊎_, inl, inr}
+use mathlib.Core.Logic.{_⊎_, inl, inr, _↔_}
 use mathlib.Core.Bool.{Bool, true, false, not, _&&_, _||_}
 use mathlib.Core.List.{List}
 use Prim.Native.Nat.{ℕ, _+_, _/_, _%_, _≤_, _<_}
@@ -22,9 +22,10 @@ module _ (n : ℕ) (starts neighbours : List ℕ) where
   own : ℕ → ℕ → Bool
   own v x = ltb x n && not (eqb x v) && has v (neighboursOf starts neighbours x)
 
-  pub survey-facts : T (isSurvey n starts neighbours) → IsSurvey n starts neighbours
+  -- each of the seven tests is one fact
+  survey-both : T (isSurvey n starts neighbours) ↔ IsSurvey n starts neighbours
   unfolding isSurvey own
-  survey-facts t =
+  survey-both =
       let G : Graph = neighboursOf starts neighbours in
       let last = getD starts n 0 in
       let A = eqb (getD starts 0 0) 0 in
@@ -33,62 +34,58 @@ module _ (n : ℕ) (starts neighbours : List ℕ) where
       let D = leb (last / 2) 16384 in
       let E = leb last (length neighbours) in
       let F = all (λ v. ascending (G v)) (upTo n) in
-      let H = all (λ v. all (λ x. own v x) (G v)) (upTo n) in
-      let t6 : T (A && B && C && D && E && F) = and-l (A && B && C && D && E && F) H t in
-      let t5 : T (A && B && C && D && E) = and-l (A && B && C && D && E) F t6 in
-      let t4 : T (A && B && C && D) = and-l (A && B && C && D) E t5 in
-      let t3 : T (A && B && C) = and-l (A && B && C) D t4 in
-      let t2 : T (A && B) = and-l (A && B) C t3 in
-      let own-facts : (v x : ℕ) → v < n → T (has x (G v)) → T (own v x) =
-      λ v x h m. of-all (λ x. own v x) (G v)
-      (of-all (λ v. all (λ x. own v x) (G v)) (upTo n) (and-r (A && B && C && D && E && F) H t) v (has-upTo n v h)) x m in
-      record {
-        first = eqb→eq (getD starts 0 0) 0 (and-l A B t2);
-        rising = λ v h. leb→le (getD starts v 0) (getD starts (v + 1) 0)
-            (of-all (λ v. leb (getD starts v 0) (getD starts (v + 1) 0)) (upTo n) (and-r A B t2) v (has-upTo n v h));
-        even = eqb→eq (last % 2) 0 (and-r (A && B) C t3);
-        few-links = leb→le (last / 2) 16384 (and-r (A && B && C) D t4);
-        within = leb→le last (length neighbours) (and-r (A && B && C && D) E t5);
-        sorted = λ v h. of-all (λ v. ascending (G v)) (upTo n) (and-r (A && B && C && D && E) F t6) v (has-upTo n v h);
-        loopless = λ v x h m e. T-not (eqb x v)
-            (and-r (ltb x n) (not (eqb x v)) (and-l (ltb x n && not (eqb x v)) (has v (G x)) (own-facts v x h m))) (eq-T x v e);
-        graph = record {
-          below =
-              λ v x h m. ltb→lt x n (and-l (ltb x n) (not (eqb x v)) (and-l (ltb x n && not (eqb x v)) (has v (G x)) (own-facts v x h m)));
-          symmetric = λ v x h m. and-r (ltb x n && not (eqb x v)) (has v (G x)) (own-facts v x h m);
-        };
-      }
+      let H = all (λ v. all (λ x. own v x) (G v)) (upTo n) in (
+        λ t.
+        let t6 = and-l (A && B && C && D && E && F) H t in
+        let t5 = and-l (A && B && C && D && E) F t6 in
+        let t4 = and-l (A && B && C && D) E t5 in
+        let t3 = and-l (A && B && C) D t4 in
+        let t2 = and-l (A && B) C t3 in
+        let own-facts : (v x : ℕ) → v < n → T (has x (G v)) → T (own v x) =
+        λ v x h m. of-all (λ x. own v x) (G v)
+        (of-all (λ v. all (λ x. own v x) (G v)) (upTo n) (and-r (A && B && C && D && E && F) H t) v (has-upTo n v h)) x m in
+        record {
+          first = eqb→eq (getD starts 0 0) 0 (and-l A B t2);
+          rising = λ v h. leb→le (getD starts v 0) (getD starts (v + 1) 0)
+              (of-all (λ v. leb (getD starts v 0) (getD starts (v + 1) 0)) (upTo n) (and-r A B t2) v (has-upTo n v h));
+          even = eqb→eq (last % 2) 0 (and-r (A && B) C t3);
+          few-links = leb→le (last / 2) 16384 (and-r (A && B && C) D t4);
+          within = leb→le last (length neighbours) (and-r (A && B && C && D) E t5);
+          sorted = λ v h. of-all (λ v. ascending (G v)) (upTo n) (and-r (A && B && C && D && E) F t6) v (has-upTo n v h);
+          loopless = λ v x h m e. T-not (eqb x v)
+              (and-r (ltb x n) (not (eqb x v)) (and-l (ltb x n && not (eqb x v)) (has v (G x)) (own-facts v x h m))) (eq-T x v e);
+          graph = record {
+            below =
+                λ v x h m. ltb→lt x n (and-l (ltb x n) (not (eqb x v)) (and-l (ltb x n && not (eqb x v)) (has v (G x)) (own-facts v x h m)));
+            symmetric = λ v x h m. and-r (ltb x n && not (eqb x v)) (has v (G x)) (own-facts v x h m);
+          };
+        },
+        λ s.
+        and-i (A && B && C && D && E && F) H
+        (and-i (A && B && C && D && E) F
+        (and-i (A && B && C && D) E
+        (and-i (A && B && C) D
+        (and-i (A && B) C
+        (and-i A B (eq-T (getD starts 0 0) 0 (s .first))
+        (all-of (λ v. leb (getD starts v 0) (getD starts (v + 1) 0)) (upTo n)
+        (λ v h. le→leb (getD starts v 0) (getD starts (v + 1) 0) (s .rising v (of-upTo n v h)))))
+        (eq-T (last % 2) 0 (s .even)))
+        (le→leb (last / 2) 16384 (s .few-links)))
+        (le→leb last (length neighbours) (s .within)))
+        (all-of (λ v. ascending (G v)) (upTo n) (λ v h. s .sorted v (of-upTo n v h))))
+        (all-of (λ v. all (λ x. own v x) (G v)) (upTo n) (λ v h.
+        all-of (λ x. own v x) (G v) (λ x m.
+        let b = of-upTo n v h in
+        and-i (ltb x n && not (eqb x v)) (has v (G x))
+        (and-i (ltb x n) (not (eqb x v)) (lt→ltb x n (s .graph .below v x b m)) (not-T (eqb x v) (λ e. s .loopless v x b m (eqb→eq x v e))))
+        (s .graph .symmetric v x b m)))),
+      )
+
+  pub survey-facts : T (isSurvey n starts neighbours) → IsSurvey n starts neighbours
+  survey-facts = survey-both .0
 
   pub survey-test : IsSurvey n starts neighbours → T (isSurvey n starts neighbours)
-  unfolding isSurvey own
-  survey-test s =
-      let G : Graph = neighboursOf starts neighbours in
-      let last = getD starts n 0 in
-      let A = eqb (getD starts 0 0) 0 in
-      let B = all (λ v. leb (getD starts v 0) (getD starts (v + 1) 0)) (upTo n) in
-      let C = eqb (last % 2) 0 in
-      let D = leb (last / 2) 16384 in
-      let E = leb last (length neighbours) in
-      let F = all (λ v. ascending (G v)) (upTo n) in
-      let H = all (λ v. all (λ x. own v x) (G v)) (upTo n) in
-      and-i (A && B && C && D && E && F) H
-      (and-i (A && B && C && D && E) F
-      (and-i (A && B && C && D) E
-      (and-i (A && B && C) D
-      (and-i (A && B) C
-      (and-i A B (eq-T (getD starts 0 0) 0 (s .first))
-      (all-of (λ v. leb (getD starts v 0) (getD starts (v + 1) 0)) (upTo n)
-      (λ v h. le→leb (getD starts v 0) (getD starts (v + 1) 0) (s .rising v (of-upTo n v h)))))
-      (eq-T (last % 2) 0 (s .even)))
-      (le→leb (last / 2) 16384 (s .few-links)))
-      (le→leb last (length neighbours) (s .within)))
-      (all-of (λ v. ascending (G v)) (upTo n) (λ v h. s .sorted v (of-upTo n v h))))
-      (all-of (λ v. all (λ x. own v x) (G v)) (upTo n) (λ v h.
-      all-of (λ x. own v x) (G v) (λ x m.
-      let b = of-upTo n v h in
-      and-i (ltb x n && not (eqb x v)) (has v (G x))
-      (and-i (ltb x n) (not (eqb x v)) (lt→ltb x n (s .graph .below v x b m)) (not-T (eqb x v) (λ e. s .loopless v x b m (eqb→eq x v e))))
-      (s .graph .symmetric v x b m))))
+  survey-test = survey-both .1
 
 -- ---- the same for acceptance
 
