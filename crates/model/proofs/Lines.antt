@@ -16,6 +16,7 @@ use Rattle.model.specs.Numbers.{isDigit, isNumber, valueOf, digits}
 use Rattle.model.specs.SurveyText.{onFirst, split, onFront, cut, twoNumbers, withRest, lineIn, line, lineOf}
 use Rattle.model.proofs.Tests.{and-l, and-r, and-i, T-true, true-T, no-false, eq-T}
 use Rattle.model.proofs.Lists.{has-head, has-tail, of-cons, of-all, of-append, none-in, same-eq, same-refl}
+use Rattle.model.proofs.Outcomes.{no-value}
 use Rattle.model.proofs.Numbers.{digit-bounds, digits-all, value-digits, digits-value, value-below, digits-number}
 
 -- ---- up to a byte
@@ -30,7 +31,7 @@ cut-at c (x ∷ p) q f =
 
 pub cut-is : (c : ℕ) (s p q : List ℕ) → cut c s ≡ some (p, q) → s ≡ p ++ c ∷ q
 unfolding cut onFront
-cut-is c [] p q e = absurd (let z : _≡_ {A = ℕ} 0 1 = cc in omega arith)
+cut-is c [] p q e = no-value e
 cut-is c (x ∷ s) p q e = at (eqb x c) refl (cut c s) e (λ p q. cut-is c s p q)
   where
     at : (b : Bool) → eqb x c ≡ b → (o : Option (List ℕ × List ℕ)) → (if b then some ([], s) else onFront x o) ≡ some (p, q)
@@ -40,7 +41,7 @@ cut-is c (x ∷ s) p q e = at (eqb x c) refl (cut c s) e (λ p q. cut-is c s p q
         let k : _≡_ {A = List ℕ} [] p = ap (λ (r : List ℕ × List ℕ). r .0) f in
         let l : s ≡ q = ap (λ (r : List ℕ × List ℕ). r .1) f in
         ap₂ (λ (z : ℕ) (t : List ℕ). z ∷ t) (eqb-true x c h) l ∙ ap (λ (t : List ℕ). t ++ c ∷ q) k
-    at false h missing e rec = absurd (let z : _≡_ {A = ℕ} 0 1 = cc in omega arith)
+    at false h missing e rec = no-value e
     at false h (some r) e rec =
         let f : _≡_ {A = List ℕ × List ℕ} (x ∷ r .0, r .1) (p, q) = cc in
         ap (λ (t : List ℕ). x ∷ t) (rec (r .0) (r .1) refl)
@@ -168,10 +169,10 @@ pub record IsLine (letter : ℕ) (text : List ℕ) (x y : ℕ) (rest : List ℕ)
 numbers-sound : (letter : ℕ) (fs : List (List ℕ)) (x y : ℕ) → twoNumbers letter fs ≡ some (x, y)
     → (fs ≡ (letter ∷ []) ∷ digits x ∷ digits y ∷ []) × (x < 10 ^ 10) × (y < 10 ^ 10)
 unfolding twoNumbers
-numbers-sound letter [] x y e = absurd (let z : _≡_ {A = ℕ} 0 1 = cc in omega arith)
-numbers-sound letter (l ∷ []) x y e = absurd (let z : _≡_ {A = ℕ} 0 1 = cc in omega arith)
-numbers-sound letter (l ∷ f ∷ []) x y e = absurd (let z : _≡_ {A = ℕ} 0 1 = cc in omega arith)
-numbers-sound letter (l ∷ f ∷ g ∷ h ∷ more) x y e = absurd (let z : _≡_ {A = ℕ} 0 1 = cc in omega arith)
+numbers-sound letter [] x y e = no-value e
+numbers-sound letter (l ∷ []) x y e = no-value e
+numbers-sound letter (l ∷ f ∷ []) x y e = no-value e
+numbers-sound letter (l ∷ f ∷ g ∷ h ∷ more) x y e = no-value e
 numbers-sound letter (l ∷ f ∷ g ∷ []) x y e = at (A && B && C) refl e
   where
     A : Bool
@@ -185,7 +186,7 @@ numbers-sound letter (l ∷ f ∷ g ∷ []) x y e = at (A && B && C) refl e
 
     at : (b : Bool) → (A && B && C) ≡ b → if_then_else_ {A = Option (ℕ × ℕ)} b (some (valueOf f, valueOf g)) missing ≡ some (x, y)
         → (l ∷ f ∷ g ∷ [] ≡ (letter ∷ []) ∷ digits x ∷ digits y ∷ []) × (x < 10 ^ 10) × (y < 10 ^ 10)
-    at false t e = absurd (let z : _≡_ {A = ℕ} 0 1 = cc in omega arith)
+    at false t e = no-value e
     at true t e =
         let q : _≡_ {A = ℕ × ℕ} (valueOf f, valueOf g) (x, y) = cc in
         let qx : valueOf f ≡ x = ap (λ (r : ℕ × ℕ). r .0) q in
@@ -206,12 +207,12 @@ unfolding line lineIn withRest joined
 line-sound letter text x y rest e = at (cut 10 text) refl e
   where
     at : (o : Option (List ℕ × List ℕ)) → cut 10 text ≡ o → lineIn letter o ≡ some (x, y, rest) → IsLine letter text x y rest
-    at missing c e = absurd (let z : _≡_ {A = ℕ} 0 1 = cc in omega arith)
+    at missing c e = no-value e
     at (some p) c e = two (twoNumbers letter (split 44 (p .0))) refl e
       where
         two : (o : Option (ℕ × ℕ)) → twoNumbers letter (split 44 (p .0)) ≡ o → withRest (p .1) o ≡ some (x, y, rest)
             → IsLine letter text x y rest
-        two missing t e = absurd (let z : _≡_ {A = ℕ} 0 1 = cc in omega arith)
+        two missing t e = no-value e
         two (some xy) t e =
             let q : _≡_ {A = ℕ × ℕ × List ℕ} (xy .0, xy .1, p .1) (x, y, rest) = cc in
             let qx : xy .0 ≡ x = ap (λ (r : ℕ × ℕ × List ℕ). r .0) q in

@@ -1,4 +1,4 @@
--- Laws for loops over a list: from what is left, the result for the whole list can still be told.
+-- Laws for loops over a list: the result for the whole list follows from what was found so far and what is left.
 -- Assumes nothing.
 use mathlib.Core.Path.{_≡_, sym, ap, ap₂, _∙_, subst}
 use mathlib.Core.Logic.{_⊎_, inl, inr}
@@ -19,7 +19,7 @@ use Rattle.model.proofs.Lists.{of-upTo, of-from, from-split, keep-appen
 pub drop-next : (l : List ℕ) (i : ℕ) → i < length l → drop i l ≡ getD l i 0 ∷ drop (i + 1) l
 drop-next l i h = drop-cons l i 0 h ∙ ap (λ (k : ℕ). getD l i 0 ∷ drop k l) (sym (add-one i))
 
--- a search for the first element that passes a test: the elements that are left still say which it is
+-- a search for the first element that passes a test: while none has passed, it is the first of those that are left
 module _ (p : ℕ → Bool) (d : ℕ) (l : List ℕ) where
   abbrev pub Searched : ℕ → Type 0
   Searched i = firstOf p d (drop i l) ≡ firstOf p d l

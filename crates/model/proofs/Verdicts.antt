@@ -1,7 +1,7 @@
 -- What the verdicts of the two-or-four test mean, and its count of searches. Holds for every threshold s.
 -- Assumes nothing.
 use mathlib.Core.Path.{_≡_, refl, sym, ap, _∙_, subst}
-use mathlib.Core.Logic.{_⊎_, inl, inr}
+use mathlib.Core.Logic.{_⊎_, inl, inr, ⊎-elim}
 use mathlib.Core.Bool.{Bool, true, false, not}
 use mathlib.Core.List.{List}
 use Prim.Native.Nat.{ℕ, suc, _+_, _≤_, _<_, zero-le, suc-le-suc}
@@ -19,11 +19,17 @@ use Rattle.model.specs.Survey.{Graph, neighboursOf, IsGraph, Accepted}
 use Rattle.model.specs.Hubs.{isHigh, isLow, closed, hubs}
 use Rattle.model.specs.TwoOrFour.{sources, verdictOf, testResult}
 use Rattle.model.specs.Demand.{VerdictRight}
-use Rattle.model.proofs.Tests.{lt-or}
+use Rattle.model.proofs.Tests.{lt-or, no-false, false-no}
 use Rattle.model.proofs.Lists.{has-head, has-tail, of-cons, any-of, of-any, has-upTo, of-upTo, First, found, nothing, first-below}
 use Rattle.model.proofs.Chains.{append, turn, split-first, fewest-is, fewest-none}
 use Rattle.model.proofs.Acceptance.{linked-has, linked-sym, linked-ends}
 use Rattle.model.proofs.Covering.{hubs-cover, high-linked, hubs-below, distinct, ascending-distinct, hubs-distinct}
+
+-- no two verdicts have the same number
+abbrev code : Verdict → ℕ
+code Parted = 0
+code Long = 1
+code Short = 2
 
 -- what the searches show of a graph of n nodes
 data Means (n : ℕ) (E : Edges) : Verdict → Type 0 where
@@ -58,41 +64,27 @@ module _ (n s : ℕ) (G : Graph) (g : IsGraph n G) (size : n ≤ 1024) where
 
   pub source-below : {hs : List ℕ} → Sources hs → (h : ℕ) → T (has h hs) → h < n
   unfolding closed
-  source-below (round v b t l) h m = at (of-cons h v (G v) m)
-    where
-      at : (h ≡ v) ⊎ T (has h (G v)) → h < n
-      at (inl e) = subst (λ (z : ℕ). z < n) (sym e) b
-      at (inr t) = g .below v h b t
+  source-below (round v b t l) h m = ⊎-elim (λ e. subst (λ (z : ℕ). z < n) (sym e) b) (g .below v h b) (of-cons h v (G v) m)
   source-below (covers f) h m = hubs-below n G s h m
 
   -- where every source reaches every node within two links, every two nodes are within three
   within : {hs : List ℕ} → Sources hs → ((h v : ℕ) → T (has h hs) → v < n → (j : ℕ) × (j ≤ 2) × Chain (linked n G) j h v)
       → (u v : ℕ) → u < n → v < n → (j : ℕ) × (j ≤ 3) × Chain (linked n G) j u v
   unfolding closed
-  within (round c b t l) near u v hu hv = at (near c u (has-head c (G c)) hu)
-    where
-      three : (i j : ℕ) → suc i ≤ 2 → j ≤ 2 → i + j ≤ 3
-      three i j p q = omega arith
-
-      at : ((j : ℕ) × (j ≤ 2) × Chain (linked n G) j c u) → (j : ℕ) × (j ≤ 3) × Chain (linked n G) j u v
-      at q = split (split-first (q .2))
-        where
-          split : (c ≡ u) ⊎ ((i x : ℕ) × (q .0 ≡ suc i) × T (linked n G c x) × Chain (linked n G) i x u)
-              → (j : ℕ) × (j ≤ 3) × Chain (linked n G) j u v
-          split (inl e) =
-              let r = near c v (has-head c (G c)) hv in
-              (r .0, le-trans (r .1) (omega arith), subst (λ (z : ℕ). Chain (linked n G) (r .0) z v) e (r .2))
-          split (inr p) =
-              let r = near (p .1) v (has-tail (p .1) c (G c) (linked-has n G c (p .1) (p .3))) hv in (
-                p .0 + r .0,
-                three (p .0) (r .0) (subst (λ (k : ℕ). k ≤ 2) (p .2) (q .1)) (r .1),
-                append (turn (linked-sym n G) (p .4)) (r .2),
-              )
-  within (covers f) near u v hu hv = at (high-linked n s G g u hu (f u hu))
-    where
-      at : T (has u (hubs n s G)) ⊎ ((h : ℕ) × T (has h (hubs n s G)) × T (linked n G u h)) → (j : ℕ) × (j ≤ 3) × Chain (linked n G) j u v
-      at (inl m) = let r = near u v m hv in (r .0, le-trans (r .1) (omega arith), r .2)
-      at (inr c) = let r = near (c .0) v (c .1) hv in (suc (r .0), suc-le-suc (r .1), link (c .2) (r .2))
+  within (round c b t l) near u v hu hv =
+      let q = near c u (has-head c (G c)) hu in
+      ⊎-elim
+      (λ e.
+      let r = near c v (has-head c (G c)) hv in
+      (r .0, le-trans (r .1) (omega arith), subst (λ (z : ℕ). Chain (linked n G) (r .0) z v) e (r .2)))
+      (λ p.
+      let r = near (p .1) v (has-tail (p .1) c (G c) (linked-has n G c (p .1) (p .3))) hv in
+      (p .0 + r .0, omega (arith, p .2, q .1, r .1), append (turn (linked-sym n G) (p .4)) (r .2)))
+      (split-first (q .2))
+  within (covers f) near u v hu hv = ⊎-elim
+      (λ m. let r = near u v m hv in (r .0, le-trans (r .1) (omega arith), r .2))
+      (λ c. let r = near (c .0) v (c .1) hv in (suc (r .0), suc-le-suc (r .1), link (c .2) (r .2)))
+      (high-linked n s G g u hu (f u hu))
 
   -- some node is searched from, if there is a node
   some-source : {hs : List ℕ} → Sources hs → (u : ℕ) → u < n → (h : ℕ) × T (has h hs)
@@ -117,11 +109,7 @@ module _ (n s : ℕ) (G : Graph) (g : IsGraph n G) (size : n ≤ 1024) where
       deep h = any (λ v. ltb 2 (distance h v)) (upTo n)
 
       fails : (p : ℕ → Bool) (l : List ℕ) → any p l ≡ false → (x : ℕ) → T (has x l) → p x ≡ false
-      fails p l e x m = at (p x) refl
-        where
-          at : (c : Bool) → p x ≡ c → p x ≡ false
-          at true q = absurd (subst T e (any-of p l x m (subst T (sym q) tt)))
-          at false q = q
+      fails p l e x m = no-false (p x) (λ t. false-no (any p l) e (any-of p l x m t))
 
       two : ((h : ℕ) → T (has h hs) → (v : ℕ) → v < n → distance h v ≡ none → ⊥) → (c : Bool) → any deep hs ≡ c
           → Means n (linked n G) (if c then Long else Short)
@@ -160,37 +148,21 @@ module _ (n s : ℕ) (G : Graph) (g : IsGraph n G) (size : n ≤ 1024) where
   means-right : {v : Verdict} → Means n (linked n G) v → VerdictRight n (linked n G) v
   means-right (is-parted u v hu hv f) = record {
     parted = (λ e. (u, v, hu, hv, f), λ p. refl);
-    not-short = λ a b d ha hb m l e. clash e;
-    not-long = λ all e. clash′ e;
+    not-short = λ a b d ha hb m l e. omega (arith, ap code e);
+    not-long = λ all e. omega (arith, ap code e);
   }
-    where
-      clash : Parted ≡ Short → ⊥
-      clash e = let z : _≡_ {A = ℕ} 0 1 = cc in omega arith
-
-      clash′ : Parted ≡ Long → ⊥
-      clash′ e = let z : _≡_ {A = ℕ} 0 1 = cc in omega arith
   means-right (is-long u v d hu hv m l joined) = record {
-    parted = (λ e. absurd (clash e), λ p. let c = joined (p .0) (p .1) (p .2) (p .3) in absurd (p .4 (c .0) (c .1)));
-    not-short = λ a b k ha hb q h e. clash′ e;
+    parted =
+        (λ e. absurd (omega (arith, ap code e)), λ p. let c = joined (p .0) (p .1) (p .2) (p .3) in absurd (p .4 (c .0) (c .1)));
+    not-short = λ a b k ha hb q h e. omega (arith, ap code e);
     not-long = λ all e. let x = all u v hu hv in let y = m .1 (x .0) (x .2 .0) in omega (arith, x .1);
   }
-    where
-      clash : Long ≡ Parted → ⊥
-      clash e = let z : _≡_ {A = ℕ} 0 1 = cc in omega arith
-
-      clash′ : Long ≡ Short → ⊥
-      clash′ e = let z : _≡_ {A = ℕ} 0 1 = cc in omega arith
   means-right (is-short near) = record {
-    parted = (λ e. absurd (clash e), λ p. let c = near (p .0) (p .1) (p .2) (p .3) in absurd (p .4 (c .0) (c .2)));
+    parted =
+        (λ e. absurd (omega (arith, ap code e)), λ p. let c = near (p .0) (p .1) (p .2) (p .3) in absurd (p .4 (c .0) (c .2)));
     not-short = λ a b d ha hb m l e. let c = near a b ha hb in let k = m .1 (c .0) (c .2) in omega (arith, c .1);
-    not-long = λ all e. clash′ e;
+    not-long = λ all e. omega (arith, ap code e);
   }
-    where
-      clash : Short ≡ Parted → ⊥
-      clash e = let z : _≡_ {A = ℕ} 0 1 = cc in omega arith
-
-      clash′ : Short ≡ Long → ⊥
-      clash′ e = let z : _≡_ {A = ℕ} 0 1 = cc in omega arith
 
   pub verdict-right : VerdictRight n (linked n G) (testResult n s G .verdict)
   unfolding testResult
