@@ -37,14 +37,14 @@ line-front letter after text k h = at (line letter text) refl (line letter (take
         → FrontLine letter text k
     at missing e missing g = no-line e g
     at missing e (some l) g =
-        let s = line-sound letter (take k text) (l .0) (l .1) (l .2) g in
+        let s = line-sound _ (take k text) _ _ (l .2) g in
         let whole : text ≡ lineOf letter (l .0) (l .1) ++ (l .2 ++ drop k text) =
-        sym (take-append-drop k text) ∙ ap (λ (t : List ℕ). t ++ drop k text) (s .is-text)
-        ∙ append-assoc (lineOf letter (l .0) (l .1)) (l .2) (drop k text) in
-        let f = ap (line letter) whole ∙ line-complete letter after (l .0) (l .1) (s .small-x) (s .small-y) (l .2 ++ drop k text) in
+        sym (take-append-drop k _) ∙ ap (λ (t : List ℕ). t ++ drop k text) (s .is-text)
+        ∙ append-assoc (lineOf letter (l .0) (l .1)) _ _ in
+        let f = ap (line letter) whole ∙ line-complete _ after _ _ (s .small-x) (s .small-y) _ in
         absurd (let z : _≡_ {A = ℕ} 0 1 = cc in omega arith)
     at (some l) e f g =
-        let s = line-sound letter text (l .0) (l .1) (l .2) e in
+        let s = line-sound _ _ _ _ _ e in
         let first : List ℕ = lineOf letter (l .0) (l .1) in
         let few = line-few letter (l .0) (l .1) (s .small-x) (s .small-y) in
         let j = k - length first in
@@ -79,7 +79,7 @@ links-front n zero done (c ∷ text) (suc k) h = refl
 links-front n (suc m) done text zero h = absurd (omega arith)
 links-front n (suc m) done [] (suc k) h = refl
 links-front n (suc m) done (c ∷ text) (suc k) h =
-    at (line-front 76 (omega arith) (c ∷ text) (suc k) (omega arith)) (λ a b rest j. links-front n m ((a, b) ∷ done) rest j)
+    at (line-front _ (omega arith) _ _ (omega arith)) (λ a b rest j. links-front _ _ _ _ _)
   where
     next : ℕ → ℕ → List ℕ → Outcome (List (ℕ × ℕ))
     next a b rest = readLinks n m ((a, b) ∷ done) rest
@@ -91,7 +91,7 @@ links-front n (suc m) done (c ∷ text) (suc k) h =
     at (no-line e f) rec = ap (λ (o : Option (ℕ × ℕ × List ℕ)). readOn next (linkOf n (named done) o)) (f ∙ sym e)
     at (same-line x y rest j i e f) rec =
         ap (λ (o : Option (ℕ × ℕ × List ℕ)). readOn next (linkOf n (named done) o)) f
-        ∙ link-same n (named done) x y (take j rest) rest next (rec x y rest j (omega arith))
+        ∙ link-same _ _ _ _ _ _ _ (rec x y rest j (omega arith))
         ∙ sym (ap (λ (o : Option (ℕ × ℕ × List ℕ)). readOn next (linkOf n (named done) o)) e)
 
 -- ---- the whole text
@@ -107,26 +107,26 @@ counts-same N M p q x y r r′ e = at (outside N x) (ltb M y) refl (ltb p (x + 1
     at true b m c = refl
     at false true m c = refl
     at false false m true = refl
-    at false false m false = ap (parsed x) (e (ltb-false M y m))
+    at false false m false = ap (parsed x) (e (ltb-false _ _ m))
 
 -- within limits, a text says what its front says
 pub parse-front : (N M p q : ℕ) (text : List ℕ) (k : ℕ) → 24 * (M + 1) < k → parse N M p q (take k text) ≡ parse N M p q text
 unfolding parse
-parse-front N M p q text k h = at (line-front 83 (omega arith) text k (omega arith))
+parse-front N M p q text k h = at (line-front _ (omega arith) _ _ (omega arith))
   where
     at : FrontLine 83 text k → parseLinks (countsOf N M p q (line 83 (take k text))) ≡ parseLinks (countsOf N M p q (line 83 text))
     at (no-line e f) = ap (λ (o : Option (ℕ × ℕ × List ℕ)). parseLinks (countsOf N M p q o)) (f ∙ sym e)
     at (same-line x y rest j i e f) =
         ap (λ (o : Option (ℕ × ℕ × List ℕ)). parseLinks (countsOf N M p q o)) f
-        ∙ counts-same N M p q x y (take j rest) rest (λ m. links-front x y [] rest j (omega arith))
+        ∙ counts-same _ _ _ _ _ _ _ _ (λ m. links-front _ _ _ _ j (omega arith))
         ∙ sym (ap (λ (o : Option (ℕ × ℕ × List ℕ)). parseLinks (countsOf N M p q o)) e)
 
 -- a text is read as its first 393,241 bytes are
 pub reading-front : (text : List ℕ) (p q k : ℕ) → 24 * (16384 + 1) < k → reading (take k text) p q ≡ reading text p q
 unfolding reading
-reading-front text p q k h = ap (readingOf p q) (parse-front 1024 16384 p q text k h)
+reading-front text p q k h = ap (readingOf p q) (parse-front _ _ _ _ _ _ h)
 
 -- and its listing is that of its first 49,177 bytes
 pub listing-front : (text : List ℕ) (k : ℕ) → 24 * (2048 + 1) < k → listing (take k text) ≡ listing text
 unfolding listing
-listing-front text k h = ap listingText (parse-front 128 2048 (128 + 1) (2 * 2048) text k h)
+listing-front text k h = ap listingText (parse-front _ _ _ _ _ _ h)

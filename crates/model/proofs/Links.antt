@@ -67,7 +67,7 @@ module _ (n : ℕ) (given : ℕ → ℕ → Bool) where
           → if_then_else_ {A = Outcome (ℕ × ℕ × List ℕ)} t (refused 5) (if given (l .0) (l .1) then refused 6 else answered l) ≡ answered x
           → Taken
       five b true q e = never e
-      five b false q e = six b (eqb-false (l .0) (l .1) q) (given (l .0) (l .1)) refl e
+      five b false q e = six b (eqb-false _ _ q) (given (l .0) (l .1)) refl e
 
       four : (t : Bool) → (leb n (l .0) || leb n (l .1)) ≡ t
           → if_then_else_ {A = Outcome (ℕ × ℕ × List ℕ)} t (refused 4)
@@ -75,8 +75,8 @@ module _ (n : ℕ) (given : ℕ → ℕ → Bool) where
           → Taken
       four true q e = never e
       four false q e =
-          let h = of-or-false (leb n (l .0)) (leb n (l .1)) q in
-          five (leb-false n (l .0) (h .0), leb-false n (l .1) (h .1)) (eqb (l .0) (l .1)) refl e
+          let h = of-or-false _ _ q in
+          five (leb-false _ _ (h .0), leb-false _ _ (h .1)) (eqb (l .0) (l .1)) refl e
 
 -- ---- all lines
 
@@ -88,8 +88,8 @@ links-complete n le (l ∷ ls) done f =
     let g = f .0 in
     let next : ℕ → ℕ → List ℕ → Outcome (List (ℕ × ℕ)) = λ a b rest. readLinks n (length ls) ((a, b) ∷ done) rest in
     ap (λ (o : Option (ℕ × ℕ × List ℕ)). readOn next (linkOf n (named done) o))
-    (line-complete 76 (omega arith) (l .0) (l .1) (lt-of-lt-of-le (g .below-a) le) (lt-of-lt-of-le (g .below-b) le) (linkLines ls))
-    ∙ ap (readOn next) (link-taken n (named done) (l .0, l .1, linkLines ls) g)
+    (line-complete _ (omega arith) _ _ (lt-of-lt-of-le (g .below-a) le) (lt-of-lt-of-le (g .below-b) le) _)
+    ∙ ap (readOn next) (link-taken _ _ _ g)
     ∙ ap (onLinks l) (links-complete n le ls (l ∷ done) (f .1))
 
 pub record LinesRead (n m : ℕ) (done : List (ℕ × ℕ)) (text : List ℕ) (ls : List (ℕ × ℕ)) : Type 0 where
@@ -106,7 +106,7 @@ links-sound n zero done [] ls e =
 links-sound n zero done (c ∷ text) ls e = never e
 links-sound n (suc m) done [] ls e = never e
 links-sound n (suc m) done (c ∷ text) ls e =
-    at (linkOf n (named done) (line 76 (c ∷ text))) refl e (λ a b rest ks. links-sound n m ((a, b) ∷ done) rest ks)
+    at (linkOf n (named done) (line 76 (c ∷ text))) refl e (λ a b rest ks. links-sound n m _ _ _)
   where
     next : ℕ → ℕ → List ℕ → Outcome (List (ℕ × ℕ))
     next a b rest = readLinks n m ((a, b) ∷ done) rest
@@ -131,8 +131,8 @@ links-sound n (suc m) done (c ∷ text) ls e =
         → LinesRead n (suc m) done (c ∷ text) ls
     at (refused k) q e rec = never e
     at (answered x) q e rec =
-        let t = of-link-taken n (named done) (line 76 (c ∷ text)) x q in
-        more (x .0, x .1) (x .2) (next (x .0) (x .1) (x .2)) (line-sound 76 (c ∷ text) (x .0) (x .1) (x .2) (t .0)) (t .1) e
+        let t = of-link-taken _ _ _ _ q in
+        more (x .0, x .1) (x .2) (next (x .0) (x .1) (x .2)) (line-sound _ _ _ _ _ (t .0)) (t .1) e
         (λ ks. rec (x .0) (x .1) (x .2) ks)
 
 -- ---- the whole text
@@ -177,14 +177,14 @@ module _ (N M p q : ℕ) where
       eight s w true k e = never e
       eight s w false k e =
           let i : f ≡ x = cc in
-          let r = of-or-false (ltb p (n + 1)) (ltb q (2 * m)) k in (
+          let r = of-or-false _ _ k in (
             ap some i,
             subst (λ (y : ℕ × ℕ × List ℕ). Within N M p q (y .0) (y .1)) i (record {
               some-node = s .0;
               size = s .1;
               few = w;
-              room = ltb-false p (n + 1) (r .0);
-              list-room = ltb-false q (2 * m) (r .1);
+              room = ltb-false _ _ (r .0);
+              list-room = ltb-false _ _ (r .1);
             }),
           )
 
@@ -192,14 +192,14 @@ module _ (N M p q : ℕ) where
           → if_then_else_ {A = Outcome (ℕ × ℕ × List ℕ)} t (refused 3) (if ltb p (n + 1) || ltb q (2 * m) then refused 8 else answered f)
           ≡ answered x → Taken
       three s true k e = never e
-      three s false k e = eight s (ltb-false M m k) (ltb p (n + 1) || ltb q (2 * m)) refl e
+      three s false k e = eight s (ltb-false _ _ k) (ltb p (n + 1) || ltb q (2 * m)) refl e
 
       two : (t : Bool) → outside N n ≡ t
           → if_then_else_ {A = Outcome (ℕ × ℕ × List ℕ)} t (refused 2)
           (if ltb M m then refused 3 else if ltb p (n + 1) || ltb q (2 * m) then refused 8 else answered f) ≡ answered x
           → Taken
       two true k e = never e
-      two false k e = three (of-in-range N n k) (ltb M m) refl e
+      two false k e = three (of-in-range _ _ k) (ltb M m) refl e
 
 -- a text that is accepted, with lists of p and q entries: its counts are within the limits, it is the text of its links, and each is new
 pub record TextRead (mostNodes mostLinks p q : ℕ) (text : List ℕ) (x : Parsed) : Type 0 where
@@ -216,9 +216,9 @@ module _ (N M p q : ℕ) where
       let w = r .within in
       ap (parse N M p q) (r .is-text)
       ∙ ap (λ (o : Option (ℕ × ℕ × List ℕ)). parseLinks (countsOf N M p q o))
-      (line-complete 83 (omega arith) n m (lt-of-le-of-lt (w .size) hN) (lt-of-le-of-lt (w .few) hM) (linkLines (x .links)))
-      ∙ ap parseLinks (first-taken N M p q (n, m, linkLines (x .links)) w)
-      ∙ ap (parsed n) (links-complete n (lt-le hN (w .size)) (x .links) [] (r .fresh))
+      (line-complete _ (omega arith) _ _ (lt-of-le-of-lt (w .size) hN) (lt-of-le-of-lt (w .few) hM) _)
+      ∙ ap parseLinks (first-taken _ _ _ _ _ w)
+      ∙ ap (parsed n) (links-complete _ (lt-le hN (w .size)) _ _ (r .fresh))
     where
       lt-le : N < 10 ^ 10 → x .nodes ≤ N → x .nodes ≤ 10 ^ 10
       lt-le h k = omega arith
@@ -234,8 +234,8 @@ module _ (N M p q : ℕ) where
           let n = f .0 in
           let m = f .1 in
           let y : _≡_ {A = Parsed} (record { nodes = n; links = ls }) x = cc in
-          let g = links-sound n m [] (f .2) ls i in
-          let l = line-sound 83 text n m (f .2) h in
+          let g = links-sound _ _ _ (f .2) ls i in
+          let l = line-sound _ _ _ _ _ h in
           subst (λ (z : Parsed). TextRead N M p q text z) y (record {
             within = subst (λ (k : ℕ). Within N M p q n k) (sym (g .count)) w;
             is-text = l .is-text ∙ ap₂ (λ (k : ℕ) (t : List ℕ). lineOf 83 n k ++ t) (sym (g .count)) (g .is-text);
@@ -245,5 +245,5 @@ module _ (N M p q : ℕ) where
       at : (o : Outcome (ℕ × ℕ × List ℕ)) → countsOf N M p q (line 83 text) ≡ o → parseLinks o ≡ answered x → TextRead N M p q text x
       at (refused k) h e = never e
       at (answered f) h e =
-          let t = of-first-taken N M p q (line 83 text) f h in
+          let t = of-first-taken _ _ _ _ _ _ h in
           links f (t .0) (t .1) (readLinks (f .0) (f .1) [] (f .2)) refl e
