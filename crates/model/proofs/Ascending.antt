@@ -59,7 +59,7 @@ member-keep [] k zero t f = refl
 member-keep (y ∷ ys) k zero t f = let b = f y (has-head y ys) in absurd (omega arith)
 member-keep [] k (suc m) t f = keep-none (λ x. false) (from (suc k) m) (λ x h b. b)
 member-keep (y ∷ ys) k (suc m) t f =
-    go (eq-or _ _) (λ g. member-keep ys _ _ (ascending-tail _ _ t) g) (λ g. member-keep (y ∷ ys) (suc k) m t g)
+    go (eq-or k y) (λ g. member-keep ys _ _ (ascending-tail _ _ t) g) (λ g. member-keep (y ∷ ys) (suc k) m t g)
   where
     up : (x : ℕ) → T (has x ys) → y < x
     up = ascending-above _ ys t

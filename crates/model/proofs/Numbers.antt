@@ -35,7 +35,7 @@ within-any (suc f) (suc g) n h k =
     (λ l. within-small _ _ l ∙ sym (within-small _ _ l))
     (λ l. within-more _ _ l ∙ ap (λ (t : List ℕ). t ++ ((48 + n % 10) ∷ [])) (within-any f g (n / 10) (omega arith) (omega arith))
     ∙ sym (within-more _ _ l))
-    (lt-or _ _)
+    (lt-or n 10)
 
 pub digits-small : (n : ℕ) → n < 10 → digits n ≡ (48 + n) ∷ []
 unfolding digits
@@ -53,7 +53,7 @@ digits-ind P small more n = go (suc n) n (le-refl _)
   where
     go : (f m : ℕ) → m < f → P m
     go zero m h = absurd (not-suc-le-zero h)
-    go (suc f) m h = ⊎-elim (λ l. small m l) (λ l. more m l (go f (m / 10) (omega arith))) (lt-or _ _)
+    go (suc f) m h = ⊎-elim (λ l. small m l) (λ l. more m l (go f (m / 10) (omega arith))) (lt-or m 10)
 
 -- ---- how many digits there are
 
@@ -64,7 +64,7 @@ pub length-more : (n : ℕ) → 10 ≤ n → length (digits n) ≡ length (digit
 length-more n h = ap length (digits-more _ h) ∙ length-append (digits (n / 10)) _
 
 pub digits-pos : (n : ℕ) → 0 < length (digits n)
-digits-pos n = ⊎-elim (λ l. omega (arith, length-small n l)) (λ l. omega (arith, length-more n l)) (lt-or _ _)
+digits-pos n = ⊎-elim (λ l. omega (arith, length-small n l)) (λ l. omega (arith, length-more n l)) (lt-or n 10)
 
 -- n has at most k + 1 digits exactly where it is below 10 ^ (k + 1)
 pub length-le : (k n : ℕ) → n < 10 ^ suc k → length (digits n) ≤ suc k
@@ -73,15 +73,15 @@ length-le (suc k) n h =
     ⊎-elim
     (λ l. omega (arith, length-small n l))
     (λ l. omega (arith, length-more n l, length-le k (n / 10) (div-lt-iff-lt-mul (zero-lt-suc _) .1 (rw pow-suc at h))))
-    (lt-or _ _)
+    (lt-or n 10)
 
 pub below-pow : (k n : ℕ) → length (digits n) ≤ suc k → n < 10 ^ suc k
-below-pow zero n h = ⊎-elim (λ l. l) (λ l. omega (arith, length-more n l, digits-pos (n / 10))) (lt-or _ _)
+below-pow zero n h = ⊎-elim (λ l. l) (λ l. omega (arith, length-more n l, digits-pos (n / 10))) (lt-or n 10)
 below-pow (suc k) n h =
     ⊎-elim
     (λ l. lt-of-lt-of-le l (pow-le-pow-right {n = 10} (zero-lt-suc _) (suc-le-suc zero-le)))
     (λ l. rw pow-suc (div-lt-iff-lt-mul (zero-lt-suc _) .0 (below-pow _ _ (omega (arith, length-more n l)))))
-    (lt-or _ _)
+    (lt-or n 10)
 
 -- ---- digits as bytes
 
@@ -230,4 +230,4 @@ digits-number n l =
       few = le-of-suc-le-suc (subst (λ (t : List ℕ). length t ≤ 10) (f .2) (length-le 9 n l));
       lead = inr (not-T (eqb (f .0) 48) (λ t. ne (eqb→eq _ _ t)));
     })))
-    (lt-or _ _)
+    (lt-or n 10)

@@ -165,7 +165,7 @@ module _ (N M p q : ℕ) (nodes : N ≤ 1024) (links : M ≤ 16384) (text : List
   pub read-graph : neighboursOf (readingOf p q (answered x) .starts) (readingOf p q (answered x) .neighbours)
       ≡ graphOf (x .nodes) (x .links)
   unfolding readingOf over neighboursOf graphOf
-  read-graph = fun-ext (λ v. ⊎-elim (inside v) (outside v) (lt-or _ _))
+  read-graph = fun-ext (λ v. ⊎-elim (inside v) (outside v) (lt-or v (x .nodes)))
     where
       s : List ℕ
       s = over (startsOf (x .nodes) (graphOf (x .nodes) (x .links))) (replicate p 0)
@@ -223,7 +223,7 @@ module _ (text buffer : List ℕ) where
       let w = e ∙ write-whole h in
       let i : k ≡ length text = ap (λ (x : AfterWriting). numberIn (λ j. j) (x .answer)) w in
       omega (arith, ap (λ (x : AfterWriting). length (x .buffer)) w ∙ length-append text _))
-      (lt-or _ _)
+      (lt-or (length buffer) (length text))
 
 -- ---- a graph's links in order: each once, and all of them
 

@@ -157,7 +157,7 @@ module _ (n s : ℕ) (G : Graph) (g : IsGraph n G) where
       (λ k. omega (arith, c, k))
       (λ k. absurd (let f = sym e ∙ too-long n G g may left goal (left v) v h (omega arith) k in
       let z : _≡_ {A = ℕ} 0 1 = cc in omega arith))
-      (lt-or _ _)
+      (lt-or (left v) n)
 
   join-few : (p q : Option (List ℕ)) → ((l : List ℕ) → p ≡ some l → length l ≤ n) → ((l : List ℕ) → q ≡ some l → length l ≤ n)
       → (l : List ℕ) → join p q ≡ some l → length l ≤ 2 * n
@@ -232,8 +232,8 @@ built-enough n starts neighbours acc full low report own a b ha hb w h =
     ⊎-elim
     (λ z. answers w (inl z) ∙ sym (asked .given))
     (λ m. ⊎-elim (λ l. answers w (inr l) ∙ sym (asked .given)) (λ l. absurd (found m l (walkNodes n s G full low a b (x .route)) refl))
-    (lt-or _ _))
-    (eq-or _ _)
+    (lt-or (x .report) w))
+    (eq-or (x .report) none)
   where
     s : ℕ
     s = threshold n
