@@ -199,7 +199,7 @@ module _ {n s : ℕ} {G : Graph} (g : IsGraph n G) (size : n ≤ 1024) {full low
           route-fits : (x : Answer) → Chosen a b r (entryAt n low a b) hub (answered x) → (x .report ≡ none → ⊥)
               → IsSome (walkNodes n s G full low a b (x .route)) → x .report < w
               → fit w x (walkNodes n s G full low a b (x .route)) .answer ≡ answered x
-          route-fits x c f = fits-sound (linked n G) a b x _ (route-sound n s G g full low a b ha hb isHub report x c f)
+          route-fits x c f = fits-sound (linked n G) a b x _ (route-sound s g full low ha hb isHub report x c f)
 
           at : {q : Outcome Answer} → Chosen a b r (entryAt n low a b) hub q → walkOf w n s G full low a b q .answer ≡ q
           at (to-itself e z) = fits _ (a ∷ []) (subst (λ (k : ℕ). suc k ≤ w) z (roomy (below-none z (omega arith))))

@@ -18,6 +18,7 @@ use Rattle.model.specs.Survey.{outside}
 use Rattle.model.specs.Reading.{named, onLinks, linkOf, readOn, readLinks, parsed, countsOf, parseLinks, parse, readingOf, reading}
 use Rattle.model.specs.Listing.{listingText, listing}
 use Rattle.model.proofs.Numbers.{length-le}
+use Rattle.model.proofs.Outcomes.{no-value}
 use Rattle.model.proofs.Lines.{length-line, line-complete, line-sound}
 
 -- ---- one line: none in both, or the same numbers in both
@@ -41,8 +42,7 @@ line-front letter after text k h = at (line letter text) refl (line letter (take
         let whole : text ≡ lineOf letter (l .0) (l .1) ++ (l .2 ++ drop k text) =
         sym (take-append-drop k _) ∙ ap (λ (t : List ℕ). t ++ drop k text) (s .is-text)
         ∙ append-assoc (lineOf letter (l .0) (l .1)) _ _ in
-        let f = ap (line letter) whole ∙ line-complete _ after _ _ (s .small-x) (s .small-y) _ in
-        absurd (let z : _≡_ {A = ℕ} 0 1 = cc in omega arith)
+        no-value (sym e ∙ ap (line letter) whole ∙ line-complete _ after _ _ (s .small-x) (s .small-y) _)
     at (some l) e f g =
         let s = line-sound _ _ _ _ _ e in
         let first : List ℕ = lineOf letter (l .0) (l .1) in
@@ -56,11 +56,11 @@ line-front letter after text k h = at (line letter text) refl (line letter (take
 -- ---- the link lines
 
 -- the tests of a line look at its numbers only
-link-same : (n : ℕ) (given : ℕ → ℕ → Bool) (x y : ℕ) (r r′ : List ℕ) (next : ℕ → ℕ → List ℕ → Outcome (List (ℕ × ℕ)))
+link-same : (n : ℕ) (given : ℕ → ℕ → Bool) (next : ℕ → ℕ → List ℕ → Outcome (List (ℕ × ℕ))) {x y : ℕ} {r r′ : List ℕ}
     → next x y r ≡ next x y r′
     → readOn next (linkOf n given (some (x, y, r))) ≡ readOn next (linkOf n given (some (x, y, r′)))
 unfolding linkOf readOn
-link-same n given x y r r′ next e = at (leb n x || leb n y) (eqb x y) (given x y)
+link-same n given next {x} {y} {r} {r′} e = at (leb n x || leb n y) (eqb x y) (given x y)
   where
     at : (a b c : Bool)
         → readOn next (if a then refused 4 else if b then refused 5 else if c then refused 6 else answered (x, y, r))
@@ -91,7 +91,7 @@ links-front n (suc m) done (c ∷ text) (suc k) h =
     at (no-line e f) rec = ap (λ (o : Option (ℕ × ℕ × List ℕ)). readOn next (linkOf n (named done) o)) (f ∙ sym e)
     at (same-line x y rest j i e f) rec =
         ap (λ (o : Option (ℕ × ℕ × List ℕ)). readOn next (linkOf n (named done) o)) f
-        ∙ link-same _ _ _ _ _ _ _ (rec x y rest j (omega arith))
+        ∙ link-same n (named done) next (rec x y rest j (omega arith))
         ∙ sym (ap (λ (o : Option (ℕ × ℕ × List ℕ)). readOn next (linkOf n (named done) o)) e)
 
 -- ---- the whole text
@@ -118,13 +118,13 @@ parse-front N M p q text k h = at (line-front _ (omega arith) _ _ (omega arith))
     at (no-line e f) = ap (λ (o : Option (ℕ × ℕ × List ℕ)). parseLinks (countsOf N M p q o)) (f ∙ sym e)
     at (same-line x y rest j i e f) =
         ap (λ (o : Option (ℕ × ℕ × List ℕ)). parseLinks (countsOf N M p q o)) f
-        ∙ counts-same _ _ _ _ _ _ _ _ (λ m. links-front _ _ _ _ j (omega arith))
+        ∙ counts-same N M p q x y _ _ (λ m. links-front x y [] _ j (omega arith))
         ∙ sym (ap (λ (o : Option (ℕ × ℕ × List ℕ)). parseLinks (countsOf N M p q o)) e)
 
 -- a text is read as its first 393,241 bytes are
 pub reading-front : (text : List ℕ) (p q k : ℕ) → 24 * (16384 + 1) < k → reading (take k text) p q ≡ reading text p q
 unfolding reading
-reading-front text p q k h = ap (readingOf p q) (parse-front _ _ _ _ _ _ h)
+reading-front text p q k h = ap (readingOf p q) (parse-front 1024 16384 p q text k h)
 
 -- and its listing is that of its first 49,177 bytes
 pub listing-front : (text : List ℕ) (k : ℕ) → 24 * (2048 + 1) < k → listing (take k text) ≡ listing text

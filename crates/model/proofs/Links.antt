@@ -16,7 +16,7 @@ use Rattle.model.specs.SurveyText.{line, lineOf, linkLines, surveyText}
 use Rattle.model.specs.Survey.{outside}
 use Rattle.model.specs.Reading.{named, onLinks, linkOf, readOn, readLinks, Parsed, parsed, countsOf, parseLinks, parse}
 use Rattle.model.proofs.Outcomes.{never}
-use Rattle.model.proofs.Tests.{or-false, of-or-false}
+use Rattle.model.proofs.Tests.{or-false, of-or-false, picked}
 use Rattle.model.proofs.Acceptance.{in-range, of-in-range}
 use Rattle.model.proofs.Lines.{line-complete, IsLine, line-sound}
 
@@ -47,36 +47,24 @@ module _ (n : ℕ) (given : ℕ → ℕ → Bool) where
   pub of-link-taken : (o : Option (ℕ × ℕ × List ℕ)) (x : ℕ × ℕ × List ℕ) → linkOf n given o ≡ answered x
       → (o ≡ some x) × Fresh n given (x .0) (x .1)
   unfolding linkOf
-  of-link-taken missing x e = never e
-  of-link-taken (some l) x e = four (leb n (l .0) || leb n (l .1)) refl e
+  of-link-taken missing x = never
+  of-link-taken (some l) x =
+      picked P (leb n (l .0) || leb n (l .1)) _ _ (λ _ e. never e) (λ below.
+      picked P (eqb (l .0) (l .1)) _ _ (λ _ e. never e) (λ different.
+      picked P (given (l .0) (l .1)) _ _ (λ _ e. never e) (λ new e.
+      let h = of-or-false _ _ below in
+      let i : l ≡ x = cc in (
+        ap some i,
+        subst (λ (y : ℕ × ℕ × List ℕ). Fresh n given (y .0) (y .1)) i (record {
+          below-a = leb-false _ _ (h .0);
+          below-b = leb-false _ _ (h .1);
+          different = eqb-false _ _ different;
+          new = new;
+        }),
+      ))))
     where
-      Taken : Type 0
-      Taken = (some l ≡ some x) × Fresh n given (x .0) (x .1)
-
-      six : (l .0 < n) × (l .1 < n) → (l .0 ≡ l .1 → ⊥) → (t : Bool) → given (l .0) (l .1) ≡ t
-          → if_then_else_ {A = Outcome (ℕ × ℕ × List ℕ)} t (refused 6) (answered l) ≡ answered x → Taken
-      six b d true q e = never e
-      six b d false q e =
-          let i : l ≡ x = cc in (
-            ap some i,
-            subst (λ (y : ℕ × ℕ × List ℕ). Fresh n given (y .0) (y .1)) i
-                (record { below-a = b .0; below-b = b .1; different = d; new = q }),
-          )
-
-      five : (l .0 < n) × (l .1 < n) → (t : Bool) → eqb (l .0) (l .1) ≡ t
-          → if_then_else_ {A = Outcome (ℕ × ℕ × List ℕ)} t (refused 5) (if given (l .0) (l .1) then refused 6 else answered l) ≡ answered x
-          → Taken
-      five b true q e = never e
-      five b false q e = six b (eqb-false _ _ q) (given (l .0) (l .1)) refl e
-
-      four : (t : Bool) → (leb n (l .0) || leb n (l .1)) ≡ t
-          → if_then_else_ {A = Outcome (ℕ × ℕ × List ℕ)} t (refused 4)
-          (if eqb (l .0) (l .1) then refused 5 else if given (l .0) (l .1) then refused 6 else answered l) ≡ answered x
-          → Taken
-      four true q e = never e
-      four false q e =
-          let h = of-or-false _ _ q in
-          five (leb-false _ _ (h .0), leb-false _ _ (h .1)) (eqb (l .0) (l .1)) refl e
+      P : Outcome (ℕ × ℕ × List ℕ) → Type 0
+      P o = o ≡ answered x → (some l ≡ some x) × Fresh n given (x .0) (x .1)
 
 -- ---- all lines
 
@@ -160,46 +148,28 @@ module _ (N M p q : ℕ) where
   pub of-first-taken : (o : Option (ℕ × ℕ × List ℕ)) (x : ℕ × ℕ × List ℕ) → countsOf N M p q o ≡ answered x
       → (o ≡ some x) × Within N M p q (x .0) (x .1)
   unfolding countsOf
-  of-first-taken missing x e = never e
-  of-first-taken (some f) x e = two (outside N n) refl e
+  of-first-taken missing x = never
+  of-first-taken (some f) x =
+      let n = f .0 in
+      let m = f .1 in
+      picked P (outside N n) _ _ (λ _ e. never e) (λ size.
+      picked P (ltb M m) _ _ (λ _ e. never e) (λ few.
+      picked P (ltb p (n + 1) || ltb q (2 * m)) _ _ (λ _ e. never e) (λ room e.
+      let b = of-in-range _ _ size in
+      let r = of-or-false _ _ room in
+      let i : f ≡ x = cc in (
+        ap some i,
+        subst (λ (y : ℕ × ℕ × List ℕ). Within N M p q (y .0) (y .1)) i (record {
+          some-node = b .0;
+          size = b .1;
+          few = ltb-false _ _ few;
+          room = ltb-false _ _ (r .0);
+          list-room = ltb-false _ _ (r .1);
+        }),
+      ))))
     where
-      n : ℕ
-      n = f .0
-
-      m : ℕ
-      m = f .1
-
-      Taken : Type 0
-      Taken = (some f ≡ some x) × Within N M p q (x .0) (x .1)
-
-      eight : (1 ≤ n) × (n ≤ N) → m ≤ M → (t : Bool) → (ltb p (n + 1) || ltb q (2 * m)) ≡ t
-          → if_then_else_ {A = Outcome (ℕ × ℕ × List ℕ)} t (refused 8) (answered f) ≡ answered x → Taken
-      eight s w true k e = never e
-      eight s w false k e =
-          let i : f ≡ x = cc in
-          let r = of-or-false _ _ k in (
-            ap some i,
-            subst (λ (y : ℕ × ℕ × List ℕ). Within N M p q (y .0) (y .1)) i (record {
-              some-node = s .0;
-              size = s .1;
-              few = w;
-              room = ltb-false _ _ (r .0);
-              list-room = ltb-false _ _ (r .1);
-            }),
-          )
-
-      three : (1 ≤ n) × (n ≤ N) → (t : Bool) → ltb M m ≡ t
-          → if_then_else_ {A = Outcome (ℕ × ℕ × List ℕ)} t (refused 3) (if ltb p (n + 1) || ltb q (2 * m) then refused 8 else answered f)
-          ≡ answered x → Taken
-      three s true k e = never e
-      three s false k e = eight s (ltb-false _ _ k) (ltb p (n + 1) || ltb q (2 * m)) refl e
-
-      two : (t : Bool) → outside N n ≡ t
-          → if_then_else_ {A = Outcome (ℕ × ℕ × List ℕ)} t (refused 2)
-          (if ltb M m then refused 3 else if ltb p (n + 1) || ltb q (2 * m) then refused 8 else answered f) ≡ answered x
-          → Taken
-      two true k e = never e
-      two false k e = three (of-in-range _ _ k) (ltb M m) refl e
+      P : Outcome (ℕ × ℕ × List ℕ) → Type 0
+      P o = o ≡ answered x → (some f ≡ some x) × Within N M p q (x .0) (x .1)
 
 -- a text that is accepted, with lists of p and q entries: its counts are within the limits, it is the text of its links, and each is new
 pub record TextRead (mostNodes mostLinks p q : ℕ) (text : List ℕ) (x : Parsed) : Type 0 where

@@ -29,7 +29,7 @@ use Rattle.model.specs.Asking.{asking}
 use Rattle.model.specs.Walking.{AfterWalking, refuseWalk, fit, walkOf, walking}
 use Rattle.model.specs.Demand.{AllowedAnswer}
 use Rattle.model.proofs.Tests.{picked, true-T, false-no, or-false, of-or-false, not-not, eq-or, lt-or}
-use Rattle.model.proofs.Outcomes.{never, numberIn}
+use Rattle.model.proofs.Outcomes.{never, no-value, numberIn}
 use Rattle.model.proofs.Acceptance.{of-in-range, survey-facts}
 use Rattle.model.proofs.Numbers.{length-le}
 use Rattle.model.proofs.Lines.{length-line}
@@ -152,18 +152,17 @@ module _ (n s : ℕ) (G : Graph) (g : IsGraph n G) where
   -- a part has at most n nodes
   part-few : (may : ℕ → Bool) (left : ℕ → ℕ) (goal v : ℕ) → v < n → (l : List ℕ) → steps G may left goal (left v) v ≡ some l → length l ≤ n
   part-few may left goal v h l e =
-      let c = subst (λ (o : Option (List ℕ)). Sound (linked n G) (left v) v goal o) e (steps-sound _ _ g _ _ _ _ _ h) .1 in
+      let c = subst (λ (o : Option (List ℕ)). Sound (linked n G) (left v) v goal o) e (steps-sound n G g may left goal (left v) v h) .1 in
       ⊎-elim
       (λ k. omega (arith, c, k))
-      (λ k. absurd (let f = sym e ∙ too-long n G g may left goal (left v) v h (omega arith) k in
-      let z : _≡_ {A = ℕ} 0 1 = cc in omega arith))
+      (λ k. no-value (sym (too-long n G g may left goal (left v) v h (omega arith) k) ∙ e))
       (lt-or (left v) n)
 
   join-few : (p q : Option (List ℕ)) → ((l : List ℕ) → p ≡ some l → length l ≤ n) → ((l : List ℕ) → q ≡ some l → length l ≤ n)
       → (l : List ℕ) → join p q ≡ some l → length l ≤ 2 * n
   unfolding join
-  join-few missing q f h l e = let z : _≡_ {A = ℕ} 0 1 = cc in absurd (omega arith)
-  join-few (some p) missing f h l e = let z : _≡_ {A = ℕ} 0 1 = cc in absurd (omega arith)
+  join-few missing q f h l e = no-value e
+  join-few (some p) missing f h l e = no-value e
   join-few (some p) (some q) f h l e =
       let k : p ++ tail (reverse q) ≡ l = cc in
       omega (arith, sym (ap length k) ∙ length-append p _, tail-few (reverse q), length-reverse q, f p refl, h q refl)
@@ -175,8 +174,7 @@ module _ (n s : ℕ) (G : Graph) (g : IsGraph n G) where
   nodes-few full low a b ha hb Itself l e = let k : a ∷ [] ≡ l = cc in omega (arith, ap length k)
   nodes-few full low a b ha hb Low l e = omega (arith, part-few (isLow s G) (λ x. entryAt n low x b) b a ha l e)
   nodes-few full low a b ha hb (Through h) l e =
-      join-few _ _
-      (part-few _ _ _ _ ha) (part-few _ _ _ _ hb) _ e
+      join-few _ _ (part-few _ _ _ _ ha) (part-few _ _ _ _ hb) _ e
   nodes-few full low a b ha hb NoRoute l e = let k : [] ≡ l = cc in omega (arith, ap length k)
 
 -- with a walk list of 2 n entries or more, a walk is refused 8 only for `starts` or a table
@@ -188,11 +186,11 @@ walking-enough n starts neighbours full low report a b w h =
     picked P (badSize n) _ _ (λ _ e. absurd (omega (arith, same-number 2 8 e))) (λ _.
     picked P short _ _ (λ t e. true-T _ t) (λ _.
     picked P (not (isSurvey n starts neighbours)) _ _ (λ _ e. absurd (omega (arith, same-number 9 8 e))) (λ lists.
-    picked P _ _ _ (λ _ e. absurd (omega (arith, same-number 10 8 e))) (λ below.
+    picked P (leb n a || leb n b) _ _ (λ _ e. absurd (omega (arith, same-number 10 8 e))) (λ below.
     let i = of-or-false _ _ below in
     let g = survey-facts _ _ _ (not-not (isSurvey n starts neighbours) lists) .graph in
     answers g (leb-false _ _ (i .0)) (leb-false _ _ (i .1))
-    (chosen _ _ _ _ _)))))
+    (chosen a b r _ _)))))
   where
     G : Graph
     G = neighboursOf starts neighbours
@@ -212,7 +210,7 @@ walking-enough n starts neighbours full low report a b w h =
 
     walk : IsGraph n G → a < n → b < n → (x : Answer) → P (fit w x (walkNodes n (threshold n) G full low a b (x .route)))
     walk g ha hb x =
-        fitted x (walkNodes n (threshold n) G full low a b (x .route)) (nodes-few _ _ _ g _ _ _ _ ha hb _)
+        fitted x (walkNodes n (threshold n) G full low a b (x .route)) (nodes-few n _ G g full low a b ha hb (x .route))
 
     answers : IsGraph n G → a < n → b < n → {l k : ℕ} {q : Outcome Answer} → Chosen a b r l k q
         → P (walkOf w n (threshold n) G full low a b q)
@@ -241,39 +239,30 @@ built-enough n starts neighbours acc full low report own a b ha hb w h =
     G : Graph
     G = neighboursOf starts neighbours
 
-    hf : n * n ≤ length full
-    hf = full-room _ _ _ full _ _ own
-
-    hl : n * n ≤ length low
-    hl = low-room _ _ _ _ low _ own
-
-    hr : n * n ≤ length report
-    hr = report-room _ _ _ _ _ report own
-
     asked : AllowedAnswer (linked n G) a b (asking n full low report a b)
-    asked = walking-right _ _ _ _ _ _ _ _ w acc own ha hb .0
+    asked = walking-right n starts neighbours full low report a b w acc own ha hb .0
 
     x : Answer
     x = asked .value
 
     answers : (v : ℕ) → (x .report ≡ none) ⊎ (x .report < v) → walking n starts neighbours full low report a b v .answer ≡ answered x
-    answers v room = walking-right _ _ _ _ _ _ _ _ _ acc own ha hb .1 x (asked .given) room
+    answers v room = walking-right n starts neighbours full low report a b v acc own ha hb .1 x (asked .given) room
 
     short : (ltb (length starts) (n + 1) || shortTables n (length full) (length low) (length report)) ≡ false
     short = or-false (ltb (length starts) (n + 1)) _
-        (le-ltb (length starts) _ (acc .room)) (long-tables _ (length full) _ _ hf hl hr)
+        (le-ltb (length starts) _ (acc .room)) (long-tables _ (length full) _ _ (full-room own) (low-room own) (report-room own))
 
     -- a report of w or more would have a walk of more than 2 n nodes
     found : (x .report ≡ none → ⊥) → w ≤ x .report → (o : Option (List ℕ)) → walkNodes n s G full low a b (x .route) ≡ o → ⊥
     found m l missing f =
         let v = suc (x .report) in
-        let given = sym (asks _ _ _ acc _ _ _ hf hl hr _ _ ha hb) ∙ asked .given in
+        let given = sym (asks acc full low report (full-room own) (low-room own) (report-room own) ha hb) ∙ asked .given in
         never (
         sym (ap (λ (y : AfterWalking). y .answer) (
-        walks _ _ _ acc _ _ _ hf hl hr _ _ ha hb _ ∙ ap (walkOf v n s G full low a b) given ∙ ap (fit v x) f
+        walks acc full low report (full-room own) (low-room own) (report-room own) ha hb v ∙ ap (walkOf v n s G full low a b) given ∙ ap (fit v x) f
         ))
         ∙ answers v (inr (omega arith))
         )
     found m l (some p) f =
         false-no _ short (walking-enough _ starts _ full low report _ _ _ h
-        (walking-short _ _ _ acc _ _ _ _ _ _ (asked .given) _ f w .1 (m, omega arith)))
+        (walking-short acc full low report a b (asked .given) f w .1 (m, omega arith)))

@@ -23,7 +23,7 @@ use Rattle.model.specs.Tables.{entryAt, via}
 use Rattle.model.specs.Pair.{withRoute, attaining, choose, pairBy}
 use Rattle.model.specs.Walk.{before, next, steps, byLow, toHub, join, walkNodes}
 use Rattle.model.specs.Walking.{AfterWalking, refuseWalk, fit, walkOf}
-use Rattle.model.proofs.Tests.{and-l, and-r, and-i, eq-T, eq-or, lt-or}
+use Rattle.model.proofs.Tests.{and-l, and-r, and-i, eq-T, eq-or, lt-or, picked}
 use Rattle.model.proofs.Lists.{has-upTo, first-in, first-below, first-same, First, found, nothing, keep-grows, keep-length, length-upTo}
 use Rattle.model.proofs.Acceptance.{linked-of, linked-sym}
 use Rattle.model.proofs.Allowance.{Sum, whole, part, sum-is}
@@ -40,34 +40,20 @@ pub data Chosen (a b r l h : ℕ) : Outcome Answer → Type 0 where
 
 pub chosen : (a b r l h : ℕ) → Chosen a b r l h (choose a b r l h)
 unfolding choose
-chosen a b r l h = one (eqb a b) refl
+chosen a b r l h =
+    picked P (eqb a b) _ _
+    (λ x. picked P (eqb r 0) _ _
+    (λ y. to-itself (eqb-true a b x) (eqb-true r 0 y)) (λ y. bad-itself (eqb-true a b x) (eqb-false r 0 y)))
+    (λ x. picked P (eqb r none) _ _
+    (λ y. to-none (eqb-false a b x) (eqb-true r none y))
+    (λ y. picked P (eqb l r) _ _
+    (λ z. to-low (eqb-false a b x) (eqb-false r none y) (eqb-true l r z))
+    (λ z. picked P (eqb h none) _ _
+    (λ w. bad-hub (eqb-false a b x) (eqb-false r none y) (eqb-false l r z) (eqb-true h none w))
+    (λ w. to-hub (eqb-false a b x) (eqb-false r none y) (eqb-false l r z) (eqb-false h none w)))))
   where
-    four : (a ≡ b → ⊥) → (r ≡ none → ⊥) → (l ≡ r → ⊥) → (t : Bool) → eqb h none ≡ t
-        → Chosen a b r l h (if t then refused 11 else answered (withRoute r (Through h)))
-    four x y z true e = bad-hub x y z (eqb-true h none e)
-    four x y z false e = to-hub x y z (eqb-false h none e)
-
-    three : (a ≡ b → ⊥) → (r ≡ none → ⊥) → (t : Bool) → eqb l r ≡ t
-        → Chosen a b r l h (if t then answered (withRoute r Low) else if eqb h none then refused 11 else answered (withRoute r (Through h)))
-    three x y true e = to-low x y (eqb-true l r e)
-    three x y false e = four x y (eqb-false l r e) (eqb h none) refl
-
-    two : (a ≡ b → ⊥) → (t : Bool) → eqb r none ≡ t
-        → Chosen a b r l h (if t then answered (withRoute none NoRoute) else if eqb l r then answered (withRoute r Low)
-        else if eqb h none then refused 11 else answered (withRoute r (Through h)))
-    two x true e = to-none x (eqb-true r none e)
-    two x false e = three x (eqb-false r none e) (eqb l r) refl
-
-    zeroed : a ≡ b → (t : Bool) → eqb r 0 ≡ t → Chosen a b r l h (if t then answered (withRoute 0 Itself) else refused 11)
-    zeroed x true e = to-itself x (eqb-true r 0 e)
-    zeroed x false e = bad-itself x (eqb-false r 0 e)
-
-    one : (t : Bool) → eqb a b ≡ t
-        → Chosen a b r l h (if t then (if eqb r 0 then answered (withRoute 0 Itself) else refused 11)
-        else if eqb r none then answered (withRoute none NoRoute) else if eqb l r then answered (withRoute r Low)
-        else if eqb h none then refused 11 else answered (withRoute r (Through h)))
-    one true e = zeroed (eqb-true a b e) (eqb r 0) refl
-    one false e = two (eqb-false a b e) (eqb r none) refl
+    P : Outcome Answer → Type 0
+    P = Chosen a b r l h
 
 -- ---- one part of a walk
 
@@ -357,7 +343,7 @@ module _ (isHub : ℕ → Bool) (n : ℕ) (full : List ℕ) (a b : ℕ) where
       )
       at (nothing e miss) d = absurd (d e)
 
-module _ (n s : ℕ) (G : Graph) (g : IsGraph n G) (full low : List ℕ) (a b : ℕ) (ha : a < n) (hb : b < n) where
+module _ {n : ℕ} (s : ℕ) {G : Graph} (g : IsGraph n G) (full low : List ℕ) {a b : ℕ} (ha : a < n) (hb : b < n) where
   low-sound : Sound (linked n G) (entryAt n low a b) a b (byLow n s G low a b)
   unfolding byLow
   low-sound = steps-sound n G g (isLow s G) (λ x. entryAt n low x b) b (entryAt n low a b) a ha
