@@ -90,22 +90,21 @@ split E high {a = a} {b = c} (link {k = k} {b = b} t r) = go (passes (high a)) (
 
 -- ---- the survey's tables
 
-module _ (n s : ℕ) (G : Graph) (g : IsGraph n G) where
+module _ {n : ℕ} (s : ℕ) {G : Graph} (g : IsGraph n G) where
   -- ---- the report
 
   unfoldable pub routes : ℕ → ℕ → ℕ
   routes a b = least (via n (fullTable n s G) a b) (entryAt n (lowTable n s G) a b) (hubs n s G)
 
-  pub report-entry : (a b : ℕ) → a < n → b < n → entryAt n (reportTable n s G) a b ≡ (if eqb a b then 0 else routes a b)
+  pub report-entry : {a b : ℕ} → a < n → b < n → entryAt n (reportTable n s G) a b ≡ (if eqb a b then 0 else routes a b)
   unfolding reportTable routes
-  report-entry a b ha hb =
-      entry-table _ _ _ _ ha hb
+  report-entry = entry-table n (reportEntry n (fullTable n s G) (lowTable n s G) (hubs n s G)) _ _
 
   -- a route through a hub, if there is one, is a chain of as many links
-  via-chain : (a b h : ℕ) → a < n → b < n → h < n → (via n (fullTable n s G) a b h ≡ none → ⊥)
+  via-chain : {a b h : ℕ} → a < n → b < n → h < n → (via n (fullTable n s G) a b h ≡ none → ⊥)
       → Chain (linked n G) (via n (fullTable n s G) a b h) a b
   unfolding via
-  via-chain a b h ha hb hh f = go (sum-is _ _) f
+  via-chain {a} {b} {h} ha hb hh f = go (sum-is _ _) f
     where
       x : ℕ
       x = entryAt n (fullTable n s G) h a
@@ -115,14 +114,14 @@ module _ (n s : ℕ) (G : Graph) (g : IsGraph n G) where
 
       go : {z : ℕ} → Sum x y z → (f : z ≡ none → ⊥) → Chain (linked n G) z a b
       go (whole p q e) f = subst (λ (k : ℕ). Chain (linked n G) k a b) (sym e)
-          (append (turn (linked-sym _ _) (full-is _ _ _ g _ _ hh ha p .1 .0)) (full-is _ _ _ g _ _ hh hb q .1 .0))
+          (append (turn (linked-sym _ _) (full-is s g hh ha p .1 .0)) (full-is s g hh hb q .1 .0))
       go (part e p) f = absurd (f e)
 
   -- a report that is not none is the number of links of some chain
-  pub report-chain : (a b : ℕ) → a < n → b < n → (entryAt n (reportTable n s G) a b ≡ none → ⊥)
+  pub report-chain : {a b : ℕ} → a < n → b < n → (entryAt n (reportTable n s G) a b ≡ none → ⊥)
       → Chain (linked n G) (entryAt n (reportTable n s G) a b) a b
   unfolding routes
-  report-chain a b ha hb = go (eqb a b) refl (report-entry _ _ ha hb)
+  report-chain {a} {b} ha hb = go (eqb a b) refl (report-entry ha hb)
     where
       full : List ℕ
       full = fullTable n s G
@@ -137,9 +136,9 @@ module _ (n s : ℕ) (G : Graph) (g : IsGraph n G) where
               → Chain (linked n G) (routes a b) a b
           at (inl e) =
               subst (λ (k : ℕ). Chain (linked n G) k a b) (sym e)
-              (widen (low-widen _ _ _ g) (low-is _ _ _ g _ _ ha hb (λ q. f (e ∙ q)) .2 .0))
+              (widen (low-widen _ _ _ g) (low-is s g ha hb (λ q. f (e ∙ q)) .2 .0))
           at (inr r) = subst (λ (k : ℕ). Chain (linked n G) k a b) (sym (r .2))
-              (via-chain _ _ _ ha hb (hubs-below _ _ _ _ (r .1)) (λ q. f (r .2 ∙ q)))
+              (via-chain ha hb (hubs-below _ _ _ _ (r .1)) (λ q. f (r .2 ∙ q)))
 
       go : (t : Bool) → eqb a b ≡ t → entryAt n (reportTable n s G) a b ≡ (if t then 0 else routes a b)
           → (entryAt n (reportTable n s G) a b ≡ none → ⊥) → Chain (linked n G) (entryAt n (reportTable n s G) a b) a b
@@ -149,9 +148,9 @@ module _ (n s : ℕ) (G : Graph) (g : IsGraph n G) where
       go false q e f = subst (λ (k : ℕ). Chain (linked n G) k a b) (sym e) (some-route (λ z. f (e ∙ z)))
 
   -- where a chain of k links joins the pair, the report is at most k + 2
-  pub report-near : (a b k : ℕ) → n ≤ 1024 → a < n → b < n → Chain (linked n G) k a b → entryAt n (reportTable n s G) a b ≤ k + 2
+  pub report-near : {a b k : ℕ} → n ≤ 1024 → a < n → b < n → Chain (linked n G) k a b → entryAt n (reportTable n s G) a b ≤ k + 2
   unfolding isLow lowLinks routes via
-  report-near a b k size ha hb c = go (eqb a b) (report-entry _ _ ha hb)
+  report-near {a} {b} {k} size ha hb c = go (eqb a b) (report-entry ha hb)
     where
       full : List ℕ
       full = fullTable n s G
@@ -173,15 +172,15 @@ module _ (n s : ℕ) (G : Graph) (g : IsGraph n G) where
 
       near : Split (linked n G) (isHigh s G) k a b → routes a b ≤ k + 2
       near (lows p q l) =
-          le-trans (least-base _ _ hs) (le-trans (low-joined _ _ _ g _ _ _ ha hb p q l .1 .1 k l) (omega arith))
+          le-trans (least-base _ _ hs) (le-trans (low-joined s g ha hb p q l .1 .1 k l) (omega arith))
       near (through w i j t p q e) =
-          let hw : w < n = inside _ _ _ (linked-ends _ _) ha ha p in
+          let hw : w < n = inside (linked-ends n G) ha p in
           let r = spoke w hw t in
           let h = r .0 in
           let ca = append (r .5) (turn (linked-sym n G) p) in
           let cb = append (r .5) q in
-          let fa = full-joined _ s _ g _ _ _ (r .1) ha (r .2) ca in
-          let fb = full-joined _ s _ g _ _ _ (r .1) hb (r .2) cb in
+          let fa = full-joined s g (r .1) ha (r .2) ca in
+          let fb = full-joined s g (r .1) hb (r .2) cb in
           le-trans (least-at _ _ hs _ (r .2))
           (bound (sum-is _ _) (r .3) (r .4) e (fa .1 .1 (r .3 + i) ca, fa .0)
           (fb .1 .1 (r .3 + j) cb, fb .0))
@@ -200,7 +199,7 @@ pub allowed : (n s : ℕ) (G : Graph) → IsGraph n G → n ≤ 1024 → (a b : 
     → Allowed (linked n G) a b (entryAt n (reportTable n s G) a b)
 allowed n s G g size a b ha hb = record {
   no-route = (λ e k c. far k c e, λ f. at (passes (eqb r none)) f);
-  near = λ d m. (m .1 r (report-chain _ _ _ g _ _ ha hb (λ e. far d (m .0) e)), report-near _ _ _ g _ _ _ size ha hb (m .0));
+  near = λ d m. (m .1 r (report-chain s g ha hb (λ e. far d (m .0) e)), report-near s g size ha hb (m .0));
 }
   where
     r : ℕ
@@ -214,9 +213,9 @@ allowed n s G g size a b ha hb = record {
         d = fewest (linked n G) n a b
 
         cases : ((d < n) × Fewest (linked n G) a b d) ⊎ ((d ≡ none) × Unjoined (linked n G) a b) → ⊥
-        cases (inl p) = let l = report-near _ s G g a b d size ha hb (p .1 .0) in omega arith
+        cases (inl p) = let l = report-near s g size ha hb (p .1 .0) in omega arith
         cases (inr p) = p .1 k c
 
     at : T (eqb r none) ⊎ (T (eqb r none) → ⊥) → Unjoined (linked n G) a b → r ≡ none
     at (inl t) f = eqb→eq _ _ t
-    at (inr t) f = absurd (f r (report-chain _ _ _ g _ _ ha hb (λ e. t (subst (λ (z : ℕ). T (eqb r z)) e (eqb-refl r)))))
+    at (inr t) f = absurd (f r (report-chain s g ha hb (λ e. t (subst (λ (z : ℕ). T (eqb r z)) e (eqb-refl r)))))

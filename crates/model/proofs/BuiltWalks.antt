@@ -60,22 +60,22 @@ module _ {n s : ℕ} {G : Graph} (g : IsGraph n G) (size : n ≤ 1024) {full low
 
   full-is′ : {h b : ℕ} → h < n → b < n → (entryAt n full h b ≡ none → ⊥)
       → T (has h (hubs n s G)) × Fewest (linked n G) h b (entryAt n full h b)
-  full-is′ hh hb = rw (full-at hh hb) (full-is n s G g _ _ hh hb)
+  full-is′ hh hb = rw (full-at hh hb) (full-is s g hh hb)
 
   full-joined′ : {h b k : ℕ} → h < n → b < n → T (has h (hubs n s G)) → Chain (linked n G) k h b
       → (entryAt n full h b < n) × Fewest (linked n G) h b (entryAt n full h b)
-  full-joined′ hh hb m c = rw (full-at hh hb) (full-joined n s G g _ _ _ hh hb m c)
+  full-joined′ hh hb m c = rw (full-at hh hb) (full-joined s g hh hb m c)
 
   low-is′ : {a b : ℕ} → a < n → b < n → (entryAt n low a b ≡ none → ⊥)
       → T (isLow s G a) × T (isLow s G b) × Fewest (lowLinks n s G) a b (entryAt n low a b)
-  low-is′ ha hb = rw (low-at ha hb) (low-is n s G g _ _ ha hb)
+  low-is′ ha hb = rw (low-at ha hb) (low-is s g ha hb)
 
   low-joined′ : {a b k : ℕ} → a < n → b < n → T (isLow s G a) → T (isLow s G b) → Chain (lowLinks n s G) k a b
       → (entryAt n low a b < n) × Fewest (lowLinks n s G) a b (entryAt n low a b)
-  low-joined′ ha hb la lb c = rw (low-at ha hb) (low-joined n s G g _ _ _ ha hb la lb c)
+  low-joined′ ha hb la lb c = rw (low-at ha hb) (low-joined s g ha hb la lb c)
 
-  report-entry′ : {a b : ℕ} → a < n → b < n → entryAt n report a b ≡ (if eqb a b then 0 else routes n s G g a b)
-  report-entry′ ha hb = report-at ha hb ∙ report-entry n s G g _ _ ha hb
+  report-entry′ : {a b : ℕ} → a < n → b < n → entryAt n report a b ≡ (if eqb a b then 0 else routes s g a b)
+  report-entry′ ha hb = report-at ha hb ∙ report-entry s g ha hb
 
   via-at : {a b h : ℕ} → a < n → b < n → h < n → via n full a b h ≡ via n (fullTable n s G) a b h
   unfolding via
@@ -88,7 +88,7 @@ module _ {n s : ℕ} {G : Graph} (g : IsGraph n G) (size : n ≤ 1024) {full low
       let i = full-is′ hh hv (below-none e z) in
       let f = subst (λ (k : ℕ). Fewest (linked n G) h v k) e (i .1) in
       let c = split-last (f .0) in
-      let hu = inside (linked n G) n h (linked-ends n G) hh hh (c .1) in
+      let hu = inside (linked-ends n G) hh (c .1) in
       let j = full-joined′ hh hu (i .0) (c .1) in (
         c .0,
         linked-has n G v (c .0) (linked-sym n G (c .0) v (c .2)),
@@ -146,7 +146,7 @@ module _ {n s : ℕ} {G : Graph} (g : IsGraph n G) (size : n ≤ 1024) {full low
           p : ℕ → Bool
           p h = isHub h && eqb (via n full a b h) r
 
-          some-hub : r ≡ routes n s G g a b → ⊥
+          some-hub : r ≡ routes s g a b → ⊥
           some-hub e = ⊎-elim (λ q. y (low-at ha hb ∙ sym (e ∙ q))) (λ c.
               let h = c .0 in
               let l = hubs-below n G s h (c .1) in
@@ -158,7 +158,7 @@ module _ {n s : ℕ} {G : Graph} (g : IsGraph n G) (size : n ≤ 1024) {full low
               hit h l t (found lo hi s least) q = omega arith
               hit h l t (nothing q miss) p = miss h zero-le (omega arith) t
 
-          at : (t : Bool) → eqb a b ≡ t → r ≡ (if t then 0 else routes n s G g a b) → ⊥
+          at : (t : Bool) → eqb a b ≡ t → r ≡ (if t then 0 else routes s g a b) → ⊥
           at true q e = x (eqb-true a b q)
           at false q e = some-hub e
 

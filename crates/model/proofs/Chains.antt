@@ -59,6 +59,11 @@ module _ {E : Edges} where
   chain-walked (here {a = a}) = (a ∷ [], refl, stop)
   chain-walked (link {a = a} t c) = let w = chain-walked c in (a ∷ w .0, ap suc (w .1), go t (w .2))
 
+-- where links lead from nodes below n to nodes below n, so do chains
+pub inside : {E : Edges} {n : ℕ} → ((u v : ℕ) → u < n → T (E u v) → v < n) → {k b v : ℕ} → b < n → Chain E k b v → v < n
+inside ends h here = h
+inside ends h (link t r) = inside ends (ends _ _ h t) r
+
 module _ (E : Edges) (n a : ℕ) where
   -- v is reached with k links
   abbrev pub Reached : ℕ → ℕ → Type 0
@@ -99,17 +104,13 @@ module _ (E : Edges) (n a : ℕ) where
       (grown k v h .1)
 
   module _ (ends : (u v : ℕ) → u < n → T (E u v) → v < n) (start : a < n) where
-    pub inside : {k b v : ℕ} → b < n → Chain E k b v → v < n
-    inside h here = h
-    inside h (link t r) = inside (ends _ _ h t) r
-
     -- and the other end of a chain of k links is reached with k
     complete : (k v : ℕ) → Chain E k a v → Reached k v
     unfolding reach
     complete zero v c = subst (λ (z : ℕ). T (has z (a ∷ []))) (chain-zero c) (has-head a [])
     complete (suc k) v c =
         let s = split-last c in
-        step k (s .0) v (inside start c) (complete k (s .0) (s .1)) (s .2)
+        step k (s .0) v (inside ends start c) (complete k (s .0) (s .1)) (s .2)
 
     starts : (k : ℕ) → Reached k a
     unfolding reach
