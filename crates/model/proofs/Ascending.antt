@@ -1,7 +1,7 @@
 -- Laws of ascending lists. An ascending list of numbers below n is what the test of membership in it keeps of all numbers below n.
 -- Assumes nothing.
 use mathlib.Core.Path.{_≡_, refl, sym, ap, _∙_, subst}
-use mathlib.Core.Logic.{_⊎_, inl, inr}
+use mathlib.Core.Logic.{_⊎_, inl, inr, ⊎-elim}
 use mathlib.Core.Bool.{Bool, true, false}
 use mathlib.Core.List.{List, [], _∷_, _++_}
 use Prim.Native.Nat.{ℕ, zero, suc, _+_, _≤_, _<_, zero-le, suc-le-suc}
@@ -23,14 +23,12 @@ ascending-tail x (y ∷ ys) t = and-r (ltb x y) _ t
 pub ascending-above : (x : ℕ) (xs : List ℕ) → T (ascending (x ∷ xs)) → (y : ℕ) → T (has y xs) → x < y
 unfolding ascending has
 ascending-above x [] t y h = absurd h
-ascending-above x (z ∷ zs) t y h = go (of-cons _ _ zs h) (λ r. ascending-above z zs (and-r (ltb x z) (ascending (z ∷ zs)) t) y r)
-  where
-    first : x < z
-    first = ltb→lt _ _ (and-l (ltb x z) _ t)
-
-    go : (y ≡ z) ⊎ T (has y zs) → (T (has y zs) → z < y) → x < y
-    go (inl e) rec = subst (λ (k : ℕ). x < k) (sym e) first
-    go (inr r) rec = lt-trans first (rec r)
+ascending-above x (z ∷ zs) t y h =
+    let first : x < z = ltb→lt _ _ (and-l (ltb x z) _ t) in
+    ⊎-elim
+    (λ e. subst (λ (k : ℕ). x < k) (sym e) first)
+    (λ r. lt-trans first (ascending-above z zs (and-r (ltb x z) (ascending (z ∷ zs)) t) y r))
+    (of-cons _ _ zs h)
 
 pub ascending-cons : (x : ℕ) (xs : List ℕ) → ((y : ℕ) → T (has y xs) → x < y) → T (ascending xs) → T (ascending (x ∷ xs))
 unfolding ascending
@@ -71,11 +69,10 @@ member-keep (y ∷ ys) k (suc m) t f =
     front e = subst (λ (z : ℕ). T (has z (y ∷ ys))) (sym e) (has-head y ys)
 
     above : (k ≡ y → ⊥) → (x : ℕ) → T (has x (y ∷ ys)) → (suc k ≤ x) × (x < suc k + m)
-    above d x h = at (of-cons _ _ ys h)
-      where
-        at : (x ≡ y) ⊎ T (has x ys) → (suc k ≤ x) × (x < suc k + m)
-        at (inl e) = let b = f y (has-head y ys) in omega arith
-        at (inr r) = let b = f y (has-head y ys) in let c = f x h in let u = up x r in omega arith
+    above d x h =
+        let b = f y (has-head y ys) in
+        let c = f x h in
+        ⊎-elim (λ e. omega arith) (λ r. let u = up x r in omega arith) (of-cons _ _ ys h)
 
     go : (k ≡ y) ⊎ (k ≡ y → ⊥)
         → (((x : ℕ) → T (has x ys) → (suc k ≤ x) × (x < suc k + m)) → keep (λ x. has x ys) (from (suc k) m) ≡ ys)
@@ -139,8 +136,7 @@ standing (x ∷ l) v t h = go (of-cons _ _ _ h) (λ r. standing l _ (ascending-t
 -- in an ascending list, the entries before x are less than x
 pub ascending-front : (k : List ℕ) (x : ℕ) (l : List ℕ) → T (ascending (k ++ x ∷ l)) → (y : ℕ) → T (has y k) → y < x
 ascending-front [] x l t y h = absurd (none-in _ h)
-ascending-front (z ∷ k) x l t y h = go (of-cons _ _ _ h) (λ r. ascending-front k x l (ascending-tail _ _ t) _ r)
-  where
-    go : (y ≡ z) ⊎ T (has y k) → (T (has y k) → y < x) → y < x
-    go (inl e) rec = subst (λ (w : ℕ). w < x) (sym e) (ascending-above _ _ t _ (has-later _ k _ (has-head _ l)))
-    go (inr r) rec = rec r
+ascending-front (z ∷ k) x l t y h = ⊎-elim
+    (λ e. subst (λ (w : ℕ). w < x) (sym e) (ascending-above _ _ t _ (has-later _ k _ (has-head _ l))))
+    (ascending-front k x l (ascending-tail _ _ t) y)
+    (of-cons _ _ _ h)

@@ -1,7 +1,7 @@
 -- Laws of the small functions on lists of specs/Basics.antt.
 -- Assumes nothing.
 use mathlib.Core.Path.{_≡_, refl, sym, ap, ap₂, _∙_, subst}
-use mathlib.Core.Logic.{_⊎_, inl, inr}
+use mathlib.Core.Logic.{_⊎_, inl, inr, ⊎-elim}
 use mathlib.Core.Bool.{Bool, true, false, not, _&&_, _||_, or-assoc}
 use mathlib.Core.List.{List, [], _∷_, _++_, map, append-assoc, append-nil}
 use Prim.Native.Nat.{ℕ, zero, suc, _+_, _-_, _≤_, _<_, suc-le-suc, zero-le}
@@ -10,7 +10,7 @@ use native.Mathlib.Omega.{arith}
 use lib.Dec.{T, eqb, eqb→eq, eqb-refl}
 use lib.ListN.{length}
 use Rattle.model.specs.Basics.{if_then_else_, from, upTo, has, any, all, keep, firstOf, gather, same}
-use Rattle.model.proofs.Tests.{and-l, and-r, and-i, or-l, or-r, or-e, passes}
+use Rattle.model.proofs.Tests.{and-l, and-r, and-i, or-l, or-r, or-e, eq-or}
 
 -- ---- membership
 
@@ -24,48 +24,37 @@ has-tail x y ys t = or-r (eqb x y) (has x ys) t
 
 pub of-cons : (x y : ℕ) (ys : List ℕ) → T (has x (y ∷ ys)) → (x ≡ y) ⊎ T (has x ys)
 unfolding has
-of-cons x y ys t = go (or-e (eqb x y) (has x ys) t)
-  where
-    go : T (eqb x y) ⊎ T (has x ys) → (x ≡ y) ⊎ T (has x ys)
-    go (inl e) = inl (eqb→eq x y e)
-    go (inr r) = inr r
+of-cons x y ys t = ⊎-elim (λ e. inl (eqb→eq x y e)) inr (or-e (eqb x y) (has x ys) t)
 
 pub of-single : (x y : ℕ) → T (has x (y ∷ [])) → x ≡ y
 unfolding has
-of-single x y t = go (of-cons x y [] t)
-  where
-    go : (x ≡ y) ⊎ T (has x []) → x ≡ y
-    go (inl e) = e
-    go (inr r) = absurd r
+of-single x y t = ⊎-elim (λ e. e) (λ r. absurd r) (of-cons x y [] t)
 
 -- ---- any, all, keep
 
 pub any-of : (p : ℕ → Bool) (l : List ℕ) (x : ℕ) → T (has x l) → T (p x) → T (any p l)
 unfolding has any
 any-of p [] x h t = h
-any-of p (y ∷ ys) x h t = go (of-cons x y ys h) (λ r. any-of p ys x r t)
-  where
-    go : (x ≡ y) ⊎ T (has x ys) → (T (has x ys) → T (any p ys)) → T (p y || any p ys)
-    go (inl e) rec = or-l (p y) (any p ys) (subst (λ (z : ℕ). T (p z)) e t)
-    go (inr r) rec = or-r (p y) (any p ys) (rec r)
+any-of p (y ∷ ys) x h t = ⊎-elim
+    (λ e. or-l (p y) (any p ys) (subst (λ (z : ℕ). T (p z)) e t))
+    (λ r. or-r (p y) (any p ys) (any-of p ys x r t))
+    (of-cons x y ys h)
 
 pub of-any : (p : ℕ → Bool) (l : List ℕ) → T (any p l) → (x : ℕ) × T (has x l) × T (p x)
 unfolding any
 of-any p [] t = absurd t
-of-any p (y ∷ ys) t = go (or-e (p y) (any p ys) t) (λ r. of-any p ys r)
-  where
-    go : T (p y) ⊎ T (any p ys) → (T (any p ys) → (x : ℕ) × T (has x ys) × T (p x)) → (x : ℕ) × T (has x (y ∷ ys)) × T (p x)
-    go (inl s) rec = (y, has-head y ys, s)
-    go (inr r) rec = let h = rec r in (h .0, has-tail (h .0) y ys (h .1), h .2)
+of-any p (y ∷ ys) t = ⊎-elim
+    (λ s. (y, has-head y ys, s))
+    (λ r. let h = of-any p ys r in (h .0, has-tail (h .0) y ys (h .1), h .2))
+    (or-e (p y) (any p ys) t)
 
 pub of-all : (p : ℕ → Bool) (l : List ℕ) → T (all p l) → (x : ℕ) → T (has x l) → T (p x)
 unfolding all has
 of-all p [] t x h = absurd h
-of-all p (y ∷ ys) t x h = go (of-cons x y ys h) (λ r. of-all p ys (and-r (p y) (all p ys) t) x r)
-  where
-    go : (x ≡ y) ⊎ T (has x ys) → (T (has x ys) → T (p x)) → T (p x)
-    go (inl e) rec = subst (λ (z : ℕ). T (p z)) (sym e) (and-l (p y) (all p ys) t)
-    go (inr r) rec = rec r
+of-all p (y ∷ ys) t x h = ⊎-elim
+    (λ e. subst (λ (z : ℕ). T (p z)) (sym e) (and-l (p y) (all p ys) t))
+    (of-all p ys (and-r (p y) (all p ys) t) x)
+    (of-cons x y ys h)
 
 pub all-of : (p : ℕ → Bool) (l : List ℕ) → ((x : ℕ) → T (has x l) → T (p x)) → T (all p l)
 unfolding all
@@ -91,11 +80,10 @@ of-keep p (y ∷ ys) x h = go (p y) refl h (λ r. of-keep p ys x r)
   where
     go : (b : Bool) → p y ≡ b → T (has x (if b then y ∷ keep p ys else keep p ys))
         → (T (has x (keep p ys)) → T (has x ys) × T (p x)) → T (has x (y ∷ ys)) × T (p x)
-    go true e h rec = at (of-cons x y (keep p ys) h)
-      where
-        at : (x ≡ y) ⊎ T (has x (keep p ys)) → T (has x (y ∷ ys)) × T (p x)
-        at (inl q) = (subst (λ (z : ℕ). T (has x (z ∷ ys))) q (has-head x ys), subst (λ (z : ℕ). T (p z)) (sym q) (subst T (sym e) tt))
-        at (inr r) = let i = rec r in (has-tail x y ys (i .0), i .1)
+    go true e h rec = ⊎-elim
+        (λ q. (subst (λ (z : ℕ). T (has x (z ∷ ys))) q (has-head x ys), subst (λ (z : ℕ). T (p z)) (sym q) (subst T (sym e) tt)))
+        (λ r. let i = rec r in (has-tail x y ys (i .0), i .1))
+        (of-cons x y (keep p ys) h)
     go false e h rec = let i = rec h in (has-tail x y ys (i .0), i .1)
 
 -- ---- the numbers below n
@@ -103,22 +91,16 @@ of-keep p (y ∷ ys) x h = go (p y) refl h (λ r. of-keep p ys x r)
 pub has-from : (k m x : ℕ) → k ≤ x → x < k + m → T (has x (from k m))
 unfolding from
 has-from k zero x lo hi = absurd (omega arith)
-has-from k (suc m) x lo hi = go (passes (eqb x k)) (λ l. has-from (suc k) m x l (omega arith))
-  where
-    go : T (eqb x k) ⊎ (T (eqb x k) → ⊥) → (suc k ≤ x → T (has x (from (suc k) m))) → T (has x (k ∷ from (suc k) m))
-    go (inl e) rec = subst (λ (z : ℕ). T (has x (z ∷ from (suc k) m))) (eqb→eq x k e) (has-head x (from (suc k) m))
-    go (inr d) rec =
-        let ne : x ≡ k → ⊥ = λ e. d (subst (λ (z : ℕ). T (eqb x z)) e (eqb-refl x)) in
-        has-tail x k (from (suc k) m) (rec (omega arith))
+has-from k (suc m) x lo hi = ⊎-elim
+    (λ e. subst (λ (z : ℕ). T (has x (z ∷ from (suc k) m))) e (has-head x (from (suc k) m)))
+    (λ d. has-tail x k (from (suc k) m) (has-from (suc k) m x (omega arith) (omega arith)))
+    (eq-or x k)
 
 pub of-from : (k m x : ℕ) → T (has x (from k m)) → (k ≤ x) × (x < k + m)
 unfolding from has
 of-from k zero x h = absurd h
-of-from k (suc m) x h = go (of-cons x k (from (suc k) m) h) (λ r. of-from (suc k) m x r)
-  where
-    go : (x ≡ k) ⊎ T (has x (from (suc k) m)) → (T (has x (from (suc k) m)) → (suc k ≤ x) × (x < suc k + m)) → (k ≤ x) × (x < k + suc m)
-    go (inl e) rec = omega arith
-    go (inr r) rec = let i = rec r in omega arith
+of-from k (suc m) x h =
+    ⊎-elim (λ e. omega arith) (λ r. let i = of-from (suc k) m x r in omega arith) (of-cons x k (from (suc k) m) h)
 
 pub has-upTo : (n x : ℕ) → x < n → T (has x (upTo n))
 unfolding upTo
@@ -192,11 +174,10 @@ keep-grows p q (y ∷ ys) f =
     go (p y) refl (q y) refl (keep-mono p q ys (λ x h. f x (has-tail x y ys h))) (keep-grows p q ys (λ x h. f x (has-tail x y ys h)))
   where
     both : (T (q y) → T (p y)) → ((x : ℕ) → T (has x ys) → T (q x) → T (p x)) → (x : ℕ) → T (has x (y ∷ ys)) → T (q x) → T (p x)
-    both h f x m t = at (of-cons x y ys m)
-      where
-        at : (x ≡ y) ⊎ T (has x ys) → T (p x)
-        at (inl e) = subst (λ (z : ℕ). T (p z)) (sym e) (h (subst (λ (z : ℕ). T (q z)) e t))
-        at (inr r) = f x r t
+    both h f x m t = ⊎-elim
+        (λ e. subst (λ (z : ℕ). T (p z)) (sym e) (h (subst (λ (z : ℕ). T (q z)) e t)))
+        (λ r. f x r t)
+        (of-cons x y ys m)
 
     go : (b : Bool) → p y ≡ b → (c : Bool) → q y ≡ c → length (keep p ys) ≤ length (keep q ys)
         → ((x : ℕ) → T (has x ys) → T (q x) → T (p x)) ⊎ (length (keep p ys) < length (keep q ys))
@@ -271,11 +252,8 @@ first-in p d (x ∷ xs) = go (p x) refl (first-in p d xs)
         ⊎ (((if b then x else r) ≡ d) × ((y : ℕ) → T (has y (x ∷ xs)) → T (p y) → ⊥))
     go true e rest = inl (has-head x xs, subst T (sym e) tt)
     go false e (inl i) = inl (has-tail r x xs (i .0), i .1)
-    go false e (inr i) = inr (i .0, λ y h t. at y t (of-cons y x xs h))
-      where
-        at : (y : ℕ) → T (p y) → (y ≡ x) ⊎ T (has y xs) → ⊥
-        at y t (inl q) = subst T e (subst (λ (z : ℕ). T (p z)) q t)
-        at y t (inr m) = i .1 y m t
+    go false e (inr i) = inr (i .0, λ y h t.
+        ⊎-elim (λ q. subst T e (subst (λ (z : ℕ). T (p z)) q t)) (λ m. i .1 y m t) (of-cons y x xs h))
 
 -- ---- one list after another
 
@@ -380,11 +358,10 @@ first-same p q d (y ∷ ys) f =
 pub has-append : (x : ℕ) (k l : List ℕ) → T (has x k) → T (has x (k ++ l))
 unfolding has
 has-append x [] l h = absurd h
-has-append x (y ∷ k) l h = go (or-e (eqb x y) (has x k) h) (λ r. has-append x k l r)
-  where
-    go : T (eqb x y) ⊎ T (has x k) → (T (has x k) → T (has x (k ++ l))) → T (eqb x y || has x (k ++ l))
-    go (inl e) rec = or-l (eqb x y) (has x (k ++ l)) e
-    go (inr r) rec = or-r (eqb x y) (has x (k ++ l)) (rec r)
+has-append x (y ∷ k) l h = ⊎-elim
+    (or-l (eqb x y) (has x (k ++ l)))
+    (λ r. or-r (eqb x y) (has x (k ++ l)) (has-append x k l r))
+    (or-e (eqb x y) (has x k) h)
 
 pub all-append : (p : ℕ → Bool) (k l : List ℕ) → T (all p k) → T (all p l) → T (all p (k ++ l))
 unfolding all
@@ -398,15 +375,10 @@ none-in x h = h
 pub of-append : (x : ℕ) (k l : List ℕ) → T (has x (k ++ l)) → T (has x k) ⊎ T (has x l)
 unfolding has
 of-append x [] l h = inr h
-of-append x (y ∷ k) l h = go (or-e (eqb x y) (has x (k ++ l)) h) (λ r. of-append x k l r)
-  where
-    up : T (has x k) ⊎ T (has x l) → T (eqb x y || has x k) ⊎ T (has x l)
-    up (inl r) = inl (or-r (eqb x y) (has x k) r)
-    up (inr r) = inr r
-
-    go : T (eqb x y) ⊎ T (has x (k ++ l)) → (T (has x (k ++ l)) → T (has x k) ⊎ T (has x l)) → T (eqb x y || has x k) ⊎ T (has x l)
-    go (inl e) rec = inl (or-l (eqb x y) (has x k) e)
-    go (inr r) rec = up (rec r)
+of-append x (y ∷ k) l h = ⊎-elim
+    (λ e. inl (or-l (eqb x y) (has x k) e))
+    (λ r. ⊎-elim (λ s. inl (or-r (eqb x y) (has x k) s)) inr (of-append x k l r))
+    (or-e (eqb x y) (has x (k ++ l)) h)
 
 -- ---- two lists that are the same
 

@@ -187,13 +187,9 @@ digits-value (b ∷ c ∷ t) n =
     let r = number-text _ (c ∷ t) n in
     let z : 0 * 10 + (b - 48) ≡ b - 48 = omega arith in
     let d = and-l (isDigit b) (all isDigit (c ∷ t)) (r .every) in
-    digits-from _ _ (omega (arith, not-zero-digit b d (lead (r .lead))))
+    digits-from _ _ (omega (arith, not-zero-digit b d (⊎-elim (λ e. absurd (omega arith)) (λ e. e) (r .lead))))
     (and-r (isDigit b) (all isDigit (c ∷ t)) (r .every))
     ∙ ap (λ (x : List ℕ). x ++ c ∷ t) (ap digits z ∙ digits-one _ d)
-  where
-    lead : (length (c ∷ t) ≡ 0) ⊎ T (not (eqb b 48)) → T (not (eqb b 48))
-    lead (inl e) = absurd (omega arith)
-    lead (inr e) = e
 
 number-length : (t : List ℕ) → T (isNumber t) → length t ≤ 10
 unfolding isNumber
