@@ -31,33 +31,21 @@ use Rattle.model.proofs.Entries.{getD-same}
 use Rattle.model.proofs.Links.{Fresh, AllFresh, TextRead, parse-complete, parse-sound}
 use Rattle.model.proofs.SurveyLists.{total, total-zero, total-suc, starts-length, neighbours-length, start-at, own-at}
 use Rattle.model.proofs.SurveyLists.{gather-below, neighbours-same, starts-same, own-total, own-neighbours, own-starts}
-use Rattle.model.proofs.Totals.{named-sym, links-total}
+use Rattle.model.proofs.Totals.{named-sym, named-cases, links-total}
 
 -- ---- links that are all new: the nodes they name are below n and different
 
 pub named-below : (n : ℕ) (ls done : List (ℕ × ℕ)) → AllFresh n done ls → (a b : ℕ) → T (named ls a b) → (a < n) × (b < n) × (a ≡ b → ⊥)
 unfolding named
 named-below n [] done f a b t = absurd t
-named-below n (l ∷ ls) done f a b t = at (or-e (X || Y) _ t) (λ s. named-below n ls (l ∷ done) (f .1) a b s)
-  where
-    X : Bool
-    X = eqb (l .0) a && eqb (l .1) b
-
-    Y : Bool
-    Y = eqb (l .0) b && eqb (l .1) a
-
-    g : Fresh n (named done) (l .0) (l .1)
-    g = f .0
-
-    this : (u v : ℕ) → T (eqb (l .0) u && eqb (l .1) v) → (u < n) × (v < n) × (u ≡ v → ⊥)
-    this u v s =
-        let eu = eqb→eq _ _ (and-l (eqb (l .0) u) _ s) in
-        let ev = eqb→eq _ _ (and-r (eqb (l .0) u) (eqb (l .1) v) s) in
-        (subst (λ (k : ℕ). k < n) eu (g .below-a), subst (λ (k : ℕ). k < n) ev (g .below-b), λ e. g .different (eu ∙ e ∙ sym ev))
-
-    at : T (X || Y) ⊎ T (named ls a b) → (T (named ls a b) → (a < n) × (b < n) × (a ≡ b → ⊥)) → (a < n) × (b < n) × (a ≡ b → ⊥)
-    at (inl s) rec = ⊎-elim (λ x. this a b x) (λ y. let r = this b a y in (r .1, r .0, λ e. r .2 (sym e))) (or-e X Y s)
-    at (inr s) rec = rec s
+named-below n (l ∷ ls) done f a b t =
+    let g = f .0 in
+    ⊎-elim
+    (λ e. (omega (arith, g .below-a), omega (arith, g .below-b), λ q. g .different (e .0 ∙ q ∙ sym (e .1))))
+    (⊎-elim
+    (λ e. (omega (arith, g .below-b), omega (arith, g .below-a), λ q. g .different (e .0 ∙ sym q ∙ sym (e .1))))
+    (named-below n ls (l ∷ done) (f .1) a b))
+    (named-cases l ls a b t)
 
 -- ---- the lists of such links are accepted
 
@@ -126,9 +114,6 @@ module _ (n : ℕ) (ls : List (ℕ × ℕ)) (some-node : 1 ≤ n) (size : n ≤ 
         there = named-own _ _ t;
         back = named-own _ _ (subst T (named-sym _ _ _) t);
       }))
-    where
-      G : Graph
-      G = neighboursOf starts neighbours
 
 -- past n the starts read 0
 past-starts : (n : ℕ) (G : Graph) (p v : ℕ) → n ≤ v → getD (over (startsOf n G) (replicate p 0)) (v + 1) 0 ≡ 0
@@ -145,7 +130,7 @@ past-starts n G p v h =
 
 module _ (N M p q : ℕ) (nodes : N ≤ 1024) (links : M ≤ 16384) (text : List ℕ) (x : Parsed) (e : parse N M p q text ≡ answered x) where
   facts : TextRead N M p q text x
-  facts = parse-sound _ _ _ _ _ _ e
+  facts = parse-sound N M p q text x e
 
   -- the lists are accepted
   pub read-accepted : Accepted (x .nodes) (readingOf p q (answered x) .starts) (readingOf p q (answered x) .neighbours)
@@ -174,7 +159,7 @@ module _ (N M p q : ℕ) (nodes : N ≤ 1024) (links : M ≤ 16384) (text : List
       l = over (neighboursFrom (x .nodes) (graphOf (x .nodes) (x .links))) (replicate q 0)
 
       inside : (v : ℕ) → v < x .nodes → neighboursOf s l v ≡ graphOf (x .nodes) (x .links) v
-      inside v h = own-at _ _ _ _ _ h
+      inside v h = own-at (x .nodes) (graphOf (x .nodes) (x .links)) _ _ v h
 
       outside : (v : ℕ) → x .nodes ≤ v → neighboursOf s l v ≡ graphOf (x .nodes) (x .links) v
       outside v h =
@@ -197,7 +182,7 @@ reading-right text p q x e = at (parse 1024 16384 p q text) refl e
           survey = read-accepted _ _ _ _ (omega arith) (omega arith) text y h;
           links = y .links;
           count = refl;
-          lines = parse-sound _ _ _ _ _ y h .is-text;
+          lines = parse-sound 1024 16384 p q text y h .is-text;
           exactly = read-exactly _ _ _ _ (omega arith) (omega arith) text y h;
         })
 
@@ -241,58 +226,42 @@ row a l = map (λ b. (a, b)) l
 row-sound : (a : ℕ) (l : List ℕ) (u v : ℕ) → T (named (row a l) u v) → ((u ≡ a) × T (has v l)) ⊎ ((v ≡ a) × T (has u l))
 unfolding row named
 row-sound a [] u v t = absurd t
-row-sound a (b ∷ l) u v t = at (or-e (X || Y) _ t) (λ s. row-sound a l u v s)
+row-sound a (b ∷ l) u v t = ⊎-elim
+    (λ e. inl (sym (e .0), this (e .1)))
+    (⊎-elim
+    (λ e. inr (sym (e .0), this (e .1)))
+    (λ s. ⊎-elim (λ i. inl (i .0, has-tail _ _ _ (i .1))) (λ i. inr (i .0, has-tail _ _ _ (i .1))) (row-sound a l u v s)))
+    (named-cases (a, b) (row a l) u v t)
   where
-    X : Bool
-    X = eqb a u && eqb b v
-
-    Y : Bool
-    Y = eqb a v && eqb b u
-
-    this : (i j : ℕ) → T (eqb a i && eqb b j) → (i ≡ a) × T (has j (b ∷ l))
-    this i j s = (
-      sym (eqb→eq _ _ (and-l (eqb a i) _ s)),
-      subst (λ (k : ℕ). T (has k (b ∷ l))) (eqb→eq _ _ (and-r (eqb a i) (eqb b j) s)) (has-head _ _),
-    )
-
-    at : T (X || Y) ⊎ T (named (row a l) u v) → (T (named (row a l) u v) → ((u ≡ a) × T (has v l)) ⊎ ((v ≡ a) × T (has u l)))
-        → ((u ≡ a) × T (has v (b ∷ l))) ⊎ ((v ≡ a) × T (has u (b ∷ l)))
-    at (inl s) rec = ⊎-elim (λ x. inl (this u v x)) (λ y. inr (this v u y)) (or-e X Y s)
-    at (inr s) rec = ⊎-elim (λ i. inl (i .0, has-tail _ _ _ (i .1))) (λ i. inr (i .0, has-tail _ _ _ (i .1))) (rec s)
+    this : {k : ℕ} → b ≡ k → T (has k (b ∷ l))
+    this e = subst (λ (k : ℕ). T (has k (b ∷ l))) e (has-head _ _)
 
 row-complete : (a : ℕ) (l : List ℕ) (v : ℕ) → T (has v l) → T (named (row a l) a v)
 unfolding row named
 row-complete a [] v h = absurd (none-in _ h)
-row-complete a (b ∷ l) v h = at (of-cons _ _ _ h) (λ r. row-complete a l _ r)
-  where
-    X : Bool
-    X = (eqb a a && eqb b v) || (eqb a v && eqb b a)
-
-    at : (v ≡ b) ⊎ T (has v l) → (T (has v l) → T (named (row a l) a v)) → T (X || named (row a l) a v)
-    at (inl e) rec = or-l X _
-        (or-l (eqb a a && eqb b v) _ (and-i (eqb a a) _ (eq-T a _ refl) (eq-T _ _ (sym e))))
-    at (inr r) rec = or-r X _ (rec r)
+row-complete a (b ∷ l) v h =
+    let X = eqb a a && eqb b v in
+    let Y = eqb a v && eqb b a in
+    ⊎-elim
+    (λ e. or-l (X || Y) _ (or-l X _ (and-i (eqb a a) _ (eq-T a _ refl) (eq-T _ _ (sym e)))))
+    (λ r. or-r (X || Y) _ (row-complete a l v r))
+    (of-cons _ _ _ h)
 
 gather-sound : (f : ℕ → List (ℕ × ℕ)) (l : List ℕ) (u v : ℕ) → T (named (gather f l) u v) → (a : ℕ) × T (has a l) × T (named (f a) u v)
 unfolding gather named
 gather-sound f [] u v t = absurd t
-gather-sound f (x ∷ l) u v t =
-    at (or-e (named (f x) u v) (named (gather f l) u v) (subst T (named-append (f x) _ _ _) t)) (λ r. gather-sound f l u v r)
-  where
-    at : T (named (f x) u v) ⊎ T (named (gather f l) u v) → (T (named (gather f l) u v) → (a : ℕ) × T (has a l) × T (named (f a) u v))
-        → (a : ℕ) × T (has a (x ∷ l)) × T (named (f a) u v)
-    at (inl s) rec = (x, has-head _ _, s)
-    at (inr s) rec = let i = rec s in (i .0, has-tail _ _ _ (i .1), i .2)
+gather-sound f (x ∷ l) u v t = ⊎-elim
+    (λ s. (x, has-head _ _, s))
+    (λ s. let i = gather-sound f l u v s in (i .0, has-tail _ _ _ (i .1), i .2))
+    (or-e (named (f x) u v) (named (gather f l) u v) (subst T (named-append (f x) _ _ _) t))
 
 gather-complete : (f : ℕ → List (ℕ × ℕ)) (l : List ℕ) (a u v : ℕ) → T (has a l) → T (named (f a) u v) → T (named (gather f l) u v)
 unfolding gather
 gather-complete f [] a u v h t = absurd (none-in _ h)
-gather-complete f (x ∷ l) a u v h t =
-    subst T (sym (named-append _ _ _ _)) (at (of-cons _ _ _ h) (λ r. gather-complete f l _ _ _ r t))
-  where
-    at : (a ≡ x) ⊎ T (has a l) → (T (has a l) → T (named (gather f l) u v)) → T (named (f x) u v || named (gather f l) u v)
-    at (inl e) rec = or-l (named (f x) u v) _ (subst (λ (k : ℕ). T (named (f k) u v)) e t)
-    at (inr r) rec = or-r (named (f x) u v) _ (rec r)
+gather-complete f (x ∷ l) a u v h t = subst T (sym (named-append _ _ _ _)) (⊎-elim
+    (λ e. or-l (named (f x) u v) _ (subst (λ (k : ℕ). T (named (f k) u v)) e t))
+    (λ r. or-r (named (f x) u v) _ (gather-complete f l a u v r t))
+    (of-cons _ _ _ h))
 
 -- every pair u < v that is named comes before (a, k)
 AllLess : List (ℕ × ℕ) → ℕ → ℕ → Type 0
@@ -317,27 +286,14 @@ row-fresh n a k (y ∷ l) done ks ha asc b less next =
     )
   where
     up : (u v : ℕ) → T (named ((a, y) ∷ done) u v) → u < v → (u < a) ⊎ ((u ≡ a) × (v < suc y))
-    up u v t h = at (or-e (X || Y) (named done u v) t)
-      where
-        X : Bool
-        X = eqb a u && eqb y v
-
-        Y : Bool
-        Y = eqb a v && eqb y u
-
-        c : (a < y) × (y < n) × (k ≤ y)
-        c = b y (has-head _ _)
-
-        ends : (i j : ℕ) → T (eqb a i && eqb y j) → (a ≡ i) × (y ≡ j)
-        ends i j s = (eqb→eq _ _ (and-l (eqb a i) _ s), eqb→eq _ _ (and-r (eqb a i) (eqb y j) s))
-
-        at : T (X || Y) ⊎ T (named done u v) → (u < a) ⊎ ((u ≡ a) × (v < suc y))
-        at (inl s) =
-            ⊎-elim
-            (λ x. let e = ends u v x in inr (sym (e .0), omega (arith, e .1)))
-            (λ x. let e = ends v u x in absurd (omega (arith, e .0, e .1, c .0)))
-            (or-e X Y s)
-        at (inr s) = ⊎-elim (λ x. inl x) (λ x. inr (x .0, omega (arith, x .1, c .2))) (less u v s h)
+    up u v t h =
+        let c = b y (has-head _ _) in
+        ⊎-elim
+        (λ e. inr (sym (e .0), omega (arith, e .1)))
+        (⊎-elim
+        (λ e. absurd (omega (arith, e .0, e .1, c .0)))
+        (λ s. ⊎-elim inl (λ x. inr (x .0, omega (arith, x .1, c .2))) (less u v s h)))
+        (named-cases (a, y) done u v t)
 
 rows-fresh : (n : ℕ) (G : Graph) (k a : ℕ) (done : List (ℕ × ℕ)) → a + k ≡ n → ((v : ℕ) → v < n → T (ascending (G v)))
     → ((v x : ℕ) → v < n → T (has x (G v)) → x < n)
@@ -345,8 +301,7 @@ rows-fresh : (n : ℕ) (G : Graph) (k a : ℕ) (done : List (ℕ × ℕ)) → a 
 unfolding from gather
 rows-fresh n G zero a done e asc b less = tt
 rows-fresh n G (suc k) a done e asc b less =
-    row-fresh _ _ _ _ _ _ (omega arith)
-    (keep-of-ascending _ _ (asc a (omega arith)))
+    row-fresh n a 0 _ done _ (omega arith) (keep-of-ascending _ _ (asc a (omega arith)))
     (λ x m. let i = of-keep _ _ _ m in (ltb→lt _ _ (i .1), b a x (omega arith) (i .0), zero-le)) less
     (λ done′ less′. rows-fresh n G k (suc a) done′ (omega arith) asc b less′)
 
@@ -361,7 +316,7 @@ module _ (n : ℕ) (starts′ neighbours′ : List ℕ) (acc : Accepted n starts
 
   pub all-fresh : AllFresh n [] (ordered n (neighboursOf starts′ neighbours′))
   unfolding ls ordered upTo row AllLess named
-  all-fresh = rows-fresh _ _ _ _ _ (zero-add _) (acc .lists .sorted) (acc .lists .graph .below) (λ u v t h. absurd t)
+  all-fresh = rows-fresh n G n 0 [] (zero-add n) (acc .lists .sorted) (acc .lists .graph .below) (λ u v t h. absurd t)
 
   -- the links in order are the graph's links
   ordered-has : (v x : ℕ) → v < n → T (named ls v x) → T (has x (neighboursOf starts′ neighbours′ v))
@@ -379,8 +334,7 @@ module _ (n : ℕ) (starts′ neighbours′ : List ℕ) (acc : Accepted n starts
   up-named : (v x : ℕ) → v < n → v < x → T (has x (neighboursOf starts′ neighbours′ v)) → T (named ls v x)
   unfolding ls ordered row
   up-named v x hv l m =
-      gather-complete _ _ _ _ _ (has-upTo _ _ hv)
-      (row-complete _ _ _ (has-keep _ _ _ m (lt→ltb _ _ l)))
+      gather-complete _ (upTo n) v v x (has-upTo _ _ hv) (row-complete _ _ _ (has-keep _ _ _ m (lt→ltb _ _ l)))
 
   has-ordered : (v x : ℕ) → v < n → T (has x (neighboursOf starts′ neighbours′ v)) → T (named ls v x)
   has-ordered v x hv m =

@@ -1,7 +1,7 @@
 -- All nodes together have two neighbours for each link.
 -- Assumes nothing.
 use mathlib.Core.Path.{_≡_, refl, sym, ap, ap₂, _∙_, subst, fun-ext}
-use mathlib.Core.Logic.{⊎-elim}
+use mathlib.Core.Logic.{_⊎_, inl, inr, ⊎-elim}
 use mathlib.Core.Bool.{Bool, true, false, _&&_, _||_, and-comm, or-comm, or-false}
 use mathlib.Core.List.{List, [], _∷_}
 use Prim.Native.Nat.{ℕ, zero, suc, _+_, _*_, _≤_, _<_, zero-le}
@@ -110,6 +110,22 @@ named-sym [] a b = refl
 named-sym (l ∷ ls) a b =
     ap₂ (λ (s t : Bool). s || t) (or-comm (eqb (l .0) a && eqb (l .1) b) _) (named-sym ls a b)
 
+-- two numbers that are each equal to another
+both-equal : (x y u v : ℕ) → T (eqb x u && eqb y v) → (x ≡ u) × (y ≡ v)
+both-equal x y u v t = (eqb→eq x u (and-l (eqb x u) (eqb y v) t), eqb→eq y v (and-r (eqb x u) (eqb y v) t))
+
+-- a pair that is named is the first link, this way or the other, or is named by a later one
+pub named-cases : (l : ℕ × ℕ) (ls : List (ℕ × ℕ)) (a b : ℕ) → T (named (l ∷ ls) a b)
+    → ((l .0 ≡ a) × (l .1 ≡ b)) ⊎ (((l .0 ≡ b) × (l .1 ≡ a)) ⊎ T (named ls a b))
+unfolding named
+named-cases l ls a b t =
+    let X = eqb (l .0) a && eqb (l .1) b in
+    let Y = eqb (l .0) b && eqb (l .1) a in
+    ⊎-elim
+    (λ s. ⊎-elim (λ x. inl (both-equal (l .0) (l .1) a b x)) (λ y. inr (inl (both-equal (l .0) (l .1) b a y))) (or-e X Y s))
+    (λ s. inr (inr s))
+    (or-e (X || Y) (named ls a b) t)
+
 either : (x y : Bool) → (T x → T y → ⊥) → bit (x || y) ≡ bit x + bit y
 unfolding bit
 either true true f = absurd (f tt tt)
@@ -125,7 +141,7 @@ module _ (n : ℕ) (done : List (ℕ × ℕ)) (l : ℕ × ℕ) (f : Fresh n (nam
 
   ends : (u v : ℕ) → T (there u v) → (l .0 ≡ u) × (l .1 ≡ v)
   unfolding there
-  ends u v t = (eqb→eq _ _ (and-l (eqb (l .0) u) _ t), eqb→eq _ _ (and-r (eqb (l .0) u) _ t))
+  ends = both-equal (l .0) (l .1)
 
   no-there : (u v : ℕ) → T (there u v) → T (named done u v) → ⊥
   no-there u v t s =
