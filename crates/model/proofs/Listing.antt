@@ -75,12 +75,8 @@ module _ (text : List ℕ) (x : Parsed) (e : parse 128 2048 (128 + 1) (2 * 2048)
   unfolding reply pair valueIn
   reply-is a b ha hb =
       let g = links-graph _ _ in
-      let own = rules-built _ _ _ in
-      let full = fullTable n s G in
-      let low = lowTable n s G in
-      let report = reportTable n s G in
-      let i =
-      pair-built g size own ha hb (taken n full a b) (taken-right g size own ha hb) in (
+      let own = rules-built n s G in
+      let i = pair-built g size own ha hb (taken n (fullTable n s G) a b) (taken-right g size own ha hb) in (
         i .1 ∙ ap answered (sym (ap valueIn (i .1))),
         ap (λ (o : Outcome Answer). valueIn o .report) (i .1) ∙ report-at g size own ha hb,
       )

@@ -1,7 +1,7 @@
 -- Laws for loops over a list: the result for the whole list follows from what was found so far and what is left.
 -- Assumes nothing.
 use mathlib.Core.Path.{_≡_, sym, ap, ap₂, _∙_, subst}
-use mathlib.Core.Logic.{_⊎_, inl, inr}
+use mathlib.Core.Logic.{⊎-elim}
 use mathlib.Core.Bool.{Bool, true, false}
 use mathlib.Core.List.{List, [], _∷_, _++_}
 use Prim.Native.Nat.{ℕ, suc, _+_, _-_, _≤_, _<_}
@@ -39,11 +39,7 @@ module _ (p : ℕ → Bool) (d : ℕ) (l : List ℕ) where
 
 -- what holds below v, and at v, holds below v + 1
 pub below-next : (P : ℕ → Type 0) (v : ℕ) → ((u : ℕ) → u < v → P u) → P v → (u : ℕ) → u < v + 1 → P u
-below-next P v f p u h = at (eq-or u v)
-  where
-    at : (u ≡ v) ⊎ (u ≡ v → ⊥) → P u
-    at (inl e) = subst P (sym e) p
-    at (inr d) = f u (omega arith)
+below-next P v f p u h = ⊎-elim (λ e. subst P (sym e) p) (λ d. f u (omega arith)) (eq-or u v)
 
 -- the lists f x for the numbers x from v up to n: the first of them, then the others
 pub gather-next : {B : Type 0} (f : ℕ → List B) (n v : ℕ) → v < n → gather f (from v (n - v)) ≡ f v ++ gather f (from (v + 1) (n - (v + 1)))

@@ -108,11 +108,10 @@ ltb-next x v d = ltb-same x v x (v + 1) (λ l. omega arith) (λ l. omega arith)
 
 -- x is not at least y exactly where it is less; and the other way round
 pub not-leb : (x y : ℕ) → not (leb y x) ≡ ltb x y
-not-leb x y = at (lt-or x y)
-  where
-    at : (x < y) ⊎ (y ≤ x) → not (leb y x) ≡ ltb x y
-    at (inl h) = rw (lt-leb y x h, lt-ltb x y h) refl
-    at (inr h) = rw (le-leb y x h, le-ltb x y h) refl
+not-leb x y = ⊎-elim
+    (λ h. rw (lt-leb y x h, lt-ltb x y h) refl)
+    (λ h. rw (le-leb y x h, le-ltb x y h) refl)
+    (lt-or x y)
 
 pub not-ltb : (x y : ℕ) → not (ltb x y) ≡ leb y x
 not-ltb x y = ap not (sym (not-leb x y)) ∙ Bool·not-not (leb y x)

@@ -33,9 +33,9 @@ whole-way text p q x e full low report list hf hl hr hh a b ha hb =
     let t = building n starts neighbours full low report list in
     let f = reading-right _ _ _ _ e in
     let done = ap (λ (r : AfterBuilding). r .answer) (building-answers _ _ _ (f .survey) _ _ _ _ hf hl hr hh) in
-    let own = building-right _ _ _ _ _ _ _ _ done .tables .tables in
+    let own = building-right n starts neighbours full low report list _ done .tables .tables in
     let same : linked n G ≡ named (f .links) = fun-ext (λ u. fun-ext (λ v. f .exactly u v)) in
-    let right : (w : ℕ) → _ = λ w. walking-right _ _ _ _ _ _ _ _ _ (f .survey) own ha hb in
+    let right : (w : ℕ) → _ = λ w. walking-right n starts neighbours (t .full) (t .low) (t .report) a b w (f .survey) own ha hb in
     let asked = right 0 .0 in
     record {
       links = f .links;
