@@ -36,12 +36,12 @@ use Rattle.model.proofs.Walks.{Sound, steps-given, join-given, attains,
 
 -- nodes that fit are given out with the answer as it is
 fits : {w : ℕ} (x : Answer) (k : List ℕ) → length k ≤ w → fit w x (some k) .answer ≡ answered x
-fits x k l = ap (λ (r : AfterWalking). r .answer) (fit-long _ x k l)
+fits x k l = ap (λ (r : AfterWalking). r .answer) (fit-long _ _ _ l)
 
 fits-sound : (E : Edges) (a b : ℕ) {w : ℕ} (x : Answer) (o : Option (List ℕ)) → Sound E (x .report) a b o → IsSome o → x .report < w
     → fit w x o .answer ≡ answered x
 fits-sound E a b x missing s m l = absurd m
-fits-sound E a b {w} x (some k) s m l = fits x k (subst (λ (j : ℕ). j ≤ w) (sym (s .1)) l)
+fits-sound E a b {w} x (some k) s m l = fits _ _ (subst (λ (j : ℕ). j ≤ w) (sym (s .1)) l)
 
 -- what is equal to a number below none is not none
 below-none : {x k : ℕ} → x ≡ k → k < none → x ≡ none → ⊥
@@ -50,32 +50,32 @@ below-none e l q = omega arith
 module _ {n s : ℕ} {G : Graph} (g : IsGraph n G) (size : n ≤ 1024) {full low report : List ℕ} (built : AreBuilt n s G full low report) where
   -- the laws of the tables, for lists that begin with them
   full-at : {h b : ℕ} → h < n → b < n → entryAt n full h b ≡ entryAt n (fullTable n s G) h b
-  full-at = entry-front n full _ (built .full-front) _ _
+  full-at = entry-front _ _ _ (built .full-front) _ _
 
   low-at : {a b : ℕ} → a < n → b < n → entryAt n low a b ≡ entryAt n (lowTable n s G) a b
-  low-at = entry-front n low _ (built .low-front) _ _
+  low-at = entry-front _ _ _ (built .low-front) _ _
 
   pub report-at : {a b : ℕ} → a < n → b < n → entryAt n report a b ≡ entryAt n (reportTable n s G) a b
-  report-at = entry-front n report _ (built .report-front) _ _
+  report-at = entry-front _ _ _ (built .report-front) _ _
 
   full-is′ : {h b : ℕ} → h < n → b < n → (entryAt n full h b ≡ none → ⊥)
       → T (has h (hubs n s G)) × Fewest (linked n G) h b (entryAt n full h b)
-  full-is′ hh hb = rw (full-at hh hb) (full-is s g hh hb)
+  full-is′ hh hb = rw (full-at hh hb) (full-is _ g hh hb)
 
   full-joined′ : {h b k : ℕ} → h < n → b < n → T (has h (hubs n s G)) → Chain (linked n G) k h b
       → (entryAt n full h b < n) × Fewest (linked n G) h b (entryAt n full h b)
-  full-joined′ hh hb m c = rw (full-at hh hb) (full-joined s g hh hb m c)
+  full-joined′ hh hb m c = rw (full-at hh hb) (full-joined _ g hh hb m c)
 
   low-is′ : {a b : ℕ} → a < n → b < n → (entryAt n low a b ≡ none → ⊥)
       → T (isLow s G a) × T (isLow s G b) × Fewest (lowLinks n s G) a b (entryAt n low a b)
-  low-is′ ha hb = rw (low-at ha hb) (low-is s g ha hb)
+  low-is′ ha hb = rw (low-at ha hb) (low-is _ g ha hb)
 
   low-joined′ : {a b k : ℕ} → a < n → b < n → T (isLow s G a) → T (isLow s G b) → Chain (lowLinks n s G) k a b
       → (entryAt n low a b < n) × Fewest (lowLinks n s G) a b (entryAt n low a b)
-  low-joined′ ha hb la lb c = rw (low-at ha hb) (low-joined s g ha hb la lb c)
+  low-joined′ ha hb la lb c = rw (low-at ha hb) (low-joined _ g ha hb la lb c)
 
   report-entry′ : {a b : ℕ} → a < n → b < n → entryAt n report a b ≡ (if eqb a b then 0 else routes s g a b)
-  report-entry′ ha hb = report-at ha hb ∙ report-entry s g ha hb
+  report-entry′ ha hb = report-at ha hb ∙ report-entry _ _ ha hb
 
   via-at : {a b h : ℕ} → a < n → b < n → h < n → via n full a b h ≡ via n (fullTable n s G) a b h
   unfolding via
@@ -88,10 +88,10 @@ module _ {n s : ℕ} {G : Graph} (g : IsGraph n G) (size : n ≤ 1024) {full low
       let i = full-is′ hh hv (below-none e z) in
       let f = subst (λ (k : ℕ). Fewest (linked n G) h v k) e (i .1) in
       let c = split-last (f .0) in
-      let hu = inside (linked-ends n G) hh (c .1) in
+      let hu = inside (linked-ends _ _) hh (c .1) in
       let j = full-joined′ hh hu (i .0) (c .1) in (
         c .0,
-        linked-has n G v (c .0) (linked-sym n G (c .0) v (c .2)),
+        linked-has _ _ _ _ (linked-sym _ _ _ _ (c .2)),
         tt,
         fewest-unique (j .1) (c .1, λ k w. le-of-suc-le-suc (f .1 (suc k) (snoc w (c .2)))),
       )
@@ -110,9 +110,9 @@ module _ {n s : ℕ} {G : Graph} (g : IsGraph n G) (size : n ≤ 1024) {full low
       at : T (isLow s G b) → Fewest (lowLinks n s G) v b (suc d)
           → (u : ℕ) × T (has u (G v)) × T (isLow s G u) × (entryAt n low u b ≡ d)
       at lb (link {b = u} t r, f) =
-          let lu = both-low n s G g v u t .1 in
-          let j = low-joined′ (low-ends n s G g v u hv t) hb lu lb r in
-          (u, linked-has n G v u (low-widen n s G g v u t), lu, fewest-unique (j .1) (r, λ k w. le-of-suc-le-suc (f (suc k) (link t w))))
+          let lu = both-low _ _ _ g _ _ t .1 in
+          let j = low-joined′ (low-ends _ _ _ g _ _ hv t) hb lu lb r in
+          (u, linked-has _ G _ _ (low-widen _ _ _ g _ _ t), lu, fewest-unique (j .1) (r, λ k w. le-of-suc-le-suc (f (suc k) (link t w))))
 
   low-end : {b : ℕ} → b < n → (v : ℕ) → v < n → entryAt n low v b ≡ 0 → v ≡ b
   low-end {b} hb v hv e =
@@ -149,9 +149,9 @@ module _ {n s : ℕ} {G : Graph} (g : IsGraph n G) (size : n ≤ 1024) {full low
           some-hub : r ≡ routes s g a b → ⊥
           some-hub e = ⊎-elim (λ q. y (low-at ha hb ∙ sym (e ∙ q))) (λ c.
               let h = c .0 in
-              let l = hubs-below n G s h (c .1) in
+              let l = hubs-below _ _ _ _ (c .1) in
               let v : via n full a b h ≡ r = via-at ha hb l ∙ sym (e ∙ c .2) in
-              hit h l (and-i (isHub h) (eqb (via n full a b h) r) (right h l f v) (eq-T (via n full a b h) r v)) (first-below p none n) z)
+              hit h l (and-i (isHub h) _ (right h l f v) (eq-T (via n full a b h) _ v)) (first-below p none n) z)
               (least-cases (via n (fullTable n s G) a b) (entryAt n (lowTable n s G) a b) (hubs n s G))
             where
               hit : (h : ℕ) → h < n → T (p h) → {k : ℕ} → First p none 0 n k → k ≡ none → ⊥
@@ -159,7 +159,7 @@ module _ {n s : ℕ} {G : Graph} (g : IsGraph n G) (size : n ≤ 1024) {full low
               hit h l t (nothing q miss) p = miss h zero-le (omega arith) t
 
           at : (t : Bool) → eqb a b ≡ t → r ≡ (if t then 0 else routes s g a b) → ⊥
-          at true q e = x (eqb-true a b q)
+          at true q e = x (eqb-true _ _ q)
           at false q e = some-hub e
 
       -- asking: the report, with some route
@@ -219,15 +219,15 @@ module _ {n s : ℕ} {G : Graph} (g : IsGraph n G) (size : n ≤ 1024) {full low
     unfolding taken
     taken-right h hh f e =
         let v = via-sum n full a b h e f in
-        and-i (not (eqb (entryAt n full h a) none)) (not (eqb (entryAt n full h b) none))
-        (not-T (eqb (entryAt n full h a) none) (λ t. v .0 (eqb→eq (entryAt n full h a) none t)))
-        (not-T (eqb (entryAt n full h b) none) (λ t. v .1 (eqb→eq (entryAt n full h b) none t)))
+        and-i (not (eqb (entryAt n full h a) none)) _
+        (not-T (eqb (entryAt n full h a) none) (λ t. v .0 (eqb→eq _ _ t)))
+        (not-T (eqb (entryAt n full h b) none) (λ t. v .1 (eqb→eq _ _ t)))
 
     pub listed-right : (list : List ℕ) → take n list ≡ hubList n s G → Counts (listed n list)
     unfolding listed hubList
     listed-right list q h hh f e =
         subst (λ (l : List ℕ). T (has h l)) (sym q)
-        (has-append h (hubs n s G) (replicate (n - length (hubs n s G)) none) (attaining-hub h hh f e))
+        (has-append _ _ _ (attaining-hub _ hh f e))
 
     -- the hubs that count make no difference, as long as each hub that attains the report is among them
     counted-same : (p q : ℕ → Bool) → Counts p → Counts q → pairBy p n full low report a b ≡ pairBy q n full low report a b
@@ -240,13 +240,13 @@ module _ {n s : ℕ} {G : Graph} (g : IsGraph n G) (size : n ≤ 1024) {full low
         one : (t : ℕ → Bool) → Counts t → (r ≡ none → ⊥)
             → firstOf (λ h. t h && eqb (via n full a b h) r) none (upTo n) ≡ firstOf (λ h. eqb (via n full a b h) r) none (upTo n)
         one t ft f =
-            first-same (λ h. t h && eqb (via n full a b h) r) (λ h. eqb (via n full a b h) r) none (upTo n) (λ h m.
-            same-test (t h && eqb (via n full a b h) r) (eqb (via n full a b h) r)
+            first-same _ _ _ _ (λ h m.
+            same-test _ _
             (λ u. and-r (t h) (eqb (via n full a b h) r) u)
-            (λ u. and-i (t h) (eqb (via n full a b h) r) (ft h (of-upTo n h m) f (eqb→eq (via n full a b h) r u)) u))
+            (λ u. and-i (t h) _ (ft h (of-upTo _ _ m) f (eqb→eq _ _ u)) u))
 
     -- it makes no difference whether a hub list is lent
     pub listed-same : (list : List ℕ) → take n list ≡ hubList n s G
         → pairBy (listed n list) n full low report a b ≡ pair n full low report a b
     unfolding pair
-    listed-same list e = counted-same (listed n list) (taken n full a b) (listed-right list e) taken-right
+    listed-same list e = counted-same _ _ (listed-right _ e) taken-right

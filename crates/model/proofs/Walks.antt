@@ -43,14 +43,14 @@ unfolding choose
 chosen a b r l h =
     picked P (eqb a b) _ _
     (λ x. picked P (eqb r 0) _ _
-    (λ y. to-itself (eqb-true a b x) (eqb-true r 0 y)) (λ y. bad-itself (eqb-true a b x) (eqb-false r 0 y)))
+    (λ y. to-itself (eqb-true _ _ x) (eqb-true _ _ y)) (λ y. bad-itself (eqb-true _ _ x) (eqb-false _ _ y)))
     (λ x. picked P (eqb r none) _ _
-    (λ y. to-none (eqb-false a b x) (eqb-true r none y))
+    (λ y. to-none (eqb-false _ _ x) (eqb-true _ _ y))
     (λ y. picked P (eqb l r) _ _
-    (λ z. to-low (eqb-false a b x) (eqb-false r none y) (eqb-true l r z))
+    (λ z. to-low (eqb-false _ _ x) (eqb-false _ _ y) (eqb-true _ _ z))
     (λ z. picked P (eqb h none) _ _
-    (λ w. bad-hub (eqb-false a b x) (eqb-false r none y) (eqb-false l r z) (eqb-true h none w))
-    (λ w. to-hub (eqb-false a b x) (eqb-false r none y) (eqb-false l r z) (eqb-false h none w)))))
+    (λ w. bad-hub (eqb-false _ _ x) (eqb-false _ _ y) (eqb-false _ _ z) (eqb-true _ _ w))
+    (λ w. to-hub (eqb-false _ _ x) (eqb-false _ _ y) (eqb-false _ _ z) (eqb-false _ _ w)))))
   where
     P : Outcome Answer → Type 0
     P = Chosen a b r l h
@@ -71,8 +71,8 @@ next-cases G may left d v = at (first-in p none (G v))
     p x = may x && eqb (left x) d
 
     at : {x : ℕ} → (T (has x (G v)) × T (p x)) ⊎ ((x ≡ none) × ((y : ℕ) → T (has y (G v)) → T (p y) → ⊥)) → Next G may left d v x
-    at {x} (inl r) = leads (r .0) (and-l (may x) (eqb (left x) d) (r .1)) (eqb→eq (left x) d (and-r (may x) (eqb (left x) d) (r .1)))
-    at (inr r) = ends (r .0) (λ y m t e. r .1 y m (and-i (may y) (eqb (left y) d) t (eq-T (left y) d e)))
+    at {x} (inl r) = leads (r .0) (and-l (may x) _ (r .1)) (eqb→eq _ _ (and-r (may x) (eqb (left x) d) (r .1)))
+    at (inr r) = ends (r .0) (λ y m t e. r .1 y m (and-i (may y) _ t (eq-T (left y) _ e)))
 
 -- where there are nodes, they are a chain of d links from v to goal
 abbrev pub Sound : Edges → ℕ → ℕ → ℕ → Option (List ℕ) → Type 0
@@ -85,7 +85,7 @@ module _ (n : ℕ) (G : Graph) (g : IsGraph n G) (may : ℕ → Bool) (left : �
   steps-sound zero v h = at (eqb v goal) refl
     where
       at : (t : Bool) → eqb v goal ≡ t → Sound (linked n G) 0 v goal (if t then some (v ∷ []) else missing)
-      at true e = (subst (λ (z : ℕ). Walked (linked n G) (v ∷ []) v z) (eqb-true v goal e) stop, refl)
+      at true e = (subst (λ (z : ℕ). Walked (linked n G) (v ∷ []) v z) (eqb-true _ _ e) stop, refl)
       at false e = tt
   steps-sound (suc d) v h = at (eqb x none) refl (next-cases G may left d v) (λ b. steps-sound d x b)
     where
@@ -99,19 +99,19 @@ module _ (n : ℕ) (G : Graph) (g : IsGraph n G) (may : ℕ → Bool) (left : �
       at : (t : Bool) → eqb x none ≡ t → Next G may left d v x → (x < n → Sound (linked n G) d x goal (steps G may left goal d x))
           → Sound (linked n G) (suc d) v goal (if t then missing else before v (steps G may left goal d x))
       at true e c rec = tt
-      at false e (leads m t l) rec = add (steps G may left goal d x) (linked-of n G g v x h m) (rec (g .below v x h m))
-      at false e (ends q f) rec = absurd (eqb-false x none e q)
+      at false e (leads m t l) rec = add (steps G may left goal d x) (linked-of _ _ g _ _ h m) (rec (g .below v x h m))
+      at false e (ends q f) rec = absurd (eqb-false _ _ e q)
 
   -- where each node has a next one, one link nearer, the steps lead to the goal
   pub steps-given : n ≤ none → ((v d : ℕ) → v < n → suc d < none → left v ≡ suc d → (u : ℕ) × T (has u (G v)) × T (may u) × (left u ≡ d))
       → ((v : ℕ) → v < n → left v ≡ 0 → v ≡ goal) → (d v : ℕ) → v < n → d < none → left v ≡ d → IsSome (steps G may left goal d v)
   unfolding steps before
-  steps-given size nearer end zero v h z q = at (eqb v goal) (eq-T v goal (end v h q))
+  steps-given size nearer end zero v h z q = at (eqb v goal) (eq-T _ _ (end v h q))
     where
       at : (t : Bool) → T t → IsSome (if t then some (v ∷ []) else missing)
       at true t = tt
       at false t = t
-  steps-given size nearer end (suc d) v h z q = at (next-cases G may left d v) (λ b e. steps-given size nearer end d x b (omega arith) e)
+  steps-given size nearer end (suc d) v h z q = at (next-cases G may left d v) (λ b e. steps-given size nearer end d _ b (omega arith) e)
     where
       x : ℕ
       x = next G may left d v
@@ -122,7 +122,7 @@ module _ (n : ℕ) (G : Graph) (g : IsGraph n G) (may : ℕ → Bool) (left : �
 
       away : (t : Bool) → eqb x none ≡ t → x < n → IsSome (steps G may left goal d x)
           → IsSome (if t then missing else before v (steps G may left goal d x))
-      away true e b s = let w : x ≡ none = eqb-true x none e in absurd (omega arith)
+      away true e b s = let w : x ≡ none = eqb-true _ _ e in absurd (omega arith)
       away false e b s = add (steps G may left goal d x) s
 
       at : Next G may left d v x → (x < n → left x ≡ d → IsSome (steps G may left goal d x))
@@ -144,14 +144,14 @@ module _ (n : ℕ) (G : Graph) (g : IsGraph n G) (may may′ : ℕ → Bool) (le
     (same-may : (x : ℕ) → x < n → may x ≡ may′ x) (same-left : (x : ℕ) → x < n → left x ≡ left′ x) where
   next-same : (d v : ℕ) → v < n → next G may left d v ≡ next G may′ left′ d v
   unfolding next
-  next-same d v h = first-same (λ x. may x && eqb (left x) d) (λ x. may′ x && eqb (left′ x) d) none (G v) (λ x m.
+  next-same d v h = first-same _ _ _ _ (λ x m.
       let b = g .below v x h m in
       ap₂ (λ (t : Bool) (k : ℕ). t && eqb k d) (same-may x b) (same-left x b))
 
   pub steps-same : (d v : ℕ) → v < n → steps G may left goal d v ≡ steps G may′ left′ goal d v
   unfolding steps
   steps-same zero v h = refl
-  steps-same (suc d) v h = at (eqb x none) refl (λ b. steps-same d x b) ∙ ap on (next-same d v h)
+  steps-same (suc d) v h = at (eqb x none) refl (λ b. steps-same d x b) ∙ ap on (next-same _ _ h)
     where
       x : ℕ
       x = next G may left d v
@@ -162,7 +162,7 @@ module _ (n : ℕ) (G : Graph) (g : IsGraph n G) (may may′ : ℕ → Bool) (le
       at : (t : Bool) → eqb x none ≡ t → (x < n → steps G may left goal d x ≡ steps G may′ left′ goal d x)
           → (if t then missing else before v (steps G may left goal d x)) ≡ (if t then missing else before v (steps G may′ left′ goal d x))
       at true e rec = refl
-      at false e rec = ap (before v) (rec (next-below n G g may left d v h (eqb-false x none e)))
+      at false e rec = ap (before v) (rec (next-below _ _ g _ _ _ _ h (eqb-false _ _ e)))
 
 -- ---- two parts joined
 
@@ -226,21 +226,21 @@ module _ (n : ℕ) (G : Graph) (g : IsGraph n G) (may : ℕ → Bool) (left : �
 
       more : x < n → left x ≡ d → under d < under (suc d)
       more b e = side (keep-grows (λ y. ltb (left y) d) (λ y. ltb (left y) (suc d)) (upTo n)
-          (λ y m t. lt→ltb (left y) (suc d) (later y (ltb→lt (left y) d t))))
+          (λ y m t. lt→ltb (left y) _ (later y (ltb→lt _ _ t))))
         where
           later : (y : ℕ) → left y < d → left y < suc d
           later y l = omega arith
 
           side : ((y : ℕ) → T (has y (upTo n)) → T (ltb (left y) (suc d)) → T (ltb (left y) d)) ⊎ (under d < under (suc d))
               → under d < under (suc d)
-          side (inl f) = absurd (let l = ltb→lt (left x) d (f x (has-upTo n x b) (lt→ltb (left x) (suc d) (omega arith))) in omega arith)
+          side (inl f) = absurd (let l = ltb→lt _ d (f x (has-upTo n x b) (lt→ltb (left x) (suc d) (omega arith))) in omega arith)
           side (inr l) = l
 
       at : (t : Bool) → eqb x none ≡ t → Next G may left d v x → (x < n → depth G may left d x ≤ under d)
           → (if t then 0 else suc (depth G may left d x)) ≤ under (suc d)
       at true e c rec = zero-le
       at false e (leads m t l) rec = let b = g .below v x h m in omega (arith, rec b, more b l)
-      at false e (ends q f) rec = absurd (eqb-false x none e q)
+      at false e (ends q f) rec = absurd (eqb-false _ _ e q)
 
   pub depth-bounded : (d v : ℕ) → v < n → depth G may left d v ≤ n
   unfolding under
@@ -271,7 +271,7 @@ module _ (n : ℕ) (G : Graph) (g : IsGraph n G) (may : ℕ → Bool) (left : �
       at : ((x : ℕ) → T (has x (upTo n)) → T true → T (ltb (left x) d))
           ⊎ (length (keep (λ x. ltb (left x) d) (upTo n)) < length (keep (λ x. true) (upTo n)))
           → length (keep (λ x. ltb (left x) d) (upTo n)) < n
-      at (inl f) = absurd (omega (arith, ltb→lt (left v) d (f v (has-upTo n v h) tt)))
+      at (inl f) = absurd (omega (arith, ltb→lt (left v) d (f v (has-upTo _ _ h) tt)))
       at (inr k) = omega (arith, keep-length (λ x. true) (upTo n), length-upTo n)
 
   pub too-long : (goal d v : ℕ) → v < n → d ≤ left v → n ≤ d → steps G may left goal d v ≡ missing
@@ -279,7 +279,7 @@ module _ (n : ℕ) (G : Graph) (g : IsGraph n G) (may : ℕ → Bool) (left : �
     where
       at : (o : Option (List ℕ)) → steps G may left goal d v ≡ o → o ≡ missing
       at missing e = refl
-      at (some p) e = absurd (omega (arith, depth-all goal d v (subst IsSome (sym e) tt), depth-under d v h, under-all d v h l))
+      at (some p) e = absurd (omega (arith, depth-all _ _ _ (subst IsSome (sym e) tt), depth-under d v h, under-all d _ h l))
 
 -- ---- the whole walk, whatever the tables hold
 
@@ -304,14 +304,14 @@ fit-outcome : (E : Edges) (a b w : ℕ) (x : Answer) (o : Option (List ℕ)) →
 unfolding fit refuseWalk
 fit-outcome E a b w x missing s = refusal 11
 fit-outcome E a b w x (some l) s = ⊎-elim
-    (λ h. subst (λ (r : AfterWalking). Given-out E a b w r) (sym (fit-short w x l h)) (refusal 8))
-    (λ h. subst (λ (r : AfterWalking). Given-out E a b w r) (sym (fit-long w x l h)) (walked x l (s .0) (s .1) h))
+    (λ h. subst (λ (r : AfterWalking). Given-out E a b w r) (sym (fit-short _ x l h)) (refusal 8))
+    (λ h. subst (λ (r : AfterWalking). Given-out E a b w r) (sym (fit-long _ _ l h)) (walked x l (s .0) (s .1) h))
     (lt-or w (length l))
 
 fit-none : (E : Edges) (a b w : ℕ) → Given-out E a b w (fit w (withRoute none NoRoute) (some []))
 fit-none E a b w =
     subst (λ (r : AfterWalking). Given-out E a b w r)
-    (sym (fit-long w (withRoute none NoRoute) [] (omega arith)
+    (sym (fit-long _ _ _ (omega arith)
     ∙ ap (λ (k : ℕ). record { answer = answered (withRoute none NoRoute); walk = replicate k none }) (sub-zero w)))
     no-way
 
@@ -338,22 +338,22 @@ module _ (isHub : ℕ → Bool) (n : ℕ) (full : List ℕ) (a b : ℕ) where
       at : {x : ℕ} → First p none 0 n x → (x ≡ none → ⊥) → (x < n) × T (isHub x) × (via n full a b x ≡ r)
       at {x} (found lo hi t least) d = (
         omega arith,
-        and-l (isHub x) (eqb (via n full a b x) r) t,
-        eqb→eq (via n full a b x) r (and-r (isHub x) (eqb (via n full a b x) r) t),
+        and-l (isHub x) _ t,
+        eqb→eq _ _ (and-r (isHub x) (eqb (via n full a b x) r) t),
       )
       at (nothing e miss) d = absurd (d e)
 
 module _ {n : ℕ} (s : ℕ) {G : Graph} (g : IsGraph n G) (full low : List ℕ) {a b : ℕ} (ha : a < n) (hb : b < n) where
   low-sound : Sound (linked n G) (entryAt n low a b) a b (byLow n s G low a b)
   unfolding byLow
-  low-sound = steps-sound n G g (isLow s G) (λ x. entryAt n low x b) b (entryAt n low a b) a ha
+  low-sound = steps-sound _ _ g (isLow s G) (λ x. entryAt n low x b) b (entryAt n low a b) a ha
 
   hub-sound : (h : ℕ) → Sound (linked n G) (entryAt n full h a + entryAt n full h b) a b (join (toHub n G full h a) (toHub n G full h b))
   unfolding toHub
   hub-sound h =
-      join-sound (linked n G) (linked-sym n G) (entryAt n full h a) (entryAt n full h b) a b h (toHub n G full h a) (toHub n G full h b)
-      (steps-sound n G g (λ x. true) (λ x. entryAt n full h x) h (entryAt n full h a) a ha)
-      (steps-sound n G g (λ x. true) (λ x. entryAt n full h x) h (entryAt n full h b) b hb)
+      join-sound _ (linked-sym _ _) (entryAt n full h a) (entryAt n full h b) a b h (toHub n G full h a) (toHub n G full h b)
+      (steps-sound _ _ g (λ x. true) (λ x. entryAt n full h x) h (entryAt n full h a) a ha)
+      (steps-sound _ _ g (λ x. true) (λ x. entryAt n full h x) h (entryAt n full h b) b hb)
 
   -- the hubs that count, and the table of reports
   module _ (isHub : ℕ → Bool) (report : List ℕ) where
@@ -371,7 +371,7 @@ module _ {n : ℕ} (s : ℕ) {G : Graph} (g : IsGraph n G) (full low : List ℕ)
         let hub = attaining isHub n full a b (entryAt n report a b) in
         let i = attains isHub n full a b (entryAt n report a b) z in
         let e = via-sum n full a b hub (i .2) g in
-        subst (λ (d : ℕ). Sound (linked n G) d a b (join (toHub n G full hub a) (toHub n G full hub b))) (e .2) (hub-sound hub)
+        subst (λ (d : ℕ). Sound (linked n G) d a b (join (toHub n G full hub a) (toHub n G full hub b))) (e .2) (hub-sound _)
 
     -- with no route there are no nodes
     none-found : (x : Answer) → Chosen-here (answered x) → (l : List ℕ) → walkNodes n s G full low a b (x .route) ≡ some l
@@ -390,7 +390,7 @@ module _ {n : ℕ} (s : ℕ) {G : Graph} (g : IsGraph n G) (full low : List ℕ)
         at : (x .report ≡ none) ⊎ (x .report ≡ none → ⊥) → (w < length l) ↔ ((x .report ≡ none → ⊥) × (w < x .report + 1))
         at (inl z) = (λ h. absurd (omega (arith, none-found x c l e z)), λ h. absurd (h .0 z))
         at (inr m) =
-            let k = subst (λ (o : Option (List ℕ)). Sound (linked n G) (x .report) a b o) e (route-sound x c m) .1 in
+            let k = subst (λ (o : Option (List ℕ)). Sound (linked n G) (x .report) a b o) e (route-sound _ c m) .1 in
             (λ h. (m, omega (arith, k)), λ h. omega (arith, k, h .1))
 
     -- whatever hubs are taken and whatever the tables hold, a walk given out is a chain of as many links as reported
@@ -407,7 +407,7 @@ module _ {n : ℕ} (s : ℕ) {G : Graph} (g : IsGraph n G) (full low : List ℕ)
 
         at : {q : Outcome Answer} → Chosen-here q → Given-out (linked n G) a b w (walkOf w n s G full low a b q)
         at (to-itself e z) = fitted _ (to-itself e z) some-zero
-        at (to-none x e) = fit-none (linked n G) a b w
+        at (to-none x e) = fit-none _ _ _ _
         at (to-low x f e) = fitted _ (to-low x f e) f
         at (to-hub x f y z) = fitted _ (to-hub x f y z) f
         at (bad-itself e f) = refusal 11
