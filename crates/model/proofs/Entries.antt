@@ -40,7 +40,7 @@ getD-from g k (suc m) (suc i) d h = getD-from g (suc k) m _ _ (le-of-suc-le-suc 
 
 pub getD-row : (g : ℕ → ℕ) (n i d : ℕ) → i < n → getD (map g (upTo n)) i d ≡ g i
 unfolding upTo
-getD-row g n i d h = getD-from _ _ _ _ _ h ∙ ap g (zero-add _)
+getD-row g n i d h = getD-from g 0 n i d h ∙ ap g (zero-add i)
 
 pub length-row : (g : ℕ → ℕ) (n : ℕ) → length (map g (upTo n)) ≡ n
 length-row g n = length-map (upTo n) g ∙ length-upTo _

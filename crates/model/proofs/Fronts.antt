@@ -44,7 +44,7 @@ line-front letter after text k h = at (line letter text) refl (line letter (take
         ∙ append-assoc (lineOf letter (l .0) (l .1)) _ _ in
         no-value (sym e ∙ ap (line letter) whole ∙ line-complete _ after _ _ (s .small-x) (s .small-y) _)
     at (some l) e f g =
-        let s = line-sound _ _ _ _ _ e in
+        let s = line-sound letter text (l .0) (l .1) (l .2) e in
         let first : List ℕ = lineOf letter (l .0) (l .1) in
         let few = line-few letter (l .0) (l .1) (s .small-x) (s .small-y) in
         let j = k - length first in
@@ -79,7 +79,7 @@ links-front n zero done (c ∷ text) (suc k) h = refl
 links-front n (suc m) done text zero h = absurd (omega arith)
 links-front n (suc m) done [] (suc k) h = refl
 links-front n (suc m) done (c ∷ text) (suc k) h =
-    at (line-front _ (omega arith) _ _ (omega arith)) (λ a b rest j. links-front _ _ _ _ _)
+    at (line-front _ (omega arith) _ _ (omega arith)) (λ a b. links-front n m ((a, b) ∷ done))
   where
     next : ℕ → ℕ → List ℕ → Outcome (List (ℕ × ℕ))
     next a b rest = readLinks n m ((a, b) ∷ done) rest
@@ -129,4 +129,4 @@ reading-front text p q k h = ap (readingOf p q) (parse-front 1024 16384 p q text
 -- and its listing is that of its first 49,177 bytes
 pub listing-front : (text : List ℕ) (k : ℕ) → 24 * (2048 + 1) < k → listing (take k text) ≡ listing text
 unfolding listing
-listing-front text k h = ap listingText (parse-front _ _ _ _ _ _ h)
+listing-front text k h = ap listingText (parse-front 128 2048 _ _ text k h)

@@ -120,7 +120,7 @@ links-sound n (suc m) done (c ∷ text) ls e =
     at (refused k) q e rec = never e
     at (answered x) q e rec =
         let t = of-link-taken _ _ _ _ q in
-        more (x .0, x .1) (x .2) (next (x .0) (x .1) (x .2)) (line-sound _ _ _ _ _ (t .0)) (t .1) e
+        more (x .0, x .1) (x .2) (next (x .0) (x .1) (x .2)) (line-sound 76 (c ∷ text) (x .0) (x .1) (x .2) (t .0)) (t .1) e
         (λ ks. rec (x .0) (x .1) (x .2) ks)
 
 -- ---- the whole text
@@ -187,7 +187,7 @@ module _ (N M p q : ℕ) where
       ap (parse N M p q) (r .is-text)
       ∙ ap (λ (o : Option (ℕ × ℕ × List ℕ)). parseLinks (countsOf N M p q o))
       (line-complete _ (omega arith) _ _ (lt-of-le-of-lt (w .size) hN) (lt-of-le-of-lt (w .few) hM) _)
-      ∙ ap parseLinks (first-taken _ _ _ _ _ w)
+      ∙ ap parseLinks (first-taken N M p q _ w)
       ∙ ap (parsed n) (links-complete _ (lt-le hN (w .size)) _ _ (r .fresh))
     where
       lt-le : N < 10 ^ 10 → x .nodes ≤ N → x .nodes ≤ 10 ^ 10
@@ -205,7 +205,7 @@ module _ (N M p q : ℕ) where
           let m = f .1 in
           let y : _≡_ {A = Parsed} (record { nodes = n; links = ls }) x = cc in
           let g = links-sound _ _ _ (f .2) ls i in
-          let l = line-sound _ _ _ _ _ h in
+          let l = line-sound 83 text n m (f .2) h in
           subst (λ (z : Parsed). TextRead N M p q text z) y (record {
             within = subst (λ (k : ℕ). Within N M p q n k) (sym (g .count)) w;
             is-text = l .is-text ∙ ap₂ (λ (k : ℕ) (t : List ℕ). lineOf 83 n k ++ t) (sym (g .count)) (g .is-text);
@@ -215,5 +215,5 @@ module _ (N M p q : ℕ) where
       at : (o : Outcome (ℕ × ℕ × List ℕ)) → countsOf N M p q (line 83 text) ≡ o → parseLinks o ≡ answered x → TextRead N M p q text x
       at (refused k) h e = never e
       at (answered f) h e =
-          let t = of-first-taken _ _ _ _ _ _ h in
+          let t = of-first-taken N M p q _ f h in
           links f (t .0) (t .1) (readLinks (f .0) (f .1) [] (f .2)) refl e

@@ -357,7 +357,7 @@ module _ (n : ℕ) (starts′ neighbours′ : List ℕ) (acc : Accepted n starts
   ordered-count =
       sym (links-total _ _ all-fresh)
       ∙ ap length (gather-below _ _ _ graph-back n (omega arith))
-      ∙ own-total _ _ _ (acc .lists) n (omega arith)
+      ∙ own-total (acc .lists) n (omega arith)
 
   pub half-count : getD starts′ n 0 / 2 ≡ length (ordered n (neighboursOf starts′ neighbours′))
   half-count = omega (arith, ordered-count)
@@ -382,10 +382,9 @@ module _ (n : ℕ) (starts′ neighbours′ : List ℕ) (acc : Accepted n starts
       ap (readingOf p q) r ∙ (λ i. record {
         answer = answered (record { nodes = n; links = sym half-count i });
         starts =
-            over ((starts-same _ _ _ graph-back ∙ own-starts _ _ _ (acc .lists) (acc .room)) i)
-            (replicate p 0);
+            over ((starts-same _ _ _ graph-back ∙ own-starts (acc .lists) (acc .room)) i) (replicate p 0);
         neighbours =
-            over ((neighbours-same _ _ _ graph-back ∙ own-neighbours _ _ _ (acc .lists)) i) (replicate q 0);
+            over ((neighbours-same _ _ _ graph-back ∙ own-neighbours (acc .lists)) i) (replicate q 0);
       })
 
   -- a survey's text, in a buffer that is long enough

@@ -97,10 +97,7 @@ module _ (n : ℕ) (starts : List ℕ) (rising : (v : ℕ) → v < n → getD st
 
 -- ---- a survey's lists are those of its graph
 
-module _ (n : ℕ) (starts neighbours : List ℕ) (s : IsSurvey n starts neighbours) where
-  abbrev G : Graph
-  G = neighboursOf starts neighbours
-
+module _ {n : ℕ} {starts neighbours : List ℕ} (s : IsSurvey n starts neighbours) where
   -- the neighbours of the nodes below v are the entries up to v's start
   pub front : (v : ℕ) → v ≤ n → gather (neighboursOf starts neighbours) (upTo v) ≡ take (getD starts v 0) neighbours
   unfolding upTo from gather neighboursOf
@@ -147,7 +144,7 @@ pub record Agree (n : ℕ) (starts neighbours starts′ neighbours′ : List ℕ
   pub starts-used : take (n + 1) starts ≡ take (n + 1) starts′
   pub neighbours-used : take (getD starts n 0) neighbours ≡ take (getD starts n 0) neighbours′
 
-module _ (n : ℕ) (starts neighbours starts′ neighbours′ : List ℕ) (e : Agree n starts neighbours starts′ neighbours′) where
+module _ {n : ℕ} {starts neighbours starts′ neighbours′ : List ℕ} (e : Agree n starts neighbours starts′ neighbours′) where
   same-start : (v : ℕ) → v ≤ n → getD starts v 0 ≡ getD starts′ v 0
   same-start v h =
       sym (getD-take (n + 1) starts v 0 (omega arith)) ∙ ap (λ (l : List ℕ). getD l v 0) (e .starts-used)
@@ -219,16 +216,13 @@ module _ (n : ℕ) (starts neighbours starts′ neighbours′ : List ℕ) (e : A
 
       lists : isSurvey n starts neighbours ≡ isSurvey n starts′ neighbours′
       lists = same-test _ _
-          (λ t. survey-test _ _ _
-          (survey-past n starts neighbours starts′ neighbours′ e (survey-facts _ _ _ t)))
-          (λ t. survey-test _ _ _
-          (survey-past n starts′ neighbours′ starts neighbours (agree-sym n starts neighbours starts′ neighbours′ e)
-          (survey-facts _ _ _ t)))
+          (λ t. survey-test _ _ _ (survey-past e (survey-facts _ _ _ t)))
+          (λ t. survey-test _ _ _ (survey-past (agree-sym e) (survey-facts _ _ _ t)))
 
   -- and where they are accepted, the nodes have the same neighbours and the same links
   module _ (acc : Accepted n starts neighbours) where
     pub past-own : (v : ℕ) → v < n → neighboursOf starts neighbours v ≡ neighboursOf starts′ neighbours′ v
-    past-own = past-own′ n starts neighbours starts′ neighbours′ e (acc .lists)
+    past-own = past-own′ e (acc .lists)
 
     pub past-linked : (a b : ℕ) → linked n (neighboursOf starts neighbours) a b ≡ linked n (neighboursOf starts′ neighbours′) a b
     past-linked a b = same-test _ _ (on G H past-own) (on H G (λ v h. sym (past-own _ h)))
