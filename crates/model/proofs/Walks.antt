@@ -225,16 +225,11 @@ module _ (n : ℕ) (G : Graph) (g : IsGraph n G) (may : ℕ → Bool) (left : �
       x = next G may left d v
 
       more : x < n → left x ≡ d → under d < under (suc d)
-      more b e = side (keep-grows (λ y. ltb (left y) d) (λ y. ltb (left y) (suc d)) (upTo n)
-          (λ y m t. lt→ltb (left y) _ (later y (ltb→lt _ _ t))))
-        where
-          later : (y : ℕ) → left y < d → left y < suc d
-          later y l = omega arith
-
-          side : ((y : ℕ) → T (has y (upTo n)) → T (ltb (left y) (suc d)) → T (ltb (left y) d)) ⊎ (under d < under (suc d))
-              → under d < under (suc d)
-          side (inl f) = absurd (let l = ltb→lt _ d (f x (has-upTo n x b) (lt→ltb (left x) (suc d) (omega arith))) in omega arith)
-          side (inr l) = l
+      more b e = ⊎-elim
+          (λ f. absurd (omega (arith, ltb→lt (left x) d (f x (has-upTo n x b) (lt→ltb (left x) (suc d) (omega arith))))))
+          (λ l. l)
+          (keep-grows (λ y. ltb (left y) d) (λ y. ltb (left y) (suc d)) (upTo n)
+          (λ y m t. lt→ltb (left y) (suc d) (omega (arith, ltb→lt (left y) d t))))
 
       at : (t : Bool) → eqb x none ≡ t → Next G may left d v x → (x < n → depth G may left d x ≤ under d)
           → (if t then 0 else suc (depth G may left d x)) ≤ under (suc d)
@@ -266,13 +261,10 @@ module _ (n : ℕ) (G : Graph) (g : IsGraph n G) (may : ℕ → Bool) (left : �
 
   under-all : (d v : ℕ) → v < n → d ≤ left v → under d < n
   unfolding under
-  under-all d v h l = at (keep-grows (λ x. ltb (left x) d) (λ x. true) (upTo n) (λ x m t. tt))
-    where
-      at : ((x : ℕ) → T (has x (upTo n)) → T true → T (ltb (left x) d))
-          ⊎ (length (keep (λ x. ltb (left x) d) (upTo n)) < length (keep (λ x. true) (upTo n)))
-          → length (keep (λ x. ltb (left x) d) (upTo n)) < n
-      at (inl f) = absurd (omega (arith, ltb→lt (left v) d (f v (has-upTo _ _ h) tt)))
-      at (inr k) = omega (arith, keep-length (λ x. true) (upTo n), length-upTo n)
+  under-all d v h l = ⊎-elim
+      (λ f. absurd (omega (arith, ltb→lt (left v) d (f v (has-upTo n v h) tt))))
+      (λ k. omega (arith, keep-length (λ x. true) (upTo n), length-upTo n))
+      (keep-grows (λ x. ltb (left x) d) (λ x. true) (upTo n) (λ x m t. tt))
 
   pub too-long : (goal d v : ℕ) → v < n → d ≤ left v → n ≤ d → steps G may left goal d v ≡ missing
   too-long goal d v h l k = at (steps G may left goal d v) refl
@@ -385,13 +377,12 @@ module _ {n : ℕ} (s : ℕ) {G : Graph} (g : IsGraph n G) (full low : List ℕ)
     -- a list of w entries is too short for the nodes found exactly where there is a route and w is less than report + 1
     pub found-longer : (x : Answer) → Chosen-here (answered x) → (l : List ℕ) → walkNodes n s G full low a b (x .route) ≡ some l
         → (w : ℕ) → (w < length l) ↔ ((x .report ≡ none → ⊥) × (w < x .report + 1))
-    found-longer x c l e w = at (eq-or (x .report) none)
-      where
-        at : (x .report ≡ none) ⊎ (x .report ≡ none → ⊥) → (w < length l) ↔ ((x .report ≡ none → ⊥) × (w < x .report + 1))
-        at (inl z) = (λ h. absurd (omega (arith, none-found x c l e z)), λ h. absurd (h .0 z))
-        at (inr m) =
-            let k = subst (λ (o : Option (List ℕ)). Sound (linked n G) (x .report) a b o) e (route-sound _ c m) .1 in
-            (λ h. (m, omega (arith, k)), λ h. omega (arith, k, h .1))
+    found-longer x c l e w = ⊎-elim
+        (λ z. (λ h. absurd (omega (arith, none-found x c l e z)), λ h. absurd (h .0 z)))
+        (λ m.
+        let k = subst (λ (o : Option (List ℕ)). Sound (linked n G) (x .report) a b o) e (route-sound x c m) .1 in
+        (λ h. (m, omega (arith, k)), λ h. omega (arith, k, h .1)))
+        (eq-or (x .report) none)
 
     -- whatever hubs are taken and whatever the tables hold, a walk given out is a chain of as many links as reported
     pub walk-given-out : (w : ℕ) → Given-out (linked n G) a b w (walkOf w n s G full low a b (pairBy isHub n full low report a b))
