@@ -182,7 +182,6 @@ module _ (N M p q : ℕ) where
   unfolding parse parseLinks parsed surveyText
   parse-complete hN hM x text r =
       let n = x .nodes in
-      let m = length (x .links) in
       let w = r .within in
       ap (parse N M p q) (r .is-text)
       ∙ ap (λ (o : Option (ℕ × ℕ × List ℕ)). parseLinks (countsOf N M p q o))

@@ -367,7 +367,6 @@ module _ (n : ℕ) (starts′ neighbours′ : List ℕ) (acc : Accepted n starts
   unfolding asRead reading readingOf textOf ls
   read-back p q hp hq =
       let x : Parsed = record { nodes = n; links = ls } in
-      let m = length ls in
       let r = parse-complete _ 16384 p q (omega arith) (omega arith) x (surveyText n (getD starts′ n 0 / 2) ls) (record {
         within = record {
           some-node = acc .some-node;

@@ -81,7 +81,6 @@ module _ (n : ℕ) (G H : Graph) (same : (v : ℕ) → v < n → G v ≡ H v) wh
   unfolding startsOf
   starts-same =
       let f : ℕ → ℕ = λ v. length (gather G (upTo v)) in
-      let g : ℕ → ℕ = λ v. length (gather H (upTo v)) in
       ext-getD 0 _ _ (length-row _ _ ∙ sym (length-row _ _)) (λ i h.
       let b : i < n + 1 = omega (arith, length-row f (n + 1)) in
       getD-row _ _ _ _ b ∙ ap length (gather-below _ (omega arith)) ∙ sym (getD-row _ _ _ _ b))
