@@ -39,8 +39,8 @@ module _ {E : Edges} where
   split-first (link {k = i} {b = x} t r) = inr (i, x, refl, t, r)
 
   pub append : {j k a b c : ℕ} → Chain E j a b → Chain E k b c → Chain E (j + k) a c
-  append {k = k} {a = a} {c = c} here q = subst (λ (i : ℕ). Chain E i a c) (sym (zero-add k)) q
-  append {k = k} {a = a} {c = c} (link {k = j} t p) q = subst (λ (i : ℕ). Chain E i a c) (sym (suc-add j k)) (link t (append p q))
+  append {k = k} {a = a} {c = c} here q = subst (λ (i : ℕ). Chain E i a c) (sym (zero-add _)) q
+  append {k = k} {a = a} {c = c} (link {k = j} t p) q = subst (λ (i : ℕ). Chain E i a c) (sym (suc-add _ _)) (link t (append p q))
 
   pub turn : ((u v : ℕ) → T (E u v) → T (E v u)) → {k a b : ℕ} → Chain E k a b → Chain E k b a
   turn f here = here
@@ -78,52 +78,52 @@ module _ (E : Edges) (n a : ℕ) where
   unfolding reach
   grown k v h =
       let r = reach E n a k in
-      let i = of-keep (λ v. has v r || any (λ u. E u v) r) (upTo n) v h in
-      (of-upTo n v (i .0), ⊎-elim inl (λ s. inr (of-any (λ u. E u v) r s)) (or-e (has v r) (any (λ u. E u v) r) (i .1)))
+      let i = of-keep _ _ _ h in
+      (of-upTo _ _ (i .0), ⊎-elim inl (λ s. inr (of-any (λ u. E u v) _ s)) (or-e (has v r) _ (i .1)))
 
   pub stay : (k v : ℕ) → v < n → Reached k v → Reached (suc k) v
   unfolding reach
   stay k v b h =
       let r = reach E n a k in
-      has-keep (λ v. has v r || any (λ u. E u v) r) (upTo n) v (has-upTo n v b) (or-l (has v r) (any (λ u. E u v) r) h)
+      has-keep _ _ _ (has-upTo _ _ b) (or-l (has v r) _ h)
 
   pub step : (k u v : ℕ) → v < n → Reached k u → T (E u v) → Reached (suc k) v
   unfolding reach
   step k u v b h t =
       let r = reach E n a k in
-      has-keep (λ v. has v r || any (λ u. E u v) r) (upTo n) v (has-upTo n v b)
-      (or-r (has v r) (any (λ u. E u v) r) (any-of (λ u. E u v) r u h t))
+      has-keep _ _ _ (has-upTo _ _ b)
+      (or-r (has v r) _ (any-of _ _ _ h t))
 
   -- what is reached with k links is joined by a chain of k or fewer
   sound : (k v : ℕ) → Reached k v → (j : ℕ) × (j ≤ k) × Chain E j a v
   unfolding reach
-  sound zero v h = (0, zero-le, subst (λ (z : ℕ). Chain E 0 a z) (sym (of-single v a h)) here)
+  sound zero v h = (0, zero-le, subst (λ (z : ℕ). Chain E 0 a z) (sym (of-single _ _ h)) here)
   sound (suc k) v h = ⊎-elim
-      (λ s. let i = sound k v s in (i .0, le-step (i .1), i .2))
+      (λ s. let i = sound k _ s in (i .0, le-step (i .1), i .2))
       (λ s. let i = sound k (s .0) (s .1) in (suc (i .0), suc-le-suc (i .1), snoc (i .2) (s .2)))
-      (grown k v h .1)
+      (grown k _ h .1)
 
   module _ (ends : (u v : ℕ) → u < n → T (E u v) → v < n) (start : a < n) where
     -- and the other end of a chain of k links is reached with k
     complete : (k v : ℕ) → Chain E k a v → Reached k v
     unfolding reach
-    complete zero v c = subst (λ (z : ℕ). T (has z (a ∷ []))) (chain-zero c) (has-head a [])
+    complete zero v c = subst (λ (z : ℕ). T (has z (a ∷ []))) (chain-zero c) (has-head _ _)
     complete (suc k) v c =
         let s = split-last c in
-        step k (s .0) v (inside ends start c) (complete k (s .0) (s .1)) (s .2)
+        step k _ _ (inside ends start c) (complete k (s .0) (s .1)) (s .2)
 
     starts : (k : ℕ) → Reached k a
     unfolding reach
-    starts zero = has-head a []
-    starts (suc k) = stay k a start (starts k)
+    starts zero = has-head _ _
+    starts (suc k) = stay k _ start (starts k)
 
     -- once a layer adds nothing, no later one does
     stable : (j : ℕ) → Stable j → (k v : ℕ) → Reached k v → Reached j v
     unfolding reach
-    stable j f zero v h = subst (λ (z : ℕ). Reached j z) (sym (of-single v a h)) (starts j)
+    stable j f zero v h = subst (λ (z : ℕ). Reached j z) (sym (of-single _ _ h)) (starts j)
     stable j f (suc k) v h =
-        let g = grown k v h in
-        ⊎-elim (stable j f k v) (λ s. f v (step j (s .0) v (g .0) (stable j f k (s .0) (s .1)) (s .2))) (g .1)
+        let g = grown k _ h in
+        ⊎-elim (stable j f k _) (λ s. f v (step j _ _ (g .0) (stable j f k (s .0) (s .1)) (s .2))) (g .1)
 
     count : ℕ → ℕ
     count k = length (keep (λ v. has v (reach E n a k)) (upTo n))
@@ -131,24 +131,24 @@ module _ (E : Edges) (n a : ℕ) where
     -- each layer adds a node until one adds nothing
     layers : (k : ℕ) → ((j : ℕ) × (j < k) × Stable j) ⊎ (k < count k)
     unfolding count
-    layers zero = inr (length-pos a (keep (λ v. has v (reach E n a 0)) (upTo n))
-        (has-keep (λ v. has v (reach E n a 0)) (upTo n) a (has-upTo n a start) (starts 0)))
+    layers zero = inr (length-pos _ _
+        (has-keep _ _ _ (has-upTo _ _ start) (starts _)))
     layers (suc k) =
         at (layers k) (keep-grows (λ v. has v (reach E n a k)) (λ v. has v (reach E n a (suc k))) (upTo n)
-        (λ v b h. stay k v (of-upTo n v b) h))
+        (λ v b h. stay _ _ (of-upTo _ _ b) h))
       where
         at : ((j : ℕ) × (j < k) × Stable j) ⊎ (k < count k)
             → ((v : ℕ) → T (has v (upTo n)) → Reached (suc k) v → Reached k v) ⊎ (count k < count (suc k))
             → ((j : ℕ) × (j < suc k) × Stable j) ⊎ (suc k < count (suc k))
         at (inl s) g = inl (s .0, le-step (s .1), s .2)
-        at (inr c) (inl f) = inl (k, le-refl (suc k), λ v h. f v (has-upTo n v (grown k v h .0)) h)
+        at (inr c) (inl f) = inl (k, le-refl _, λ v h. f v (has-upTo _ _ (grown _ _ h .0)) h)
         at (inr c) (inr g) = inr (omega arith)
 
     -- so a layer below n adds nothing
     settled : (j : ℕ) × (j < n) × Stable j
     unfolding count
     settled = ⊎-elim (λ s. s)
-        (λ c. absurd (omega (arith, keep-length (λ v. has v (reach E n a n)) (upTo n), length-upTo n))) (layers n)
+        (λ c. absurd (omega (arith, keep-length (λ v. has v (reach E n a n)) (upTo n), length-upTo n))) (layers _)
 
     -- what the search for b finds, and what it misses
     pub fewest-cases : (b : ℕ) → ((fewest E n a b < n) × Fewest E a b (fewest E n a b)) ⊎ ((fewest E n a b ≡ none) × Unjoined E a b)
@@ -157,8 +157,8 @@ module _ (E : Edges) (n a : ℕ) where
       where
         at : {r : ℕ} → First (λ k. has b (reach E n a k)) none 0 n r → ((r < n) × Fewest E a b r) ⊎ ((r ≡ none) × Unjoined E a b)
         at {r} (found lo hi t least) =
-            let s = sound r b t in
-            let low : (k : ℕ) → Chain E k a b → r ≤ k = λ k c. fit k (λ h. least k zero-le h (complete k b c)) in
+            let s = sound _ _ t in
+            let low : (k : ℕ) → Chain E k a b → r ≤ k = λ k c. fit k (λ h. least k zero-le h (complete _ _ c)) in
             let e : s .0 ≡ r = le-antisymm (s .1) (low (s .0) (s .2)) in
             inl (omega arith, (subst (λ (k : ℕ). Chain E k a b) e (s .2), low))
           where
@@ -166,20 +166,20 @@ module _ (E : Edges) (n a : ℕ) where
             fit k f = omega arith
         at (nothing e least) =
             let s = settled in
-            inr (e, λ k c. least (s .0) zero-le (omega arith) (stable (s .0) (s .2) k b (complete k b c)))
+            inr (e, λ k c. least (s .0) zero-le (omega arith) (stable _ (s .2) _ _ (complete _ _ c)))
 
 -- The same as four facts: what a number other than none says, what none says, and the two converses.
 module _ (E : Edges) (n a : ℕ) (ends : (u v : ℕ) → u < n → T (E u v) → v < n) (start : a < n) where
   pub fewest-is : (b : ℕ) → (fewest E n a b ≡ none → ⊥) → Fewest E a b (fewest E n a b)
-  fewest-is b h = ⊎-elim (λ s. s .1) (λ s. absurd (h (s .0))) (fewest-cases E n a ends start b)
+  fewest-is b h = ⊎-elim (λ s. s .1) (λ s. absurd (h (s .0))) (fewest-cases _ _ _ ends start _)
 
   pub fewest-none : n ≤ none → (b : ℕ) → fewest E n a b ≡ none → Unjoined E a b
-  fewest-none m b e = ⊎-elim (λ s. absurd (omega arith)) (λ s. s .1) (fewest-cases E n a ends start b)
+  fewest-none m b e = ⊎-elim (λ s. absurd (omega arith)) (λ s. s .1) (fewest-cases E n _ ends start _)
 
   pub fewest-of : (b d : ℕ) → Fewest E a b d → fewest E n a b ≡ d
   fewest-of b d f = ⊎-elim
       (λ s. le-antisymm (s .1 .1 d (f .0)) (f .1 (fewest E n a b) (s .1 .0))) (λ s. absurd (s .1 d (f .0)))
-      (fewest-cases E n a ends start b)
+      (fewest-cases _ _ _ ends start _)
 
   pub fewest-missing : (b : ℕ) → Unjoined E a b → fewest E n a b ≡ none
-  fewest-missing b f = ⊎-elim (λ s. absurd (f (fewest E n a b) (s .1 .0))) (λ s. s .0) (fewest-cases E n a ends start b)
+  fewest-missing b f = ⊎-elim (λ s. absurd (f (fewest E n a b) (s .1 .0))) (λ s. s .0) (fewest-cases _ _ _ ends start _)
