@@ -1,7 +1,7 @@
 -- An accepted survey as a test and as facts, each from the other; and what the facts say of its graph.
 -- Assumes nothing.
 use mathlib.Core.Path.{_≡_, refl, sym, ap, _∙_, subst}
-use mathlib.Core.Logic.{_⊎_, inl, inr, _↔_}
+use mathlib.Core.Logic.{⊎-elim, _↔_}
 use mathlib.Core.Bool.{Bool, true, false, not, _&&_, _||_}
 use mathlib.Core.List.{List}
 use Prim.Native.Nat.{ℕ, _+_, _/_, _%_, _≤_, _<_}
@@ -33,8 +33,7 @@ module _ (n : ℕ) (starts neighbours : List ℕ) where
       let C = eqb (last % 2) 0 in
       let D = leb (last / 2) 16384 in
       let E = leb last (length neighbours) in
-      let F = all (λ v. ascending (G v)) (upTo n) in
-      let H = all (λ v. all (λ x. own v x) (G v)) (upTo n) in (
+      let F = all (λ v. ascending (G v)) (upTo n) in (
         λ t.
         let t6 = and-l (A && B && C && D && E && F) _ t in
         let t5 = and-l (A && B && C && D && E) _ t6 in
@@ -98,7 +97,7 @@ of-in-range most n e = let h = of-or-false _ _ e in (ltb-false _ _ (h .0), ltb-f
 
 pub good-size : (n : ℕ) → 1 ≤ n → n ≤ 1024 → badSize n ≡ false
 unfolding badSize
-good-size = in-range _
+good-size = in-range 1024
 
 pub small-size : (n : ℕ) → n < 1 → badSize n ≡ true
 unfolding badSize
@@ -110,7 +109,7 @@ large-size n h = T-true (outside 1024 n) (or-r (ltb n 1) _ (lt→ltb _ _ h))
 
 pub size-bounds : (n : ℕ) → badSize n ≡ false → (1 ≤ n) × (n ≤ 1024)
 unfolding badSize
-size-bounds = of-in-range _
+size-bounds = of-in-range 1024
 
 module _ (n : ℕ) (starts neighbours : List ℕ) where
   -- the facts, where the three tests are passed
@@ -165,7 +164,6 @@ module _ (n : ℕ) (G : Graph) where
       let A = ltb a n in
       let B = ltb b n in
       let C = has b (G a) in
-      let D = has a (G b) in
       record {
         first = ltb→lt _ _ (and-l A B (and-l (A && B) C (and-l (A && B && C) _ t)));
         second = ltb→lt _ _ (and-r A B (and-l (A && B) C (and-l (A && B && C) _ t)));
@@ -179,7 +177,6 @@ module _ (n : ℕ) (G : Graph) where
       let A = ltb a n in
       let B = ltb b n in
       let C = has b (G a) in
-      let D = has a (G b) in
       and-i (A && B && C) _ (and-i (A && B) _ (and-i A _ (lt→ltb _ _ (l .first)) (lt→ltb _ _ (l .second))) (l .there)) (l .back)
 
   pub linked-has : (a b : ℕ) → T (linked n G a b) → T (has b (G a))
@@ -216,10 +213,7 @@ module _ (n : ℕ) (starts neighbours : List ℕ) (acc : Accepted n starts neigh
 
   -- so a node has fewer than n neighbours
   pub few-neighbours : (v : ℕ) → v < n → length (neighboursOf starts neighbours v) < n
-  few-neighbours v h = at (keep-grows (linked n graph v) (λ x. true) (upTo n) (λ x m t. tt))
-    where
-      at : ((x : ℕ) → T (has x (upTo n)) → T true → T (linked n (neighboursOf starts neighbours) v x))
-          ⊎ (length (keep (linked n (neighboursOf starts neighbours) v) (upTo n)) < length (keep (λ x. true) (upTo n)))
-          → length (neighboursOf starts neighbours v) < n
-      at (inl f) = absurd (no-loop _ (f v (has-upTo _ _ h) tt))
-      at (inr l) = omega (arith, degree v h, keep-length (λ x. true) (upTo n), length-upTo n)
+  few-neighbours v h = ⊎-elim
+      (λ f. absurd (no-loop v (f v (has-upTo n v h) tt)))
+      (λ l. omega (arith, degree v h, keep-length (λ x. true) (upTo n), length-upTo n))
+      (keep-grows (linked n graph v) (λ x. true) (upTo n) (λ x m t. tt))
