@@ -45,8 +45,7 @@ module _ (n : ℕ) (starts neighbours : List ℕ) where
         (of-all (λ v. all (λ x. own v x) (G v)) _ (and-r (A && B && C && D && E && F) _ t) _ (has-upTo _ _ h)) _ m in
         record {
           first = eqb→eq _ _ (and-l A _ t2);
-          rising = λ v h. leb→le _ _
-              (of-all (λ v. leb (getD starts v 0) (getD starts (v + 1) 0)) _ (and-r A _ t2) _ (has-upTo _ _ h));
+          rising = λ v h. leb→le _ _ (of-all (λ v. leb (getD starts v 0) (getD starts (v + 1) 0)) _ (and-r A _ t2) _ (has-upTo _ _ h));
           even = eqb→eq _ _ (and-r (A && B) _ t3);
           few-links = leb→le _ _ (and-r (A && B && C) _ t4);
           within = leb→le _ _ (and-r (A && B && C && D) _ t5);

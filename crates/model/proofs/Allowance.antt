@@ -79,8 +79,7 @@ split E high {a = a} {b = c} (link {k = k} {b = b} t r) = go (passes (high a)) (
     go : T (high a) ⊎ (T (high a) → ⊥) → Split E high k b c → Split E high (suc k) a c
     go (inl h) rest = through a 0 (suc k) h here (link t r) (zero-add _)
     go (inr f) (lows p q l) =
-        lows (not-T (high a) f) q
-        (link (and-i (not (high a) && not (high b)) _ (and-i (not (high a)) _ (not-T (high a) f) p) t) l)
+        lows (not-T (high a) f) q (link (and-i (not (high a) && not (high b)) _ (and-i (not (high a)) _ (not-T (high a) f) p) t) l)
     go (inr f) (through w i j h p q e) = through w (suc i) j h (link t p) q (suc-add _ _ ∙ ap suc e)
 
 -- ---- the survey's tables

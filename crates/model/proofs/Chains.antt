@@ -91,8 +91,7 @@ module _ (E : Edges) (n a : ℕ) where
   unfolding reach
   step k u v b h t =
       let r = reach E n a k in
-      has-keep _ _ _ (has-upTo _ _ b)
-      (or-r (has v r) _ (any-of _ _ _ h t))
+      has-keep _ _ _ (has-upTo _ _ b) (or-r (has v r) _ (any-of _ _ _ h t))
 
   -- what is reached with k links is joined by a chain of k or fewer
   sound : (k v : ℕ) → Reached k v → (j : ℕ) × (j ≤ k) × Chain E j a v
@@ -131,8 +130,7 @@ module _ (E : Edges) (n a : ℕ) where
     -- each layer adds a node until one adds nothing
     layers : (k : ℕ) → ((j : ℕ) × (j < k) × Stable j) ⊎ (k < count k)
     unfolding count
-    layers zero = inr (length-pos _ _
-        (has-keep _ _ _ (has-upTo _ _ start) (starts _)))
+    layers zero = inr (length-pos _ _ (has-keep _ _ _ (has-upTo _ _ start) (starts _)))
     layers (suc k) =
         at (layers k) (keep-grows (λ v. has v (reach E n a k)) (λ v. has v (reach E n a (suc k))) (upTo n)
         (λ v b h. stay _ _ (of-upTo _ _ b) h))

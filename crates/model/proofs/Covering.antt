@@ -91,8 +91,7 @@ module _ (n : ℕ) (G : Graph) where
   unfolding gain closed
   best-gains u U h =
       let b = best-is _ (le-trans (suc-le-suc zero-le) h) in
-      le-trans (length-pos u _ (has-keep _ _ _ (has-head _ _) (has-head _ _)))
-      (b .most u h)
+      le-trans (length-pos u _ (has-keep _ _ _ (has-head _ _) (has-head _ _))) (b .most u h)
 
   abbrev pub AllBelow : List ℕ → Type 0
   AllBelow U = (u : ℕ) → T (has u U) → u < n

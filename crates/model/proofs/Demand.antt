@@ -107,8 +107,7 @@ walking-sound n starts neighbours full low report a b w =
     picked P (leb n a || leb n b) _ _ (λ _. refuses) (λ below.
     let h = of-or-false _ _ below in
     let g = survey-facts _ _ _ (not-not (isSurvey n starts neighbours) lists) .graph in
-    given-out-sound _ _ _ w
-    (walk-given-out (threshold n) g full low (leb-false _ _ (h .0)) (leb-false _ _ (h .1)) _ report w)))))
+    given-out-sound _ _ _ w (walk-given-out (threshold n) g full low (leb-false _ _ (h .0)) (leb-false _ _ (h .1)) _ report w)))))
   where
     G : Graph
     G = neighboursOf starts neighbours

@@ -189,8 +189,7 @@ walking-enough n starts neighbours full low report a b w h =
     picked P (leb n a || leb n b) _ _ (λ _ e. absurd (omega (arith, same-number 10 8 e))) (λ below.
     let i = of-or-false _ _ below in
     let g = survey-facts _ _ _ (not-not (isSurvey n starts neighbours) lists) .graph in
-    answers g (leb-false _ _ (i .0)) (leb-false _ _ (i .1))
-    (chosen a b r _ _)))))
+    answers g (leb-false _ _ (i .0)) (leb-false _ _ (i .1)) (chosen a b r _ _)))))
   where
     G : Graph
     G = neighboursOf starts neighbours
