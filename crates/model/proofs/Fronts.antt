@@ -1,5 +1,5 @@
--- The front of a text decides. No line has more than 24 bytes, so the first line and the link lines that the limit allows have a greatest
--- length; of what follows, reading only looks whether there is any.
+-- A text is read as its front is. No line has more than 24 bytes, so the first line and the link lines that the limit allows have a greatest
+-- length; of what follows, reading only tests whether there is any.
 -- Assumes nothing.
 use mathlib.Core.Path.{_≡_, refl, sym, ap, ap₂, _∙_}
 use mathlib.Core.Bool.{Bool, true, false, _||_}
@@ -55,7 +55,7 @@ line-front letter after text k h = at (line letter text) refl (line letter (take
 
 -- ---- the link lines
 
--- the tests of a line look at its numbers only
+-- the tests of a line depend on its numbers only
 link-same : (n : ℕ) (given : ℕ → ℕ → Bool) (next : ℕ → ℕ → List ℕ → Outcome (List (ℕ × ℕ))) {x y : ℕ} {r r′ : List ℕ}
     → next x y r ≡ next x y r′
     → readOn next (linkOf n given (some (x, y, r))) ≡ readOn next (linkOf n given (some (x, y, r′)))

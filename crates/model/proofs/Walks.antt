@@ -57,8 +57,7 @@ chosen a b r l h =
 
 -- ---- one part of a walk
 
--- a step from v, with d links left after it, leads to x: a neighbour that is allowed and has d left. Where x is none, there is no such
--- neighbour
+-- a step from v leads to x, a neighbour that is allowed and has d links left; or it ends, with x none, where there is no such neighbour
 data Next (G : Graph) (may : ℕ → Bool) (left : ℕ → ℕ) (d v x : ℕ) : Type 0 where
   leads : T (has x (G v)) → T (may x) → left x ≡ d → Next G may left d v x
   ends : x ≡ none → ((y : ℕ) → T (has y (G v)) → T (may y) → left y ≡ d → ⊥) → Next G may left d v x
