@@ -17,7 +17,7 @@ use Rattle.model.proofs.Lists.{of-upTo, of-from, from-split, keep-appen
 
 -- the element at i, and those after it
 pub drop-next : (l : List ℕ) (i : ℕ) → i < length l → drop i l ≡ getD l i 0 ∷ drop (i + 1) l
-drop-next l i h = drop-cons l i 0 h ∙ ap (λ (k : ℕ). getD l i 0 ∷ drop k l) (sym (add-one i))
+drop-next l i h = drop-cons _ _ _ h ∙ ap (λ (k : ℕ). getD l i 0 ∷ drop k l) (sym (add-one i))
 
 -- a search for the first element that passes a test: while none has passed, it is the first of those that are left
 module _ (p : ℕ → Bool) (d : ℕ) (l : List ℕ) where
@@ -47,7 +47,7 @@ unfolding from gather
 gather-next f n v h =
     let e : n - v ≡ suc (n - (v + 1)) = omega arith in
     ap (λ (k : ℕ). gather f (from v k)) e
-    ∙ ap (λ (u : ℕ). f v ++ gather f (from u (n - (v + 1)))) (sym (add-one v))
+    ∙ ap (λ (u : ℕ). f v ++ gather f (from u (n - (v + 1)))) (sym (add-one _))
 
 pub gather-end : {B : Type 0} (f : ℕ → List B) (n v : ℕ) → n ≤ v → gather f (from v (n - v)) ≡ []
 unfolding from gather
@@ -60,8 +60,8 @@ above a n h =
     let k = n - (a + 1) in
     let e : a + suc k ≡ n = omega arith in
     let p : ℕ → Bool = λ b. ltb a b in
-    ap (keep p) (from-split a k n e)
-    ∙ keep-append p (upTo a) (a ∷ from (suc a) k)
+    ap (keep p) (from-split _ _ _ e)
+    ∙ keep-append _ (upTo a) (a ∷ from (suc a) k)
     ∙ ap₂ (λ (x y : List ℕ). x ++ y)
     (keep-none p (upTo a) (λ x m t. absurd (omega (arith, of-upTo a x m, ltb→lt a x t))))
     (rw (le-ltb a a (omega arith)) (keep-all p (from (suc a) k) (λ x m. lt→ltb a x (omega (arith, of-from (suc a) k x m .0)))))

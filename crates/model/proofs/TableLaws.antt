@@ -79,23 +79,23 @@ module _ {n : ℕ} (s : ℕ) {G : Graph} (g : IsGraph n G) where
   pub full-is : {h b : ℕ} → h < n → b < n → (entryAt n (fullTable n s G) h b ≡ none → ⊥)
       → T (has h (hubs n s G)) × Fewest (linked n G) h b (entryAt n (fullTable n s G) h b)
   unfolding fullTable guarded
-  full-is = guarded-is n (λ h b. has h (hubs n s G)) (linked n G) (linked-ends n G)
+  full-is = guarded-is _ (λ h b. has h (hubs n s G)) _ (linked-ends _ _)
 
   pub full-joined : {h b k : ℕ} → h < n → b < n → T (has h (hubs n s G)) → Chain (linked n G) k h b
       → (entryAt n (fullTable n s G) h b < n) × Fewest (linked n G) h b (entryAt n (fullTable n s G) h b)
   unfolding fullTable guarded
-  full-joined = guarded-joined n (λ h b. has h (hubs n s G)) (linked n G) (linked-ends n G)
+  full-joined = guarded-joined _ (λ h b. has h (hubs n s G)) _ (linked-ends _ _)
 
   pub low-is : {a b : ℕ} → a < n → b < n → (entryAt n (lowTable n s G) a b ≡ none → ⊥)
       → T (isLow s G a) × T (isLow s G b) × Fewest (lowLinks n s G) a b (entryAt n (lowTable n s G) a b)
   unfolding lowTable guarded
   low-is {a} {b} ha hb f =
-      let r = guarded-is n (λ a b. isLow s G a && isLow s G b) (lowLinks n s G) (low-ends n s G g) ha hb f in
-      (and-l (isLow s G a) (isLow s G b) (r .0), and-r (isLow s G a) (isLow s G b) (r .0), r .1)
+      let r = guarded-is _ (λ a b. isLow s G a && isLow s G b) _ (low-ends _ _ _ g) ha hb f in
+      (and-l (isLow s G a) _ (r .0), and-r (isLow s G a) _ (r .0), r .1)
 
   pub low-joined : {a b k : ℕ} → a < n → b < n → T (isLow s G a) → T (isLow s G b) → Chain (lowLinks n s G) k a b
       → (entryAt n (lowTable n s G) a b < n) × Fewest (lowLinks n s G) a b (entryAt n (lowTable n s G) a b)
   unfolding lowTable guarded
   low-joined {a} {b} ha hb la lb =
-      guarded-joined n (λ a b. isLow s G a && isLow s G b) (lowLinks n s G) (low-ends n s G g) ha hb
-      (and-i (isLow s G a) (isLow s G b) la lb)
+      guarded-joined _ (λ a b. isLow s G a && isLow s G b) _ (low-ends _ _ _ g) ha hb
+      (and-i (isLow s G a) _ la lb)
