@@ -41,7 +41,7 @@ module _ (f : ℕ → ℕ) (base : ℕ) where
 
   pub least-cases : (hs : List ℕ) → (least f base hs ≡ base) ⊎ ((h : ℕ) × T (has h hs) × (least f base hs ≡ f h))
   least-cases [] = inl refl
-  least-cases (x ∷ xs) = go (decLe (f x) (least f base xs)) (least-cases _)
+  least-cases (x ∷ xs) = go (decLe (f x) (least f base xs)) (least-cases xs)
     where
       go : Dec (f x ≤ least f base xs) → (least f base xs ≡ base) ⊎ ((h : ℕ) × T (has h xs) × (least f base xs ≡ f h))
           → (min (f x) (least f base xs) ≡ base) ⊎ ((h : ℕ) × T (has h (x ∷ xs)) × (min (f x) (least f base xs) ≡ f h))

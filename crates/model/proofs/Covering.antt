@@ -132,7 +132,7 @@ module _ (n : ℕ) (G : Graph) where
   unfolding greedy
   greedy-length zero U = le-refl _
   greedy-length (suc turns) [] = zero-le
-  greedy-length (suc turns) (x ∷ U) = suc-le-suc (greedy-length _ _)
+  greedy-length (suc turns) (x ∷ U) = suc-le-suc (greedy-length turns _)
 
   pub greedy-below : (turns : ℕ) (U : List ℕ) → AllBelow U → AllBelow (greedy n G turns U)
   unfolding greedy has
