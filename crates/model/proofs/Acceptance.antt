@@ -35,48 +35,48 @@ module _ (n : ℕ) (starts neighbours : List ℕ) where
       let E = leb last (length neighbours) in
       let F = all (λ v. ascending (G v)) (upTo n) in (
         λ t.
-        let t6 = and-l (A && B && C && D && E && F) _ t in
-        let t5 = and-l (A && B && C && D && E) _ t6 in
-        let t4 = and-l (A && B && C && D) _ t5 in
-        let t3 = and-l (A && B && C) _ t4 in
-        let t2 = and-l (A && B) _ t3 in
-        let own-facts : (v x : ℕ) → v < n → T (has x (G v)) → T (own v x) =
-        λ v x h m. of-all (λ x. own v x) _
-        (of-all (λ v. all (λ x. own v x) (G v)) _ (and-r (A && B && C && D && E && F) _ t) _ (has-upTo _ _ h)) _ m in
-        record {
-          first = eqb→eq _ _ (and-l A _ t2);
-          rising = λ v h. leb→le _ _ (of-all (λ v. leb (getD starts v 0) (getD starts (v + 1) 0)) _ (and-r A _ t2) _ (has-upTo _ _ h));
-          even = eqb→eq _ _ (and-r (A && B) _ t3);
-          few-links = leb→le _ _ (and-r (A && B && C) _ t4);
-          within = leb→le _ _ (and-r (A && B && C && D) _ t5);
-          sorted = λ v h. of-all (λ v. ascending (G v)) _ (and-r (A && B && C && D && E) _ t6) _ (has-upTo _ _ h);
-          loopless = λ v x h m e. T-not (eqb x v)
-              (and-r (ltb x n) (not (eqb x v)) (and-l (ltb x n && not (eqb x v)) _ (own-facts v x h m))) (eq-T _ _ e);
-          graph = record {
-            below =
-                λ v x h m. ltb→lt _ _ (and-l (ltb x n) (not (eqb x v)) (and-l (ltb x n && not (eqb x v)) _ (own-facts v x h m)));
-            symmetric = λ v x h m. and-r (ltb x n && not (eqb x v)) _ (own-facts v x h m);
-          };
-        },
+            let t6 = and-l (A && B && C && D && E && F) _ t in
+            let t5 = and-l (A && B && C && D && E) _ t6 in
+            let t4 = and-l (A && B && C && D) _ t5 in
+            let t3 = and-l (A && B && C) _ t4 in
+            let t2 = and-l (A && B) _ t3 in
+            let own-facts : (v x : ℕ) → v < n → T (has x (G v)) → T (own v x) =
+            λ v x h m. of-all (λ x. own v x) _
+            (of-all (λ v. all (λ x. own v x) (G v)) _ (and-r (A && B && C && D && E && F) _ t) _ (has-upTo _ _ h)) _ m in
+            record {
+              first = eqb→eq _ _ (and-l A _ t2);
+              rising = λ v h. leb→le _ _ (of-all (λ v. leb (getD starts v 0) (getD starts (v + 1) 0)) _ (and-r A _ t2) _ (has-upTo _ _ h));
+              even = eqb→eq _ _ (and-r (A && B) _ t3);
+              few-links = leb→le _ _ (and-r (A && B && C) _ t4);
+              within = leb→le _ _ (and-r (A && B && C && D) _ t5);
+              sorted = λ v h. of-all (λ v. ascending (G v)) _ (and-r (A && B && C && D && E) _ t6) _ (has-upTo _ _ h);
+              loopless = λ v x h m e. T-not (eqb x v)
+                  (and-r (ltb x n) (not (eqb x v)) (and-l (ltb x n && not (eqb x v)) _ (own-facts v x h m))) (eq-T _ _ e);
+              graph = record {
+                below =
+                    λ v x h m. ltb→lt _ _ (and-l (ltb x n) (not (eqb x v)) (and-l (ltb x n && not (eqb x v)) _ (own-facts v x h m)));
+                symmetric = λ v x h m. and-r (ltb x n && not (eqb x v)) _ (own-facts v x h m);
+              };
+            },
         λ s.
-        and-i (A && B && C && D && E && F) _
-        (and-i (A && B && C && D && E) _
-        (and-i (A && B && C && D) _
-        (and-i (A && B && C) _
-        (and-i (A && B) _
-        (and-i A _ (eq-T _ _ (s .first))
-        (all-of (λ v. leb (getD starts v 0) (getD starts (v + 1) 0)) _
-        (λ v h. le→leb _ _ (s .rising v (of-upTo _ _ h)))))
-        (eq-T _ _ (s .even)))
-        (le→leb _ _ (s .few-links)))
-        (le→leb _ _ (s .within)))
-        (all-of (λ v. ascending (G v)) _ (λ v h. s .sorted v (of-upTo _ _ h))))
-        (all-of (λ v. all (λ x. own v x) (G v)) _ (λ v h.
-        all-of (λ x. own v x) _ (λ x m.
-        let b = of-upTo _ _ h in
-        and-i (ltb x n && not (eqb x v)) _
-        (and-i (ltb x n) _ (lt→ltb _ _ (s .graph .below v x b m)) (not-T (eqb x v) (λ e. s .loopless v x b m (eqb→eq _ _ e))))
-        (s .graph .symmetric v x b m)))),
+            and-i (A && B && C && D && E && F) _
+            (and-i (A && B && C && D && E) _
+            (and-i (A && B && C && D) _
+            (and-i (A && B && C) _
+            (and-i (A && B) _
+            (and-i A _ (eq-T _ _ (s .first))
+            (all-of (λ v. leb (getD starts v 0) (getD starts (v + 1) 0)) _
+            (λ v h. le→leb _ _ (s .rising v (of-upTo _ _ h)))))
+            (eq-T _ _ (s .even)))
+            (le→leb _ _ (s .few-links)))
+            (le→leb _ _ (s .within)))
+            (all-of (λ v. ascending (G v)) _ (λ v h. s .sorted v (of-upTo _ _ h))))
+            (all-of (λ v. all (λ x. own v x) (G v)) _ (λ v h.
+            all-of (λ x. own v x) _ (λ x m.
+            let b = of-upTo _ _ h in
+            and-i (ltb x n && not (eqb x v)) _
+            (and-i (ltb x n) _ (lt→ltb _ _ (s .graph .below v x b m)) (not-T (eqb x v) (λ e. s .loopless v x b m (eqb→eq _ _ e))))
+            (s .graph .symmetric v x b m)))),
       )
 
   pub survey-facts : T (isSurvey n starts neighbours) → IsSurvey n starts neighbours
@@ -203,7 +203,6 @@ module _ (n : ℕ) (starts neighbours : List ℕ) (acc : Accepted n starts neigh
   pub degree : (v : ℕ) → v < n
       → length (keep (linked n (neighboursOf starts neighbours) v) (upTo n)) ≡ length (neighboursOf starts neighbours v)
   degree v h =
-      let G : Graph = neighboursOf starts neighbours in
       ap length (
       keep-same _ _ _
       (λ x m. linked-has _ _ _ _) (λ x m. linked-of _ _ (acc .lists .graph) _ _ h)

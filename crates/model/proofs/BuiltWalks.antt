@@ -1,16 +1,16 @@
 -- With the tables that were built, neither asking nor walking is refused, whether or not the hub list is lent.
 -- Assumes nothing. Holds for every threshold s.
 use mathlib.Core.Path.{_≡_, refl, sym, ap, ap₂, _∙_, subst}
-use mathlib.Core.Logic.{_⊎_, inl, inr, ⊎-elim}
+use mathlib.Core.Logic.{_⊎_, ⊎-elim}
 use mathlib.Core.Bool.{Bool, true, false, not, _&&_}
 use mathlib.Core.List.{List, [], _∷_}
 use mathlib.Core.Option.{Option, none as missing, some, IsSome}
-use Prim.Native.Nat.{ℕ, suc, _-_, _≤_, _<_, zero-le}
+use Prim.Native.Nat.{ℕ, suc, _≤_, _<_, zero-le}
 use native.Mathlib.Nat.{le-of-suc-le-suc}
 use native.Mathlib.Omega.{arith}
 use borrow.Author.Tests.{eqb-true}
 use lib.Dec.{T, eqb, eqb→eq, not-T}
-use lib.ListN.{length, replicate, take}
+use lib.ListN.{length, take}
 use Rattle.model.specs.declared.Route.{Route}
 use Rattle.model.specs.declared.Route.the-variants.{Itself, Low, Through, NoRoute}
 use Rattle.model.specs.declared.Answer.{Answer}
@@ -21,7 +21,7 @@ use Rattle.model.specs.Survey.{Graph, IsGraph}
 use Rattle.model.specs.Hubs.{isLow, hubs}
 use Rattle.model.specs.Tables.{entryAt, sum, via, fullTable, lowTable, lowLinks, reportTable, AreBuilt, hubList}
 use Rattle.model.specs.Pair.{withRoute, taken, listed, attaining, choose, pairBy, pair}
-use Rattle.model.specs.Walk.{byLow, toHub, join, walkNodes}
+use Rattle.model.specs.Walk.{byLow, toHub, walkNodes}
 use Rattle.model.specs.Walking.{AfterWalking, refuseWalk, fit, walkOf}
 use Rattle.model.proofs.Tests.{and-r, and-i, eq-T, T-true, same-test, eq-or}
 use Rattle.model.proofs.Lists.{has-append, of-upTo, first-below, First, found, nothing, first-same}

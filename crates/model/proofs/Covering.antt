@@ -30,8 +30,12 @@ greatest f (suc zero) h = (0, h, λ w b. subst (λ (x : ℕ). f x ≤ f 0) (sym 
 greatest f (suc (suc n)) h =
     let i = greatest f (suc n) (suc-le-suc zero-le) in
     ⊎-elim
-    (λ l. (suc n, le-refl (suc (suc n)), λ w b.
-    below-next (λ x. f x ≤ f (suc n)) (suc n) (λ u c. omega (arith, i .2 u c)) (le-refl (f (suc n))) w (omega arith)))
+    (λ l. (
+      suc n,
+      le-refl (suc (suc n)),
+      λ w b.
+          below-next (λ x. f x ≤ f (suc n)) (suc n) (λ u c. omega (arith, i .2 u c)) (le-refl (f (suc n))) w (omega arith),
+    ))
     (λ l. (i .0, le-step (i .1), λ w b. below-next (λ x. f x ≤ f (i .0)) (suc n) (i .2) l w (omega arith)))
     (lt-or (f (i .0)) (f (suc n)))
 

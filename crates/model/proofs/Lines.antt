@@ -12,7 +12,7 @@ use borrow.Author.Tests.{eqb-true}
 use lib.ListN.{length, length-append}
 use lib.Dec.{T, eqb, eqb→eq}
 use Rattle.model.specs.Basics.{if_then_else_, has, all, same}
-use Rattle.model.specs.Numbers.{isDigit, isNumber, valueOf, digits}
+use Rattle.model.specs.Numbers.{isNumber, valueOf, digits}
 use Rattle.model.specs.SurveyText.{onFirst, split, onFront, cut, twoNumbers, withRest, lineIn, line, lineOf}
 use Rattle.model.proofs.Tests.{and-l, and-r, and-i, T-true, true-T, no-false, eq-T}
 use Rattle.model.proofs.Lists.{has-head, has-tail, of-cons, of-all, of-append, none-in, same-eq, same-refl}
@@ -91,7 +91,7 @@ split-some c (x ∷ s) = at (eqb x c) (split-some c s)
 joined-split : (c : ℕ) (s : List ℕ) → joined c (split c s) ≡ s
 unfolding split joined
 joined-split c [] = refl
-joined-split c (x ∷ s) = at (eqb x c) refl (joined-split _ _) (split-some c s)
+joined-split c (x ∷ s) = at (eqb x c) refl (joined-split c s) (split-some c s)
   where
     at : (b : Bool) → eqb x c ≡ b → joined c (split c s) ≡ s → ((f : List ℕ) × (fs : List (List ℕ)) × (split c s ≡ f ∷ fs))
         → joined c (if b then [] ∷ split c s else onFirst x (split c s)) ≡ x ∷ s

@@ -1,7 +1,7 @@
 -- The link lines. Reading accepts them exactly where each line names a link that is new.
 -- Assumes nothing.
 use mathlib.Core.Path.{_≡_, refl, sym, ap, ap₂, _∙_, subst}
-use mathlib.Core.Bool.{Bool, true, false, _||_}
+use mathlib.Core.Bool.{Bool, false, _||_}
 use mathlib.Core.List.{List, [], _∷_, _++_}
 use mathlib.Core.Option.{Option, none as missing, some}
 use Prim.Native.Nat.{ℕ, zero, suc, _+_, _*_, _^_, _≤_, _<_}
@@ -11,7 +11,7 @@ use borrow.Author.Tests.{lt-leb, leb-false, ne-eqb, le-ltb, ltb-false, eqb-false
 use lib.ListN.{length}
 use lib.Dec.{eqb, ltb, leb}
 use Rattle.model.specs.Answers.{Outcome, refused, answered}
-use Rattle.model.specs.Basics.{if_then_else_, gather}
+use Rattle.model.specs.Basics.{gather}
 use Rattle.model.specs.SurveyText.{line, lineOf, linkLines, surveyText}
 use Rattle.model.specs.Survey.{outside}
 use Rattle.model.specs.Reading.{named, onLinks, linkOf, readOn, readLinks, Parsed, parsed, countsOf, parseLinks, parse}

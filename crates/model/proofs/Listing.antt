@@ -1,7 +1,7 @@
 -- The listing of a survey has a line for each pair a < b, in order, with an allowed report.
 -- Assumes nothing.
 use mathlib.Core.Path.{_≡_, sym, ap, _∙_, subst}
-use mathlib.Core.List.{List, _++_, map}
+use mathlib.Core.List.{List, _++_}
 use Prim.Native.Nat.{ℕ, _+_, _*_, _≤_, _<_}
 use native.Mathlib.Omega.{arith}
 use lib.Dec.{T, ltb}
@@ -17,7 +17,7 @@ use Rattle.model.specs.Threshold.{threshold}
 use Rattle.model.specs.Hubs.{hubs}
 use Rattle.model.specs.Tables.{entryAt, fullTable, lowTable, reportTable, AreBuilt}
 use Rattle.model.specs.Pair.{withRoute, taken, pair}
-use Rattle.model.specs.Reading.{named, Parsed, parse, graphOf}
+use Rattle.model.specs.Reading.{Parsed, parse, graphOf}
 use Rattle.model.specs.Listing.{pairLine, pairsBelow, pairLines, listingOf, listingText, listing}
 use Rattle.model.specs.Demand.{Allowed}
 use Rattle.model.proofs.Lists.{has-keep, of-keep, has-upTo, of-upTo, gather-same, gather-gather, gather-map}

@@ -104,11 +104,11 @@ of-from k (suc m) x h =
 
 pub has-upTo : (n x : ℕ) → x < n → T (has x (upTo n))
 unfolding upTo
-has-upTo n x h = has-from _ _ _ zero-le (omega arith)
+has-upTo n x h = has-from 0 n x zero-le (omega arith)
 
 pub of-upTo : (n x : ℕ) → T (has x (upTo n)) → x < n
 unfolding upTo
-of-upTo n x h = let i = of-from _ _ _ h in omega arith
+of-upTo n x h = let i = of-from 0 n x h in omega arith
 
 -- ---- the first number that passes a test
 
@@ -120,7 +120,7 @@ pub data First (p : ℕ → Bool) (d k m r : ℕ) : Type 0 where
 pub first-from : (p : ℕ → Bool) (d k m : ℕ) → First p d k m (firstOf p d (from k m))
 unfolding from firstOf
 first-from p d k zero = nothing refl (λ y lo hi t. omega arith)
-first-from p d k (suc m) = go (p k) refl (first-from _ _ _ _)
+first-from p d k (suc m) = go (p k) refl (first-from p d (suc k) m)
   where
     step : (f : T (p k) → ⊥) (y : ℕ) → k ≤ y → T (p y) → suc k ≤ y
     step f y lo t = let ne : k ≡ y → ⊥ = λ e. f (subst (λ (z : ℕ). T (p z)) (sym e) t) in omega arith
@@ -136,7 +136,7 @@ first-from p d k (suc m) = go (p k) refl (first-from _ _ _ _)
 
 pub first-below : (p : ℕ → Bool) (d n : ℕ) → First p d 0 n (firstOf p d (upTo n))
 unfolding upTo
-first-below p d n = first-from _ _ _ _
+first-below p d n = first-from p d 0 n
 
 -- the same for a number that is known to be the one found
 pub first-of : (p : ℕ → Bool) (d n : ℕ) {r : ℕ} → r ≡ firstOf p d (upTo n) → First p d 0 n r
@@ -202,11 +202,11 @@ keep-length p (y ∷ ys) = go (p y) (keep-length p ys)
 pub length-from : (k m : ℕ) → length (from k m) ≡ m
 unfolding from
 length-from k zero = refl
-length-from k (suc m) = ap suc (length-from _ _)
+length-from k (suc m) = ap suc (length-from (suc k) m)
 
 pub length-upTo : (n : ℕ) → length (upTo n) ≡ n
 unfolding upTo
-length-upTo n = length-from _ _
+length-upTo n = length-from 0 n
 
 -- a list that has an element is not empty
 pub length-pos : (x : ℕ) (l : List ℕ) → T (has x l) → 0 < length l
@@ -252,8 +252,11 @@ first-in p d (x ∷ xs) = go (p x) refl (first-in p d xs)
         ⊎ (((if b then x else r) ≡ d) × ((y : ℕ) → T (has y (x ∷ xs)) → T (p y) → ⊥))
     go true e rest = inl (has-head x xs, subst T (sym e) tt)
     go false e (inl i) = inl (has-tail r _ xs (i .0), i .1)
-    go false e (inr i) = inr (i .0, λ y h t.
-        ⊎-elim (λ q. subst T e (subst (λ (z : ℕ). T (p z)) q t)) (λ m. i .1 y m t) (of-cons _ _ xs h))
+    go false e (inr i) = inr (
+      i .0,
+      λ y h t.
+          ⊎-elim (λ q. subst T e (subst (λ (z : ℕ). T (p z)) q t)) (λ m. i .1 y m t) (of-cons _ _ xs h),
+    )
 
 -- ---- one list after another
 

@@ -80,7 +80,7 @@ below-pow zero n h = ⊎-elim (λ l. l) (λ l. omega (arith, length-more n l, di
 below-pow (suc k) n h =
     ⊎-elim
     (λ l. lt-of-lt-of-le l (pow-le-pow-right {n = 10} (zero-lt-suc _) (suc-le-suc zero-le)))
-    (λ l. rw pow-suc (div-lt-iff-lt-mul (zero-lt-suc _) .0 (below-pow _ _ (omega (arith, length-more n l)))))
+    (λ l. rw pow-suc (div-lt-iff-lt-mul (zero-lt-suc _) .0 (below-pow k (n / 10) (omega (arith, length-more n l)))))
     (lt-or n 10)
 
 -- ---- digits as bytes

@@ -10,7 +10,7 @@ use native.Mathlib.Nat.{zero-add}
 use native.Mathlib.Numerals.{add-one}
 use native.Mathlib.Omega.{arith}
 use borrow.Author.Tests.{lt-ltb, le-ltb}
-use lib.Dec.{T, eqb, ltb, eqb→eq, ltb→lt, lt→ltb}
+use lib.Dec.{T, eqb, ltb, ltb→lt, lt→ltb}
 use lib.ListN.{length, getD, take, drop, replicate, length-append}
 use lib.Seq.{take-at, getD-drop, getD-append-add}
 use Rattle.model.specs.declared.Size.{Size}
@@ -22,13 +22,13 @@ use Rattle.model.specs.Graph.{linked}
 use Rattle.model.specs.Reading.{named, Parsed, parse, graphOf, startsOf, neighboursFrom, readingOf, reading}
 use Rattle.model.specs.Writing.{textOf, AfterWriting, writingOf, writing}
 use Rattle.model.specs.Demand.{IsRead, ReadRight, asRead, WriteRight}
-use Rattle.model.proofs.Tests.{picked, and-l, and-r, and-i, or-l, or-r, or-e, eq-T, no-false, same-test, lt-or}
+use Rattle.model.proofs.Tests.{picked, and-i, or-l, or-r, or-e, eq-T, no-false, same-test, lt-or}
 use Rattle.model.proofs.Lists.{has-head, has-tail, of-cons, has-keep, of-keep, has-upTo, of-upTo, none-in, keep-same, keep-none}
 use Rattle.model.proofs.Ascending.{ascending-tail, ascending-above, keep-ascending, ascending-keep, keep-of-ascending}
 use Rattle.model.proofs.Acceptance.{accepting-facts, accepting-answers, linked-is, is-linked}
 use Rattle.model.proofs.Outcomes.{never, numberIn}
 use Rattle.model.proofs.Entries.{getD-same}
-use Rattle.model.proofs.Links.{Fresh, AllFresh, TextRead, parse-complete, parse-sound}
+use Rattle.model.proofs.Links.{AllFresh, TextRead, parse-complete, parse-sound}
 use Rattle.model.proofs.SurveyLists.{total, total-zero, total-suc, starts-length, neighbours-length, start-at, own-at}
 use Rattle.model.proofs.SurveyLists.{gather-below, neighbours-same, starts-same, own-total, own-neighbours, own-starts}
 use Rattle.model.proofs.Totals.{named-sym, named-cases, links-total}

@@ -2,7 +2,7 @@
 -- Assumes nothing.
 use mathlib.Core.Path.{_≡_, refl, sym, ap, _∙_, subst}
 use mathlib.Core.Logic.{_⊎_, inl, inr, ⊎-elim}
-use mathlib.Core.Bool.{Bool, true, false, not, _||_}
+use mathlib.Core.Bool.{Bool, false, not, _||_}
 use mathlib.Core.List.{List, [], _∷_, _++_, tail, reverse}
 use mathlib.Core.Option.{Option, none as missing, some}
 use Prim.Native.Nat.{ℕ, zero, suc, _+_, _*_, _/_, _≤_, _<_}
@@ -20,7 +20,7 @@ use Rattle.model.specs.Survey.{Graph, neighboursOf, outside, badSize, is
 use Rattle.model.specs.Graph.{linked}
 use Rattle.model.specs.Hubs.{isLow}
 use Rattle.model.specs.Tables.{entryAt, shortTables, AreBuilt}
-use Rattle.model.specs.Pair.{taken, attaining, pairBy, pair}
+use Rattle.model.specs.Pair.{pairBy, pair}
 use Rattle.model.specs.Walk.{steps, byLow, toHub, join, walkNodes}
 use Rattle.model.specs.Threshold.{threshold}
 use Rattle.model.specs.Reading.{named, linkOf, readOn, onLinks, readLinks, countsOf, parsed, parseLinks, Parsed, parse, readingOf, reading}

@@ -8,7 +8,7 @@ use native.Mathlib.Nat.{le-antisymm}
 use borrow.Author.Tests.{lt-ltb}
 use lib.Dec.{T, ltb}
 use Rattle.model.specs.Basics.{none, if_then_else_, has}
-use Rattle.model.specs.Graph.{Edges, between, Chain, Unjoined, Fewest, fewest, linked}
+use Rattle.model.specs.Graph.{Edges, between, Chain, Fewest, fewest, linked}
 use Rattle.model.specs.Survey.{Graph, IsGraph}
 use Rattle.model.specs.Hubs.{isLow, hubs}
 use Rattle.model.specs.Tables.{table, entryAt, fullTable, lowLinks, lowTable}

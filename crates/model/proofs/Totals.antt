@@ -59,7 +59,7 @@ once-from : (a k m : ℕ)
     → ((a < k) → sumOver (λ x. bit (eqb a x)) (from k m) ≡ 0) × (k ≤ a → a < k + m → sumOver (λ x. bit (eqb a x)) (from k m) ≡ 1)
 unfolding sumOver from bit
 once-from a k zero = (λ h. refl, λ h l. absurd (omega arith))
-once-from a k (suc m) = at (once-from _ _ _) (eqb a k) refl
+once-from a k (suc m) = at (once-from a (suc k) m) (eqb a k) refl
   where
     R : ℕ
     R = sumOver (λ x. bit (eqb a x)) (from (suc k) m)
