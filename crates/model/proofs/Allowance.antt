@@ -35,7 +35,7 @@ module _ (f : ℕ → ℕ) (base : ℕ) where
   unfolding has
   least-at [] h m = absurd m
   least-at (x ∷ xs) h m = ⊎-elim
-      (λ e. subst (λ (z : ℕ). min (f x) (least f base xs) ≤ f z) (sym e) (min-le-left _ _))
+      (λ e. rw e (min-le-left _ _))
       (λ r. le-trans (min-le-right _ _) (least-at xs h r))
       (of-cons _ _ xs m)
 
@@ -107,8 +107,7 @@ module _ {n : ℕ} (s : ℕ) {G : Graph} (g : IsGraph n G) where
       y = entryAt n (fullTable n s G) h b
 
       go : {z : ℕ} → Sum x y z → (f : z ≡ none → ⊥) → Chain (linked n G) z a b
-      go (whole p q e) f = subst (λ (k : ℕ). Chain (linked n G) k a b) (sym e)
-          (append (turn (linked-sym _ _) (full-is s g hh ha p .1 .0)) (full-is s g hh hb q .1 .0))
+      go (whole p q e) f = rw e (append (turn (linked-sym _ _) (full-is s g hh ha p .1 .0)) (full-is s g hh hb q .1 .0))
       go (part e p) f = absurd (f e)
 
   -- a report that is not none is the number of links of some chain

@@ -41,7 +41,7 @@ fits x k l = ap (λ (r : AfterWalking). r .answer) (fit-long _ _ _ l)
 fits-sound : (E : Edges) (a b : ℕ) {w : ℕ} (x : Answer) (o : Option (List ℕ)) → Sound E (x .report) a b o → IsSome o → x .report < w
     → fit w x o .answer ≡ answered x
 fits-sound E a b x missing s m l = absurd m
-fits-sound E a b {w} x (some k) s m l = fits _ _ (subst (λ (j : ℕ). j ≤ w) (sym (s .1)) l)
+fits-sound E a b {w} x (some k) s m l = fits _ _ (rw (s .1) l)
 
 -- what is equal to a number below none is not none
 below-none : {x k : ℕ} → x ≡ k → k < none → x ≡ none → ⊥
@@ -98,14 +98,14 @@ module _ {n s : ℕ} {G : Graph} (g : IsGraph n G) (size : n ≤ 1024) {full low
 
   full-end : {h : ℕ} → h < n → (v : ℕ) → v < n → entryAt n full h v ≡ 0 → v ≡ h
   full-end {h} hh v hv e =
-      sym (chain-zero (subst (λ (k : ℕ). Chain (linked n G) k h v) e (full-is′ hh hv (below-none e (omega arith)) .1 .0)))
+      sym (chain-zero (rw e at (full-is′ hh hv (below-none e (omega arith)) .1 .0)))
 
   -- and one on the way to b among the low nodes
   low-next : {b : ℕ} → b < n → (v d : ℕ) → v < n → suc d < none → entryAt n low v b ≡ suc d
       → (u : ℕ) × T (has u (G v)) × T (isLow s G u) × (entryAt n low u b ≡ d)
   low-next {b} hb v d hv z e =
       let i = low-is′ hv hb (below-none e z) in
-      at (i .1) (subst (λ (k : ℕ). Fewest (lowLinks n s G) v b k) e (i .2))
+      at (i .1) (rw e at (i .2))
     where
       at : T (isLow s G b) → Fewest (lowLinks n s G) v b (suc d)
           → (u : ℕ) × T (has u (G v)) × T (isLow s G u) × (entryAt n low u b ≡ d)
@@ -116,7 +116,7 @@ module _ {n s : ℕ} {G : Graph} (g : IsGraph n G) (size : n ≤ 1024) {full low
 
   low-end : {b : ℕ} → b < n → (v : ℕ) → v < n → entryAt n low v b ≡ 0 → v ≡ b
   low-end {b} hb v hv e =
-      chain-zero (subst (λ (k : ℕ). Chain (lowLinks n s G) k v b) e (low-is′ hv hb (below-none e (omega arith)) .2 .0))
+      chain-zero (rw e at (low-is′ hv hb (below-none e (omega arith)) .2 .0))
 
   module _ {a b : ℕ} (ha : a < n) (hb : b < n) where
     abbrev pub r : ℕ
@@ -202,7 +202,7 @@ module _ {n s : ℕ} {G : Graph} (g : IsGraph n G) (size : n ≤ 1024) {full low
           route-fits x c f = fits-sound (linked n G) a b x _ (route-sound s g full low ha hb isHub report x c f)
 
           at : {q : Outcome Answer} → Chosen a b r (entryAt n low a b) hub q → walkOf w n s G full low a b q .answer ≡ q
-          at (to-itself e z) = fits _ (a ∷ []) (subst (λ (k : ℕ). suc k ≤ w) z (roomy (below-none z (omega arith))))
+          at (to-itself e z) = fits _ (a ∷ []) (rw z at (roomy (below-none z (omega arith))))
           at (to-none x e) = fits _ [] zero-le
           at (to-low x f e) = route-fits _ (to-low x f e) f (low-given (λ q. f (sym e ∙ q))) (roomy f)
           at (to-hub x f y z) =
@@ -226,8 +226,7 @@ module _ {n s : ℕ} {G : Graph} (g : IsGraph n G) (size : n ≤ 1024) {full low
     pub listed-right : (list : List ℕ) → take n list ≡ hubList n s G → Counts (listed n list)
     unfolding listed hubList
     listed-right list q h hh f e =
-        subst (λ (l : List ℕ). T (has h l)) (sym q)
-        (has-append _ _ _ (attaining-hub _ hh f e))
+        rw q (has-append _ _ _ (attaining-hub _ hh f e))
 
     -- the hubs that count make no difference, as long as each hub that attains the report is among them
     counted-same : (p q : ℕ → Bool) → Counts p → Counts q → pairBy p n full low report a b ≡ pairBy q n full low report a b
