@@ -141,11 +141,11 @@ module _ (n : ℕ) (starts neighbours : List ℕ) where
 
   pub accepting-facts : (x : Unit {0}) → accepting n starts neighbours ≡ answered x → Accepted n starts neighbours
   unfolding accepted
-  accepting-facts x e = accepted-facts (subst (λ (o : Outcome (Unit {0})). T (isAnswered o)) (sym e) tt)
+  accepting-facts x e = accepted-facts (rw e tt)
 
   pub facts-accepted : Accepted n starts neighbours → T (accepted n starts neighbours)
   unfolding accepted
-  facts-accepted f = subst (λ (o : Outcome (Unit {0})). T (isAnswered o)) (sym (accepting-answers f)) tt
+  facts-accepted f = rw (accepting-answers f) tt
 
 -- ---- accepted lists are an undirected graph without loops on n nodes, whatever stands past the entries used
 

@@ -26,7 +26,7 @@ ascending-above x [] t y h = absurd h
 ascending-above x (z ∷ zs) t y h =
     let first : x < z = ltb→lt _ _ (and-l (ltb x z) _ t) in
     ⊎-elim
-    (λ e. subst (λ (k : ℕ). x < k) (sym e) first)
+    (λ e. rw e first)
     (λ r. lt-trans first (ascending-above z zs (and-r (ltb x z) (ascending (z ∷ zs)) t) y r))
     (of-cons _ _ zs h)
 
@@ -66,7 +66,7 @@ member-keep (y ∷ ys) k (suc m) t f =
     rest = keep (λ x. has x (y ∷ ys)) (from (suc k) m)
 
     front : k ≡ y → T (has k (y ∷ ys))
-    front e = subst (λ (z : ℕ). T (has z (y ∷ ys))) (sym e) (has-head y ys)
+    front e = rw e (has-head y ys)
 
     above : (k ≡ y → ⊥) → (x : ℕ) → T (has x (y ∷ ys)) → (suc k ≤ x) × (x < suc k + m)
     above d x h =
@@ -137,6 +137,6 @@ standing (x ∷ l) v t h = go (of-cons _ _ _ h) (λ r. standing l _ (ascending-t
 pub ascending-front : (k : List ℕ) (x : ℕ) (l : List ℕ) → T (ascending (k ++ x ∷ l)) → (y : ℕ) → T (has y k) → y < x
 ascending-front [] x l t y h = absurd (none-in _ h)
 ascending-front (z ∷ k) x l t y h = ⊎-elim
-    (λ e. subst (λ (w : ℕ). w < x) (sym e) (ascending-above _ _ t _ (has-later _ k _ (has-head _ l))))
+    (λ e. rw e (ascending-above _ _ t _ (has-later _ k _ (has-head _ l))))
     (ascending-front k x l (ascending-tail _ _ t) y)
     (of-cons _ _ _ h)

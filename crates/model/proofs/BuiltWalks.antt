@@ -41,7 +41,7 @@ fits x k l = ap (λ (r : AfterWalking). r .answer) (fit-long _ _ _ l)
 fits-sound : (E : Edges) (a b : ℕ) {w : ℕ} (x : Answer) (o : Option (List ℕ)) → Sound E (x .report) a b o → IsSome o → x .report < w
     → fit w x o .answer ≡ answered x
 fits-sound E a b x missing s m l = absurd m
-fits-sound E a b {w} x (some k) s m l = fits _ _ (rw (s .1) l)
+fits-sound E a b x (some k) s m l = fits _ _ (rw (s .1) l)
 
 -- what is equal to a number below none is not none
 below-none : {x k : ℕ} → x ≡ k → k < none → x ≡ none → ⊥

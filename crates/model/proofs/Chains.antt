@@ -38,8 +38,8 @@ module _ {E : Edges} where
   split-first (link {k = i} {b = x} t r) = inr (i, x, refl, t, r)
 
   pub append : {j k a b c : ℕ} → Chain E j a b → Chain E k b c → Chain E (j + k) a c
-  append {k = k} {a = a} {c = c} here q = subst (λ (i : ℕ). Chain E i a c) (sym (zero-add _)) q
-  append {k = k} {a = a} {c = c} (link {k = j} t p) q = subst (λ (i : ℕ). Chain E i a c) (sym (suc-add _ _)) (link t (append p q))
+  append here q = rw (zero-add _) q
+  append (link t p) q = rw (suc-add _ _) (link t (append p q))
 
   pub turn : ((u v : ℕ) → T (E u v) → T (E v u)) → {k a b : ℕ} → Chain E k a b → Chain E k b a
   turn f here = here
@@ -95,7 +95,7 @@ module _ (E : Edges) (n a : ℕ) where
   -- what is reached with k links is joined by a chain of k or fewer
   sound : (k v : ℕ) → Reached k v → (j : ℕ) × (j ≤ k) × Chain E j a v
   unfolding reach
-  sound zero v h = (0, zero-le, subst (λ (z : ℕ). Chain E 0 a z) (sym (of-single _ _ h)) here)
+  sound zero v h = (0, zero-le, rw (of-single _ _ h) here)
   sound (suc k) v h = ⊎-elim
       (λ s. let i = sound k _ s in (i .0, le-step (i .1), i .2))
       (λ s. let i = sound k (s .0) (s .1) in (suc (i .0), suc-le-suc (i .1), snoc (i .2) (s .2)))
@@ -118,7 +118,7 @@ module _ (E : Edges) (n a : ℕ) where
     -- once a layer adds nothing, no later one does
     stable : (j : ℕ) → Stable j → (k v : ℕ) → Reached k v → Reached j v
     unfolding reach
-    stable j f zero v h = subst (λ (z : ℕ). Reached j z) (sym (of-single _ _ h)) (starts j)
+    stable j f zero v h = rw (of-single _ _ h) (starts j)
     stable j f (suc k) v h =
         let g = grown k _ h in
         ⊎-elim (stable j f k _) (λ s. f v (step j _ _ (g .0) (stable j f k (s .0) (s .1)) (s .2))) (g .1)
@@ -157,7 +157,7 @@ module _ (E : Edges) (n a : ℕ) where
             let s = sound _ _ t in
             let low : (k : ℕ) → Chain E k a b → r ≤ k = λ k c. fit k (λ h. least k zero-le h (complete _ _ c)) in
             let e : s .0 ≡ r = le-antisymm (s .1) (low (s .0) (s .2)) in
-            inl (omega arith, (subst (λ (k : ℕ). Chain E k a b) e (s .2), low))
+            inl (omega arith, (rw e at (s .2), low))
           where
             fit : (k : ℕ) → (k < r → ⊥) → r ≤ k
             fit k f = omega arith

@@ -23,7 +23,7 @@ use Rattle.model.proofs.Acceptance.{linked-of, linked-sym}
 -- some node below n has the greatest value
 greatest : (f : ℕ → ℕ) (n : ℕ) → 0 < n → (v : ℕ) × (v < n) × ((w : ℕ) → w < n → f w ≤ f v)
 greatest f zero h = absurd (not-suc-le-zero h)
-greatest f (suc zero) h = (0, h, λ w b. subst (λ (x : ℕ). f x ≤ f 0) (sym (only w b)) (le-refl _))
+greatest f (suc zero) h = (0, h, λ w b. rw (only w b) (le-refl _))
   where
     only : (w : ℕ) → w < 1 → w ≡ 0
     only w b = omega arith
@@ -143,7 +143,7 @@ module _ (n : ℕ) (G : Graph) where
   greedy-below zero U b h m = absurd m
   greedy-below (suc turns) [] b h m = absurd m
   greedy-below (suc turns) (x ∷ U) b h m = ⊎-elim
-      (λ e. subst (λ (z : ℕ). z < n) (sym e) (best-below _ _ b))
+      (λ e. rw e (best-below _ _ b))
       (greedy-below turns (rest (x ∷ U)) (λ v s. b v (of-rest _ _ s .0)) _)
       (of-cons _ _ (greedy n G turns (rest (x ∷ U))) m)
 
@@ -213,6 +213,6 @@ high-linked n s G g v b t =
     let c = hubs-cover _ _ _ _ b t in
     let h = c .0 in
     ⊎-elim
-    (λ e. inl (subst (λ (h : ℕ). T (has h (hubs n s G))) (sym e) (c .2)))
+    (λ e. inl (rw e (c .2)))
     (λ m. inr (h, c .2, linked-sym _ _ _ _ (linked-of _ _ g _ _ (c .1) m)))
     (of-cons _ _ _ (c .3))

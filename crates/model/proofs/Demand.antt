@@ -91,7 +91,7 @@ given-out-sound E a b w (walked y l g m room) x e f =
     let t : take (x .report + 1) (l ++ replicate (w - length l) none) ≡ l = take-at _ _ _ c in
     let i = walked-chain g in
     record {
-      walked = subst (λ (k : List ℕ). Walked E k a b) (sym t) g;
+      walked = rw t g;
       count = ap length t ∙ c;
       chain = subst (λ (k : ℕ). Chain E k a b) (omega (arith, i .1, c)) (i .2);
     }
@@ -223,7 +223,7 @@ module _ {n : ℕ} {starts neighbours : List ℕ} (acc : Accepted n starts neigh
     asking-allowed = let i = asking-answers in record {
       value = i .0;
       given = i .1;
-      allowed = subst (λ (r : ℕ). Allowed (linked n G) a b r) (sym (i .2)) (allowed n s G (acc .lists .graph) (acc .size) a b ha hb);
+      allowed = rw (i .2) (allowed n s G (acc .lists .graph) (acc .size) a b ha hb);
     }
 
   -- and writing the walk answers as asking does, if the walk list has report + 1 entries or there is no route

@@ -95,6 +95,5 @@ module _ (text : List ℕ) (x : Parsed) (e : parse 128 2048 (128 + 1) (2 * 2048)
         ap (pairLine (a, b)) (reply-is _ _ (of-upTo _ _ ma) (of-upTo _ _ (of-keep _ _ _ mb .0)) .0)))
         ∙ sym (by-pairs _ _)
         ),
-    λ a b ha hb. subst (λ (r : ℕ). Allowed (linked n G) a b r) (sym (reply-is _ _ ha hb .1))
-        (allowed _ _ _ (links-graph _ _) size _ _ ha hb),
+    λ a b ha hb. rw (reply-is _ _ ha hb .1) (allowed _ _ _ (links-graph _ _) size _ _ ha hb),
   )

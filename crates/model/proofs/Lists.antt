@@ -36,7 +36,7 @@ pub any-of : (p : ℕ → Bool) (l : List ℕ) (x : ℕ) → T (has x l) → T (
 unfolding has any
 any-of p [] x h t = h
 any-of p (y ∷ ys) x h t = ⊎-elim
-    (λ e. or-l (p y) _ (subst (λ (z : ℕ). T (p z)) e t))
+    (λ e. or-l (p y) _ (rw e at t))
     (λ r. or-r (p y) _ (any-of p ys x r t))
     (of-cons _ _ ys h)
 
@@ -52,7 +52,7 @@ pub of-all : (p : ℕ → Bool) (l : List ℕ) → T (all p l) → (x : ℕ) →
 unfolding all has
 of-all p [] t x h = absurd h
 of-all p (y ∷ ys) t x h = ⊎-elim
-    (λ e. subst (λ (z : ℕ). T (p z)) (sym e) (and-l (p y) _ t))
+    (λ e. rw e (and-l (p y) _ t))
     (of-all p ys (and-r (p y) _ t) _)
     (of-cons _ _ ys h)
 
@@ -70,7 +70,7 @@ has-keep p (y ∷ ys) x h t = go (p y) refl (of-cons _ _ ys h) (λ r. has-keep p
         → T (has x (if b then y ∷ keep p ys else keep p ys))
     go true e (inl q) rec = subst (λ (z : ℕ). T (has x (z ∷ keep p ys))) q (has-head x (keep p ys))
     go true e (inr r) rec = has-tail x _ (keep p ys) (rec r)
-    go false e (inl q) rec = absurd (subst T e (subst (λ (z : ℕ). T (p z)) q t))
+    go false e (inl q) rec = absurd (subst T e (rw q at t))
     go false e (inr r) rec = rec r
 
 pub of-keep : (p : ℕ → Bool) (l : List ℕ) (x : ℕ) → T (has x (keep p l)) → T (has x l) × T (p x)
@@ -81,7 +81,7 @@ of-keep p (y ∷ ys) x h = go (p y) refl h (λ r. of-keep p ys x r)
     go : (b : Bool) → p y ≡ b → T (has x (if b then y ∷ keep p ys else keep p ys))
         → (T (has x (keep p ys)) → T (has x ys) × T (p x)) → T (has x (y ∷ ys)) × T (p x)
     go true e h rec = ⊎-elim
-        (λ q. (subst (λ (z : ℕ). T (has x (z ∷ ys))) q (has-head x ys), subst (λ (z : ℕ). T (p z)) (sym q) (subst T (sym e) tt)))
+        (λ q. (subst (λ (z : ℕ). T (has x (z ∷ ys))) q (has-head x ys), rw q (subst T (sym e) tt)))
         (λ r. let i = rec r in (has-tail x _ ys (i .0), i .1))
         (of-cons _ _ (keep p ys) h)
     go false e h rec = let i = rec h in (has-tail x _ ys (i .0), i .1)
@@ -123,7 +123,7 @@ first-from p d k zero = nothing refl (λ y lo hi t. omega arith)
 first-from p d k (suc m) = go (p k) refl (first-from p d (suc k) m)
   where
     step : (f : T (p k) → ⊥) (y : ℕ) → k ≤ y → T (p y) → suc k ≤ y
-    step f y lo t = let ne : k ≡ y → ⊥ = λ e. f (subst (λ (z : ℕ). T (p z)) (sym e) t) in omega arith
+    step f y lo t = let ne : k ≡ y → ⊥ = λ e. f (rw e t) in omega arith
 
     rest : {r : ℕ} → (T (p k) → ⊥) → First p d (suc k) m r → First p d k (suc m) r
     rest f (found lo hi t least) = found (omega arith) (omega arith) t (λ y l h s. least y (step f y l s) h s)
@@ -140,7 +140,7 @@ first-below p d n = first-from p d 0 n
 
 -- the same for a number that is known to be the one found
 pub first-of : (p : ℕ → Bool) (d n : ℕ) {r : ℕ} → r ≡ firstOf p d (upTo n) → First p d 0 n r
-first-of p d n e = subst (λ (x : ℕ). First p d 0 n x) (sym e) (first-below p d n)
+first-of p d n e = rw e (first-below p d n)
 
 -- it is at most d, where d is not below n
 pub first-most : (p : ℕ → Bool) (d n : ℕ) → n ≤ d → firstOf p d (upTo n) ≤ d
@@ -175,7 +175,7 @@ keep-grows p q (y ∷ ys) f =
   where
     both : (T (q y) → T (p y)) → ((x : ℕ) → T (has x ys) → T (q x) → T (p x)) → (x : ℕ) → T (has x (y ∷ ys)) → T (q x) → T (p x)
     both h f x m t = ⊎-elim
-        (λ e. subst (λ (z : ℕ). T (p z)) (sym e) (h (subst (λ (z : ℕ). T (q z)) e t)))
+        (λ e. rw e (h (subst (λ (z : ℕ). T (q z)) e t)))
         (λ r. f x r t)
         (of-cons _ _ ys m)
 
@@ -255,7 +255,7 @@ first-in p d (x ∷ xs) = go (p x) refl (first-in p d xs)
     go false e (inr i) = inr (
       i .0,
       λ y h t.
-          ⊎-elim (λ q. subst T e (subst (λ (z : ℕ). T (p z)) q t)) (λ m. i .1 y m t) (of-cons _ _ xs h),
+          ⊎-elim (λ q. subst T e (rw q at t)) (λ m. i .1 y m t) (of-cons _ _ xs h),
     )
 
 -- ---- one list after another

@@ -222,8 +222,8 @@ digits-number n l =
     let f = first-digit n (omega arith) in
     let ne : f .0 ≡ 48 → ⊥ = (λ e. omega (arith, f .3)) in
     rw (f .2) (text-number (f .0) (f .1) (record {
-      every = subst (λ (t : List ℕ). T (all isDigit t)) (f .2) (digits-all n);
-      few = le-of-suc-le-suc (subst (λ (t : List ℕ). length t ≤ 10) (f .2) (length-le 9 n l));
+      every = rw (f .2) at (digits-all n);
+      few = le-of-suc-le-suc (rw (f .2) at (length-le 9 n l));
       lead = inr (not-T (eqb (f .0) 48) (λ t. ne (eqb→eq _ _ t)));
     })))
     (lt-or n 10)

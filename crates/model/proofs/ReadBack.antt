@@ -71,13 +71,13 @@ module _ (n : ℕ) (ls : List (ℕ × ℕ)) (some-node : 1 ≤ n) (size : n ≤ 
   -- a line names each neighbour of a node below n with that node
   own-named : (v x : ℕ) → v < n → T (has x (neighboursOf starts neighbours v)) → T (named ls v x)
   unfolding graphOf
-  own-named v x h m = of-keep _ _ _ (subst (λ (l : List ℕ). T (has x l)) (own _ h) m) .1
+  own-named v x h m = of-keep _ _ _ (rw (own _ h) at m) .1
 
   named-own : (v x : ℕ) → T (named ls v x) → T (has x (neighboursOf starts neighbours v))
   unfolding graphOf
   named-own v x t =
       let b = named-below _ _ _ f _ _ t in
-      subst (λ (l : List ℕ). T (has x l)) (sym (own _ (b .0))) (has-keep _ _ _ (has-upTo _ _ (b .1)) t)
+      rw (own _ (b .0)) (has-keep _ _ _ (has-upTo _ _ (b .1)) t)
 
   lists-accepted : Accepted n starts neighbours
   unfolding starts neighbours graphOf
@@ -95,7 +95,7 @@ module _ (n : ℕ) (ls : List (ℕ × ℕ)) (some-node : 1 ≤ n) (size : n ≤ 
       few-links = omega (arith, last);
       within =
           omega (arith, start n (omega arith), neighbours-length n (graphOf n ls), length-append (neighboursFrom n (graphOf n ls)) others);
-      sorted = λ v h. subst (λ (l : List ℕ). T (ascending l)) (sym (own _ h)) (keep-ascending _ _);
+      sorted = λ v h. rw (own _ h) (keep-ascending _ _);
       loopless = λ v x h m e. named-below _ _ _ f _ _ (own-named _ _ h m) .2 (sym e);
       graph = record {
         below = λ v x h m. named-below _ _ _ f _ _ (own-named _ _ h m) .1;
@@ -259,7 +259,7 @@ gather-complete : (f : ℕ → List (ℕ × ℕ)) (l : List ℕ) (a u v : ℕ) �
 unfolding gather
 gather-complete f [] a u v h t = absurd (none-in _ h)
 gather-complete f (x ∷ l) a u v h t = subst T (sym (named-append _ _ _ _)) (⊎-elim
-    (λ e. or-l (named (f x) u v) _ (subst (λ (k : ℕ). T (named (f k) u v)) e t))
+    (λ e. or-l (named (f x) u v) _ (rw e at t))
     (λ r. or-r (named (f x) u v) _ (gather-complete f l a u v r t))
     (of-cons _ _ _ h))
 
@@ -327,8 +327,7 @@ module _ (n : ℕ) (starts′ neighbours′ : List ℕ) (acc : Accepted n starts
       let ha = of-upTo _ _ (i .1) in
       ⊎-elim
       (λ r. subst (λ (k : ℕ). T (has x (G k))) (sym (r .0)) (of-keep (λ b. ltb a b) _ _ (r .1) .0))
-      (λ r. subst (λ (k : ℕ). T (has k (G v))) (sym (r .0))
-      (acc .lists .graph .symmetric a v ha (of-keep (λ b. ltb a b) _ _ (r .1) .0)))
+      (λ r. rw (r .0) (acc .lists .graph .symmetric a v ha (of-keep (λ b. ltb a b) _ _ (r .1) .0)))
       (row-sound _ _ _ _ (i .2))
 
   up-named : (v x : ℕ) → v < n → v < x → T (has x (neighboursOf starts′ neighbours′ v)) → T (named ls v x)
@@ -401,10 +400,8 @@ module _ (n : ℕ) (starts′ neighbours′ : List ℕ) (acc : Accepted n starts
   written-text buffer k =
       let text : List ℕ = textOf n starts′ neighbours′ in
       let P : AfterWriting → Type 0 = λ r. r .answer ≡ answered k → take k (r .buffer) ≡ text in
-      subst (λ (o : Outcome (Unit {0})). P (writingOf o text buffer)) (sym (accepting-answers _ _ _ acc))
-      (picked P (ltb (length buffer) (length text)) _ _ (λ _ e. never e) (λ _ e.
-      let j : length text ≡ k = cc in
-      take-at _ _ _ j))
+      rw (accepting-answers _ _ _ acc) (picked P (ltb (length buffer) (length text)) _ _ (λ _ e. never e)
+      (λ _ e. let j : length text ≡ k = cc in take-at _ _ _ j))
 
 -- written and read again it is the same survey
 pub writing-right : (n : ℕ) (starts neighbours buffer : List ℕ) → WriteRight n starts neighbours (writing n starts neighbours buffer)

@@ -179,8 +179,8 @@ module _ {n : ℕ} {starts neighbours starts′ neighbours′ : List ℕ} (e : A
       record {
         first = sym (same-start 0 (omega arith)) ∙ s .first;
         rising = λ v h. let u = s .rising v h in omega (arith, same-start v (omega arith), same-start (v + 1) (omega arith));
-        even = subst (λ (k : ℕ). k % 2 ≡ 0) last (s .even);
-        few-links = subst (λ (k : ℕ). k / 2 ≤ 16384) last (s .few-links);
+        even = rw last at (s .even);
+        few-links = rw last at (s .few-links);
         within = omega (
           arith,
           last,
@@ -189,12 +189,12 @@ module _ {n : ℕ} {starts neighbours starts′ neighbours′ : List ℕ} (e : A
           length-take (getD starts n 0) neighbours′,
           ap length (e .neighbours-used),
         );
-        sorted = λ v h. subst (λ (l : List ℕ). T (ascending l)) (past-own′ s v h) (s .sorted v h);
+        sorted = λ v h. rw (past-own′ s v h) at (s .sorted v h);
         loopless = λ v x h m. s .loopless v x h (there v x h m);
         graph = record {
           below = λ v x h m. s .graph .below v x h (there v x h m);
           symmetric = λ v x h m. let t = there v x h m in
-              subst (λ (l : List ℕ). T (has v l)) (past-own′ s x (s .graph .below v x h t)) (s .graph .symmetric v x h t);
+              rw (past-own′ s x (s .graph .below v x h t)) at (s .graph .symmetric v x h t);
         };
       }
 
@@ -238,6 +238,6 @@ module _ (n : ℕ) (starts neighbours starts′ neighbours′ : List ℕ) (e : A
             is-linked _ _ _ _ (record {
               first = l .first;
               second = l .second;
-              there = subst (λ (k : List ℕ). T (has b k)) (f a (l .first)) (l .there);
-              back = subst (λ (k : List ℕ). T (has a k)) (f b (l .second)) (l .back);
+              there = rw (f a (l .first)) at (l .there);
+              back = rw (f b (l .second)) at (l .back);
             })

@@ -47,7 +47,7 @@ module _ (n : ℕ) (t : ℕ → ℕ → Bool) (E : Edges) (ends : (u v : ℕ) �
   guarded-is {a} {b} ha hb f = at (t a b) (entry-table _ _ _ _ ha hb)
     where
       at : (c : Bool) → guarded a b ≡ (if c then fewest E n a b else none) → T c × Fewest E a b (guarded a b)
-      at true e = (tt, subst (λ (k : ℕ). Fewest E a b k) (sym e) (fewest-is _ _ _ ends ha _ (λ q. f (e ∙ q))))
+      at true e = (tt, rw e (fewest-is _ _ _ ends ha _ (λ q. f (e ∙ q))))
       at false e = absurd (f e)
 
   guarded-joined : {a b k : ℕ} → a < n → b < n → T (t a b) → Chain E k a b → (guarded a b < n) × Fewest E a b (guarded a b)
@@ -55,8 +55,7 @@ module _ (n : ℕ) (t : ℕ → ℕ → Bool) (E : Edges) (ends : (u v : ℕ) �
   guarded-joined {a} {b} {k} ha hb m c = at (t a b) m (entry-table _ _ _ _ ha hb)
     where
       at : (c : Bool) → T c → guarded a b ≡ (if c then fewest E n a b else none) → (guarded a b < n) × Fewest E a b (guarded a b)
-      at true m e = subst (λ (x : ℕ). (x < n) × Fewest E a b x) (sym e)
-          (⊎-elim (λ p. p) (λ p. absurd (p .1 k c)) (fewest-cases _ _ _ ends ha _))
+      at true m e = rw e (⊎-elim (λ p. p) (λ p. absurd (p .1 k c)) (fewest-cases _ _ _ ends ha _))
       at false m e = absurd m
 
 module _ (n s : ℕ) (G : Graph) (g : IsGraph n G) where

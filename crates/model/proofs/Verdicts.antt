@@ -64,7 +64,7 @@ module _ (n s : ℕ) (G : Graph) (g : IsGraph n G) (size : n ≤ 1024) where
 
   pub source-below : {hs : List ℕ} → Sources hs → (h : ℕ) → T (has h hs) → h < n
   unfolding closed
-  source-below (round v b t l) h m = ⊎-elim (λ e. subst (λ (z : ℕ). z < n) (sym e) b) (g .below v h b) (of-cons _ _ _ m)
+  source-below (round v b t l) h m = ⊎-elim (λ e. rw e b) (g .below v h b) (of-cons _ _ _ m)
   source-below (covers f) h m = hubs-below _ _ _ _ m
 
   -- where every source reaches every node within two links, every two nodes are within three

@@ -175,13 +175,13 @@ module _ {E : Edges} where
   walked-snoc (go s r) t = go s (walked-snoc r t)
 
   walked-append : {p q : List ℕ} {a b c : ℕ} → Walked E p a b → Walked E q b c → Walked E (p ++ tail q) a c
-  walked-append {a = a} {c = c} stop w = subst (λ (x : List ℕ). Walked E x a c) (walked-head w) w
+  walked-append stop w = rw (walked-head w) at w
   walked-append (go t r) w = go t (walked-append r w)
 
   walked-turn : ((u v : ℕ) → T (E u v) → T (E v u)) → {l : List ℕ} {a b : ℕ} → Walked E l a b → Walked E (reverse l) b a
   walked-turn f stop = stop
-  walked-turn f {a = a} {b = c} (go {l = l} t r) =
-      subst (λ (x : List ℕ). Walked E x c a) (sym (reverse-cons a l)) (walked-snoc (walked-turn f r) (f _ _ t))
+  walked-turn f {a = a} (go {l = l} t r) =
+      rw (reverse-cons a l) (walked-snoc (walked-turn f r) (f _ _ t))
 
 pub join-sound : (E : Edges) → ((u v : ℕ) → T (E u v) → T (E v u)) → (i j a b h : ℕ) (p q : Option (List ℕ))
     → Sound E i a h p → Sound E j b h q → Sound E (i + j) a b (join p q)
@@ -295,8 +295,8 @@ fit-outcome : (E : Edges) (a b w : ℕ) (x : Answer) (o : Option (List ℕ)) →
 unfolding fit refuseWalk
 fit-outcome E a b w x missing s = refusal 11
 fit-outcome E a b w x (some l) s = ⊎-elim
-    (λ h. subst (λ (r : AfterWalking). Given-out E a b w r) (sym (fit-short _ x l h)) (refusal 8))
-    (λ h. subst (λ (r : AfterWalking). Given-out E a b w r) (sym (fit-long _ _ l h)) (walked x l (s .0) (s .1) h))
+    (λ h. rw (fit-short _ x l h) (refusal 8))
+    (λ h. rw (fit-long _ _ l h) (walked x l (s .0) (s .1) h))
     (lt-or w (length l))
 
 fit-none : (E : Edges) (a b w : ℕ) → Given-out E a b w (fit w (withRoute none NoRoute) (some []))
@@ -357,7 +357,7 @@ module _ {n : ℕ} (s : ℕ) {G : Graph} (g : IsGraph n G) (full low : List ℕ)
     unfolding walkNodes
     route-sound x (to-itself e z) m = (subst (λ (y : ℕ). Walked (linked n G) (a ∷ []) a y) e stop, refl)
     route-sound x (to-none f e) m = absurd (m refl)
-    route-sound x (to-low f g e) m = subst (λ (d : ℕ). Sound (linked n G) d a b (byLow n s G low a b)) e low-sound
+    route-sound x (to-low f g e) m = rw e at low-sound
     route-sound x (to-hub f g y z) m =
         let hub = attaining isHub n full a b (entryAt n report a b) in
         let i = attains isHub n full a b (entryAt n report a b) z in
