@@ -1,8 +1,8 @@
 -- An accepted survey as a test and as facts, each from the other; and what the facts say of its graph.
 -- Assumes nothing.
-use mathlib.Core.Path.{_≡_, refl, sym, ap, _∙_, subst}
+use mathlib.Core.Path.{_≡_, refl, ap, _∙_}
 use mathlib.Core.Logic.{⊎-elim, _↔_}
-use mathlib.Core.Bool.{Bool, true, false, not, _&&_, _||_}
+use mathlib.Core.Bool.{Bool, true, false, not, _&&_}
 use mathlib.Core.List.{List}
 use Prim.Native.Nat.{ℕ, _+_, _/_, _%_, _≤_, _<_}
 use native.Mathlib.Omega.{arith}
@@ -100,7 +100,7 @@ good-size = in-range 1024
 
 pub small-size : (n : ℕ) → n < 1 → badSize n ≡ true
 unfolding badSize
-small-size n h = ap (λ (t : Bool). t || ltb 1024 n) (lt-ltb _ _ h)
+small-size n h = rw (lt-ltb _ _ h)
 
 pub large-size : (n : ℕ) → 1024 < n → badSize n ≡ true
 unfolding badSize

@@ -1,6 +1,6 @@
 -- With the tables that were built, neither asking nor walking is refused, whether or not the hub list is lent.
 -- Assumes nothing. Holds for every threshold s.
-use mathlib.Core.Path.{_≡_, refl, sym, ap, ap₂, _∙_, subst}
+use mathlib.Core.Path.{_≡_, refl, sym, ap₂, _∙_}
 use mathlib.Core.Logic.{_⊎_, ⊎-elim}
 use mathlib.Core.Bool.{Bool, true, false, not, _&&_}
 use mathlib.Core.List.{List, [], _∷_}
@@ -22,7 +22,7 @@ use Rattle.model.specs.Hubs.{isLow, hubs}
 use Rattle.model.specs.Tables.{entryAt, sum, via, fullTable, lowTable, lowLinks, reportTable, AreBuilt, hubList}
 use Rattle.model.specs.Pair.{withRoute, taken, listed, attaining, choose, pairBy, pair}
 use Rattle.model.specs.Walk.{byLow, toHub, walkNodes}
-use Rattle.model.specs.Walking.{AfterWalking, refuseWalk, fit, walkOf}
+use Rattle.model.specs.Walking.{refuseWalk, fit, walkOf}
 use Rattle.model.proofs.Tests.{and-r, and-i, eq-T, T-true, same-test, eq-or}
 use Rattle.model.proofs.Lists.{has-append, of-upTo, first-below, First, found, nothing, first-same}
 use Rattle.model.proofs.Acceptance.{linked-has, linked-sym, linked-ends}
@@ -36,7 +36,7 @@ use Rattle.model.proofs.Walks.{Sound, steps-given, join-given, attains,
 
 -- nodes that fit are given out with the answer as it is
 fits : {w : ℕ} (x : Answer) (k : List ℕ) → length k ≤ w → fit w x (some k) .answer ≡ answered x
-fits x k l = ap (λ (r : AfterWalking). r .answer) (fit-long _ _ _ l)
+fits x k l = rw (fit-long _ _ _ l)
 
 fits-sound : (E : Edges) (a b : ℕ) {w : ℕ} (x : Answer) (o : Option (List ℕ)) → Sound E (x .report) a b o → IsSome o → x .report < w
     → fit w x o .answer ≡ answered x
@@ -86,7 +86,7 @@ module _ {n s : ℕ} {G : Graph} (g : IsGraph n G) (size : n ≤ 1024) {full low
       → (u : ℕ) × T (has u (G v)) × T true × (entryAt n full h u ≡ d)
   full-next {h} hh v d hv z e =
       let i = full-is′ hh hv (below-none e z) in
-      let f = subst (λ (k : ℕ). Fewest (linked n G) h v k) e (i .1) in
+      let f = rw e at (i .1) in
       let c = split-last (f .0) in
       let hu = inside (linked-ends _ _) hh (c .1) in
       let j = full-joined′ hh hu (i .0) (c .1) in (
@@ -168,8 +168,8 @@ module _ {n s : ℕ} {G : Graph} (g : IsGraph n G) (size : n ≤ 1024) {full low
       pair-built = at (chosen a b r (entryAt n low a b) hub)
         where
           at : {q : Outcome Answer} → Chosen a b r (entryAt n low a b) hub q → (t : Route) × (q ≡ answered (withRoute r t))
-          at (to-itself e z) = (Itself, ap (λ (k : ℕ). answered (withRoute k Itself)) (sym z))
-          at (to-none x e) = (NoRoute, ap (λ (k : ℕ). answered (withRoute k NoRoute)) (sym e))
+          at (to-itself e z) = (Itself, rw (sym z))
+          at (to-none x e) = (NoRoute, rw (sym e))
           at (to-low x f e) = (Low, refl)
           at (to-hub x f y z) = (Through hub, refl)
           at (bad-itself e f) = absurd (f (zero-report e))
@@ -233,7 +233,7 @@ module _ {n s : ℕ} {G : Graph} (g : IsGraph n G) (size : n ≤ 1024) {full low
     unfolding pairBy attaining choose
     counted-same p q fp fq = ⊎-elim
         (λ e. rw (T-true (eqb r none) (eq-T r none e)) refl)
-        (λ f. ap (λ (h : ℕ). choose a b r (entryAt n low a b) h) (one p fp f ∙ sym (one q fq f)))
+        (λ f. rw (one p fp f ∙ sym (one q fq f)))
         (eq-or r none)
       where
         one : (t : ℕ → Bool) → Counts t → (r ≡ none → ⊥)

@@ -16,7 +16,7 @@ use Rattle.model.specs.declared.Route.the-variants.{NoRoute}
 use Rattle.model.specs.declared.Answer.{Answer}
 use Rattle.model.specs.Answers.{Outcome, refused, answered}
 use Rattle.model.specs.Basics.{none, over}
-use Rattle.model.specs.Graph.{Edges, Chain, Walked, linked}
+use Rattle.model.specs.Graph.{Edges, Chain, linked}
 use Rattle.model.specs.Survey.{Graph, neighboursOf, badSize, isSurvey, Accepted}
 use Rattle.model.specs.Threshold.{threshold}
 use Rattle.model.specs.Hubs.{hubs}
@@ -28,7 +28,7 @@ use Rattle.model.specs.Building.{AfterBuilding, shortLists, built, build
 use Rattle.model.specs.Asking.{asking}
 use Rattle.model.specs.Walking.{AfterWalking, refuseWalk, fit, walkOf, walking}
 use Rattle.model.specs.Testing.{testing}
-use Rattle.model.specs.Demand.{Allowed, AllowedAnswer, AskRight, WalkSound, WalkAnswers, WalkRight, RightVerdict, TestRight, BuildRight}
+use Rattle.model.specs.Demand.{AllowedAnswer, AskRight, WalkSound, WalkAnswers, WalkRight, RightVerdict, TestRight, BuildRight}
 use Rattle.model.proofs.Outcomes.{never, numberIn}
 use Rattle.model.proofs.Tests.{or-false, of-or-false, picked, not-not, lt-or}
 use Rattle.model.proofs.Chains.{walked-chain}
@@ -140,7 +140,7 @@ short-fit : (w : ℕ) (x : Answer) (l : List ℕ) → (fit w x (some l) .answer 
 unfolding refuseWalk
 short-fit w x l = (
   λ q. ⊎-elim (λ h. h) (λ h. never (sym q ∙ ap (λ (r : AfterWalking). r .answer) (fit-long _ _ _ h))) (lt-or w (length l)),
-  λ h. ap (λ (r : AfterWalking). r .answer) (fit-short _ _ _ h),
+  λ h. rw (fit-short _ _ _ h),
 )
 
 -- ---- an accepted survey
@@ -199,7 +199,7 @@ module _ {n : ℕ} {starts neighbours : List ℕ} (acc : Accepted n starts neigh
       ∙ ap (walkOf w n (threshold n) G full low a b) (p .5)
       ∙ ap (fit w x) f in
       let j = short-fit w x l in
-      (λ q. i .0 (j .0 (sym (ap (λ (y : AfterWalking). y .answer) o) ∙ q)), λ h. ap (λ (y : AfterWalking). y .answer) o ∙ j .1 (i .1 h))
+      (λ q. i .0 (j .0 (sym (rw o) ∙ q)), λ h. ap (λ (y : AfterWalking). y .answer) o ∙ j .1 (i .1 h))
 
   -- tables built with any threshold
   module _ {s : ℕ} {full low report : List ℕ} (own : AreBuilt n s (neighboursOf starts neighbours) full low report) {a b : ℕ}

@@ -92,7 +92,7 @@ links-front n (suc m) done (c ∷ text) (suc k) h =
     at (same-line x y rest j i e f) rec =
         ap (λ (o : Option (ℕ × ℕ × List ℕ)). readOn next (linkOf n (named done) o)) f
         ∙ link-same n (named done) next (rec x y rest j (omega arith))
-        ∙ sym (ap (λ (o : Option (ℕ × ℕ × List ℕ)). readOn next (linkOf n (named done) o)) e)
+        ∙ sym (rw e)
 
 -- ---- the whole text
 
@@ -119,7 +119,7 @@ parse-front N M p q text k h = at (line-front _ (omega arith) _ _ (omega arith))
     at (same-line x y rest j i e f) =
         ap (λ (o : Option (ℕ × ℕ × List ℕ)). parseLinks (countsOf N M p q o)) f
         ∙ counts-same N M p q x y _ _ (λ m. links-front x y [] _ j (omega arith))
-        ∙ sym (ap (λ (o : Option (ℕ × ℕ × List ℕ)). parseLinks (countsOf N M p q o)) e)
+        ∙ sym (rw e)
 
 -- a text is read as its first 393,241 bytes are
 pub reading-front : (text : List ℕ) (p q k : ℕ) → 24 * (16384 + 1) < k → reading (take k text) p q ≡ reading text p q

@@ -175,7 +175,7 @@ keep-grows p q (y ∷ ys) f =
   where
     both : (T (q y) → T (p y)) → ((x : ℕ) → T (has x ys) → T (q x) → T (p x)) → (x : ℕ) → T (has x (y ∷ ys)) → T (q x) → T (p x)
     both h f x m t = ⊎-elim
-        (λ e. rw e (h (subst (λ (z : ℕ). T (q z)) e t)))
+        (λ e. rw e (h (rw e at t)))
         (λ r. f x r t)
         (of-cons _ _ ys m)
 
@@ -408,7 +408,7 @@ gather-gather {C = C} f g (x ∷ l) = gather-append f (g x) _ ∙ ap (λ (r : Li
 pub gather-map : {A B C : Type 0} (f : B → List C) (g : A → B) (l : List A) → gather f (map g l) ≡ gather (λ x. f (g x)) l
 unfolding gather
 gather-map f g [] = refl
-gather-map {C = C} f g (x ∷ l) = ap (λ (r : List C). f (g x) ++ r) (gather-map f g l)
+gather-map f g (x ∷ l) = rw (gather-map f g l)
 
 pub has-later : (x : ℕ) (k l : List ℕ) → T (has x l) → T (has x (k ++ l))
 has-later x [] l h = h

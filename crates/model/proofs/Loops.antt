@@ -51,7 +51,7 @@ gather-next f n v h =
 
 pub gather-end : {B : Type 0} (f : ℕ → List B) (n v : ℕ) → n ≤ v → gather f (from v (n - v)) ≡ []
 unfolding from gather
-gather-end f n v h = let e : n - v ≡ 0 = omega arith in ap (λ (k : ℕ). gather f (from v k)) e
+gather-end f n v h = let e : n - v ≡ 0 = omega arith in rw e
 
 -- of the numbers below n, those above a are the numbers from a + 1 on
 pub above : (a n : ℕ) → a < n → keep (λ b. ltb a b) (upTo n) ≡ from (a + 1) (n - (a + 1))

@@ -374,7 +374,7 @@ module _ (n : ℕ) (starts′ neighbours′ : List ℕ) (acc : Accepted n starts
           room = hp;
           list-room = omega (arith, ordered-count);
         };
-        is-text = ap (λ (k : ℕ). surveyText n k ls) half-count;
+        is-text = rw half-count;
         fresh = all-fresh;
       }) in
       ap (readingOf p q) r ∙ (λ i. record {

@@ -4,7 +4,7 @@
 use mathlib.Core.Path.{_≡_, refl, sym, ap, ap₂, _∙_, subst}
 use mathlib.Core.Bool.{Bool, not}
 use mathlib.Core.List.{List, [], _∷_, _++_, map, append-assoc}
-use Prim.Native.Nat.{ℕ, zero, suc, _+_, _-_, _/_, _%_, _≤_, _<_, min}
+use Prim.Native.Nat.{ℕ, zero, suc, _+_, _-_, _≤_, _<_, min}
 use native.Mathlib.Nat.{add-zero}
 use native.Mathlib.Numerals.{add-one}
 use native.Mathlib.Omega.{arith}
@@ -13,7 +13,7 @@ use lib.ListN.{length, getD, take, drop, length-append, length-take, List·getD-
 use lib.Seq.{take-nil, take-at, drop-at, take-take, take-add, getD-take, ext-getD}
 use Rattle.model.specs.Answers.{refused, answered}
 use Rattle.model.specs.Basics.{if_then_else_, from, upTo, has, gather}
-use Rattle.model.specs.Survey.{Graph, neighboursOf, ascending, isSurvey, badSize, accepting, IsSurvey, Accepted}
+use Rattle.model.specs.Survey.{Graph, neighboursOf, isSurvey, badSize, accepting, IsSurvey, Accepted}
 use Rattle.model.specs.Graph.{linked}
 use Rattle.model.specs.Reading.{startsOf, neighboursFrom}
 use Rattle.model.proofs.Tests.{same-test}
@@ -175,7 +175,7 @@ module _ {n : ℕ} {starts neighbours starts′ neighbours′ : List ℕ} (e : A
   survey-past s =
       let last = same-start n (omega arith) in
       let there : (v x : ℕ) → v < n → T (has x (neighboursOf starts′ neighbours′ v)) → T (has x (neighboursOf starts neighbours v)) =
-      λ v x h m. subst (λ (l : List ℕ). T (has x l)) (sym (past-own′ s v h)) m in
+      λ v x h m. rw (past-own′ s v h) m in
       record {
         first = sym (same-start 0 (omega arith)) ∙ s .first;
         rising = λ v h. let u = s .rising v h in omega (arith, same-start v (omega arith), same-start (v + 1) (omega arith));

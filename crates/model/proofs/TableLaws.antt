@@ -1,6 +1,6 @@
 -- What the entries of Full and Low say: fewest links, from hubs and between low nodes.
 -- Assumes nothing.
-use mathlib.Core.Path.{_≡_, refl, sym, ap, ap₂, _∙_, subst, fun-ext}
+use mathlib.Core.Path.{_≡_, refl, sym, ap, ap₂, _∙_, fun-ext}
 use mathlib.Core.Logic.{_⊎_, inl, inr, ⊎-elim}
 use mathlib.Core.Bool.{Bool, true, false, _&&_}
 use Prim.Native.Nat.{ℕ, _<_}
@@ -96,5 +96,4 @@ module _ {n : ℕ} (s : ℕ) {G : Graph} (g : IsGraph n G) where
       → (entryAt n (lowTable n s G) a b < n) × Fewest (lowLinks n s G) a b (entryAt n (lowTable n s G) a b)
   unfolding lowTable guarded
   low-joined {a} {b} ha hb la lb =
-      guarded-joined _ (λ a b. isLow s G a && isLow s G b) _ (low-ends _ _ _ g) ha hb
-      (and-i (isLow s G a) _ la lb)
+      guarded-joined _ (λ a b. isLow s G a && isLow s G b) _ (low-ends _ _ _ g) ha hb (and-i (isLow s G a) _ la lb)

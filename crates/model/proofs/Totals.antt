@@ -42,7 +42,7 @@ keep-sum p (x ∷ l) = at (p x) (keep-sum p l)
     at false e = omega (arith, e)
 
 sum-same : (f g : ℕ → ℕ) (l : List ℕ) → ((x : ℕ) → f x ≡ g x) → sumOver f l ≡ sumOver g l
-sum-same f g l e = ap (λ (h : ℕ → ℕ). sumOver h l) (fun-ext e)
+sum-same f g l e = rw (fun-ext e)
 
 sum-add : (f g : ℕ → ℕ) (l : List ℕ) → sumOver (λ x. f x + g x) l ≡ sumOver f l + sumOver g l
 unfolding sumOver

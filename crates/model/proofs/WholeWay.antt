@@ -1,19 +1,18 @@
 -- The whole way, from a text to reports and walks, over the links that the text's lines name.
 -- Assumes nothing.
-use mathlib.Core.Path.{_≡_, ap, subst, fun-ext}
+use mathlib.Core.Path.{_≡_, ap, fun-ext}
 use mathlib.Core.List.{List}
 use Prim.Native.Nat.{ℕ, _*_, _≤_, _<_}
 use lib.ListN.{length}
 use Rattle.model.specs.declared.Size.{Size}
 use Rattle.model.specs.Answers.{answered}
-use Rattle.model.specs.Graph.{Edges, linked}
+use Rattle.model.specs.Graph.{linked}
 use Rattle.model.specs.Survey.{Graph, neighboursOf}
 use Rattle.model.specs.Threshold.{threshold}
 use Rattle.model.specs.Hubs.{hubs}
 use Rattle.model.specs.Reading.{named, reading}
 use Rattle.model.specs.Building.{AfterBuilding, built, building}
-use Rattle.model.specs.Walking.{walking}
-use Rattle.model.specs.Demand.{Allowed, WalkSound, WholeWay}
+use Rattle.model.specs.Demand.{WholeWay}
 use Rattle.model.proofs.Demand.{building-answers, building-right, walking-sound, walking-right}
 use Rattle.model.proofs.ReadBack.{reading-right}
 
@@ -48,7 +47,6 @@ whole-way text p q x e full low report list hf hl hr hh a b ha hb =
       allowed = rw same at (asked .allowed);
       walked = λ w room.
           let i = right w .1 (asked .value) (asked .given) room in
-          let sound = subst (λ (E : Edges). WalkSound E a b (walking n starts neighbours (t .full) (t .low) (t .report) a b w)) same
-          (walking-sound n starts neighbours (t .full) (t .low) (t .report) a b w) in
+          let sound = rw same at (walking-sound n starts neighbours (t .full) (t .low) (t .report) a b w) in
           (i, sound (asked .value) i);
     }
