@@ -91,7 +91,7 @@ member-keep (y ∷ ys) k (suc m) t f =
         other x h (inl q) = absurd (omega arith)
         other x h (inr r) = r
     go (inr d) one two =
-        ap (λ (b : Bool). if b then k ∷ rest else rest) (no-false (has k (y ∷ ys)) (λ t. let b = above d k t in absurd (omega arith)))
+        (rw (no-false (has k (y ∷ ys)) (λ t. let b = above d k t in absurd (omega arith))))
         ∙ two (above d)
 
 pub ascending-keep : (l : List ℕ) (n : ℕ) → T (ascending l) → ((x : ℕ) → T (has x l) → x < n) → keep (λ x. has x l) (upTo n) ≡ l

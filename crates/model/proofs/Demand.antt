@@ -87,7 +87,7 @@ given-out-sound E a b w (refusal k) x e f = never e
 given-out-sound E a b w no-way x e f = let q : withRoute none NoRoute ≡ x = cc in absurd (f (sym (ap (λ (y : Answer). y .report) q)))
 given-out-sound E a b w (walked y l g m room) x e f =
     let q : y ≡ x = cc in
-    let c : length l ≡ x .report + 1 = m ∙ ap (λ (z : Answer). suc (z .report)) q ∙ sym (add-one _) in
+    let c : length l ≡ x .report + 1 = m ∙ (rw q) ∙ sym (add-one _) in
     let t : take (x .report + 1) (l ++ replicate (w - length l) none) ≡ l = take-at _ _ _ c in
     let i = walked-chain g in
     record {
@@ -199,7 +199,7 @@ module _ {n : ℕ} {starts neighbours : List ℕ} (acc : Accepted n starts neigh
       ∙ ap (walkOf w n (threshold n) G full low a b) (p .5)
       ∙ ap (fit w x) f in
       let j = short-fit w x l in
-      (λ q. i .0 (j .0 (sym (rw o) ∙ q)), λ h. ap (λ (y : AfterWalking). y .answer) o ∙ j .1 (i .1 h))
+      (λ q. i .0 (j .0 (sym (rw o) ∙ q)), λ h. rw o (j .1 (i .1 h)))
 
   -- tables built with any threshold
   module _ {s : ℕ} {full low report : List ℕ} (own : AreBuilt n s (neighboursOf starts neighbours) full low report) {a b : ℕ}
@@ -236,7 +236,7 @@ module _ {n : ℕ} {starts neighbours : List ℕ} (acc : Accepted n starts neigh
       let p = taken-right g (acc .size) own ha hb in
       let i = pair-built g (acc .size) own ha hb (taken n full a b) p in
       let q : withRoute (entryAt n report a b) (i .0) ≡ x = cc (asked own ha hb, i .1) in
-      ap (λ (y : AfterWalking). y .answer) (walks full low report (full-room own) (low-room own) (report-room own) ha hb w)
+      (rw (walks full low report (full-room own) (low-room own) (report-room own) ha hb w))
       ∙ walk-built g (acc .size) own ha hb (taken n full a b) p w
       (subst (λ (y : Answer). (y .report ≡ none) ⊎ (y .report < w)) (sym q) room)
       ∙ sym (asked own ha hb) ∙ e

@@ -81,7 +81,7 @@ module _ (n : ℕ) (f : ℕ → ℕ → ℕ) where
 
   pub entry-table : (a b : ℕ) → a < n → b < n → entryAt n (table n f) a b ≡ f a b
   unfolding table upTo rows entryAt rowsOf
-  entry-table a b ha hb = getD-rows _ _ _ _ ha hb ∙ ap (λ (x : ℕ). f x b) (zero-add _)
+  entry-table a b ha hb = getD-rows _ _ _ _ ha hb ∙ rw (zero-add _)
 
 -- an entry's place in its table; and a table has at most 1,048,576 entries
 pub place-inside : (n a b : ℕ) → a < n → b < n → a * n + b < n * n

@@ -88,11 +88,9 @@ links-front n (suc m) done (c ∷ text) (suc k) h =
         → ((a b : ℕ) (rest : List ℕ) (j : ℕ) → 24 * m < j
         → readLinks n m ((a, b) ∷ done) (take j rest) ≡ readLinks n m ((a, b) ∷ done) rest)
         → readOn next (linkOf n (named done) (line 76 (take (suc k) (c ∷ text)))) ≡ readOn next (linkOf n (named done) (line 76 (c ∷ text)))
-    at (no-line e f) rec = ap (λ (o : Option (ℕ × ℕ × List ℕ)). readOn next (linkOf n (named done) o)) (f ∙ sym e)
+    at (no-line e f) rec = rw (f, e)
     at (same-line x y rest j i e f) rec =
-        ap (λ (o : Option (ℕ × ℕ × List ℕ)). readOn next (linkOf n (named done) o)) f
-        ∙ link-same n (named done) next (rec x y rest j (omega arith))
-        ∙ sym (rw e)
+        rw (f, e) (link-same n (named done) next (rec x y rest j (omega arith)))
 
 -- ---- the whole text
 
@@ -115,11 +113,9 @@ unfolding parse
 parse-front N M p q text k h = at (line-front _ (omega arith) _ _ (omega arith))
   where
     at : FrontLine 83 text k → parseLinks (countsOf N M p q (line 83 (take k text))) ≡ parseLinks (countsOf N M p q (line 83 text))
-    at (no-line e f) = ap (λ (o : Option (ℕ × ℕ × List ℕ)). parseLinks (countsOf N M p q o)) (f ∙ sym e)
+    at (no-line e f) = rw (f, e)
     at (same-line x y rest j i e f) =
-        ap (λ (o : Option (ℕ × ℕ × List ℕ)). parseLinks (countsOf N M p q o)) f
-        ∙ counts-same N M p q x y _ _ (λ m. links-front x y [] _ j (omega arith))
-        ∙ sym (rw e)
+        rw (f, e) (counts-same N M p q x y _ _ (λ m. links-front x y [] _ j (omega arith)))
 
 -- a text is read as its first 393,241 bytes are
 pub reading-front : (text : List ℕ) (p q k : ℕ) → 24 * (16384 + 1) < k → reading (take k text) p q ≡ reading text p q

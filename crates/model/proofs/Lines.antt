@@ -44,7 +44,7 @@ cut-is c (x ∷ s) p q e = at (eqb x c) refl (cut c s) e (λ p q. cut-is c s _ _
     at false h missing e rec = no-value e
     at false h (some r) e rec =
         let f : _≡_ {A = List ℕ × List ℕ} (x ∷ r .0, r .1) (p, q) = cc in
-        ap (λ (t : List ℕ). x ∷ t) (rec (r .0) (r .1) refl)
+        (rw (rec (r .0) (r .1) refl))
         ∙ ap₂ (λ (s t : List ℕ). s ++ c ∷ t) (ap (λ (r : List ℕ × List ℕ). r .0) f) (ap (λ (r : List ℕ × List ℕ). r .1) f)
 
 -- ---- the fields
@@ -96,9 +96,9 @@ joined-split c (x ∷ s) = at (eqb x c) refl (joined-split c s) (split-some c s)
     at : (b : Bool) → eqb x c ≡ b → joined c (split c s) ≡ s → ((f : List ℕ) × (fs : List (List ℕ)) × (split c s ≡ f ∷ fs))
         → joined c (if b then [] ∷ split c s else onFirst x (split c s)) ≡ x ∷ s
     at true h e i =
-        ap (λ (r : List (List ℕ)). joined c ([] ∷ r)) (i .2)
+        (rw (i .2))
         ∙ ap₂ (λ (z : ℕ) (t : List ℕ). z ∷ t) (sym (eqb-true _ _ h)) (ap (joined c) (sym (i .2)) ∙ e)
-    at false h e i = joined-first _ _ _ ∙ ap (λ (t : List ℕ). x ∷ t) e
+    at false h e i = joined-first _ _ _ ∙ rw e
 
 -- ---- the line
 
@@ -157,7 +157,7 @@ module _ (letter : ℕ) (after : 44 < letter) (x y : ℕ) (hx : x < 10 ^ 10) (hy
   line-complete =
       ap (line letter) line-body
       ∙ ap (lineIn letter) (cut-at _ _ _ body-free)
-      ∙ ap (λ (fs : List (List ℕ)). withRest rest (twoNumbers letter fs)) fields
+      ∙ (rw fields)
       ∙ ap (withRest rest) numbers
 
 pub record IsLine (letter : ℕ) (text : List ℕ) (x y : ℕ) (rest : List ℕ) : Type 0 where
@@ -197,7 +197,7 @@ numbers-sound letter (l ∷ f ∷ g ∷ []) x y e = at (A && B && C) refl e
         let el = same-eq _ _ (and-l A _ (and-l (A && B) _ all)) in
         let ef : f ≡ digits x = sym (digits-value _ tb) ∙ ap digits qx in
         let eg : g ≡ digits y = sym (digits-value _ tc) ∙ ap digits qy in (
-          ap (λ (r : List ℕ). r ∷ f ∷ g ∷ []) el ∙ ap₂ (λ (r s : List ℕ). (letter ∷ []) ∷ r ∷ s ∷ []) ef eg,
+          rw (el, ef, eg),
           subst (λ (k : ℕ). k < 10 ^ 10) qx (value-below _ tb),
           subst (λ (k : ℕ). k < 10 ^ 10) qy (value-below _ tc),
         )

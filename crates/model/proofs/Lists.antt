@@ -273,12 +273,12 @@ keep-append p (x ∷ k) l = go (p x) (keep-append p k _)
 pub any-append : (p : ℕ → Bool) (k l : List ℕ) → any p (k ++ l) ≡ (any p k || any p l)
 unfolding any
 any-append p [] l = refl
-any-append p (x ∷ k) l = ap (λ (b : Bool). p x || b) (any-append p k _) ∙ sym (or-assoc (p x) _ _)
+any-append p (x ∷ k) l = rw (any-append p k l) (sym (or-assoc (p x) _ _))
 
 pub gather-append : {A B : Type 0} (f : A → List B) (k l : List A) → gather f (k ++ l) ≡ gather f k ++ gather f l
 unfolding gather
 gather-append f [] l = refl
-gather-append {B = B} f (x ∷ k) l = ap (λ (r : List B). f x ++ r) (gather-append f k _) ∙ sym (append-assoc (f x) _ _)
+gather-append f (x ∷ k) l = rw (gather-append f k l) (sym (append-assoc (f x) _ _))
 
 pub gather-same : {B : Type 0} (f g : ℕ → List B) (l : List ℕ) → ((x : ℕ) → T (has x l) → f x ≡ g x) → gather f l ≡ gather g l
 unfolding gather
@@ -292,11 +292,11 @@ unfolding from
 from-add k zero j = ap₂ (λ (a b : ℕ). from a b) (sym (add-zero k)) (zero-add j)
 from-add k (suc m) j =
     ap (from k) (suc-add m _)
-    ∙ ap (λ (r : List ℕ). k ∷ r) (from-add (suc k) m j ∙ ap (λ (x : ℕ). from (suc k) m ++ from x j) (suc-add _ _ ∙ sym (add-suc _ _)))
+    ∙ rw (from-add (suc k) m j ∙ ap (λ (x : ℕ). from (suc k) m ++ from x j) (suc-add _ _ ∙ sym (add-suc _ _)))
 
 pub upTo-add : (u k n : ℕ) → u + k ≡ n → upTo n ≡ upTo u ++ from u k
 unfolding upTo
-upTo-add u k n e = ap (from 0) (sym e) ∙ from-add _ _ _ ∙ ap (λ (x : ℕ). from 0 u ++ from x k) (zero-add _)
+upTo-add u k n e = ap (from 0) (sym e) ∙ from-add _ _ _ ∙ rw (zero-add _)
 
 pub from-split : (v k n : ℕ) → v + suc k ≡ n → upTo n ≡ upTo v ++ v ∷ from (suc v) k
 unfolding from
@@ -312,7 +312,7 @@ unfolding gather
 gather-suc {B} f n =
     ap (gather f) (upTo-suc _)
     ∙ gather-append f (upTo n) _
-    ∙ ap (λ (l : List B). gather f (upTo n) ++ l) (append-nil _)
+    ∙ rw (append-nil _)
 
 -- ---- two tests on one list
 
@@ -337,8 +337,8 @@ keep-keep p q (y ∷ ys) = go (q y) (p y) refl (keep-keep p q ys)
   where
     go : (b c : Bool) → p y ≡ c → keep p (keep q ys) ≡ keep (λ x. q x && p x) ys
         → keep p (if b then y ∷ keep q ys else keep q ys) ≡ (if b && c then y ∷ keep (λ x. q x && p x) ys else keep (λ x. q x && p x) ys)
-    go true true e r = ap (λ (b : Bool). if b then y ∷ keep p (keep q ys) else keep p (keep q ys)) e ∙ ap (λ (t : List ℕ). y ∷ t) r
-    go true false e r = ap (λ (b : Bool). if b then y ∷ keep p (keep q ys) else keep p (keep q ys)) e ∙ r
+    go true true e r = ap (λ (b : Bool). if b then y ∷ keep p (keep q ys) else keep p (keep q ys)) e ∙ (rw r)
+    go true false e r = rw e r
     go false c e r = r
 
 pub keep-none : (p : ℕ → Bool) (l : List ℕ) → ((x : ℕ) → T (has x l) → T (p x) → ⊥) → keep p l ≡ []
@@ -403,7 +403,7 @@ same-refl (x ∷ l) = and-i (eqb x x) _ (eqb-refl x) (same-refl l)
 pub gather-gather : {A B C : Type 0} (f : B → List C) (g : A → List B) (l : List A) → gather f (gather g l) ≡ gather (λ x. gather f (g x)) l
 unfolding gather
 gather-gather f g [] = refl
-gather-gather {C = C} f g (x ∷ l) = gather-append f (g x) _ ∙ ap (λ (r : List C). gather f (g x) ++ r) (gather-gather f g l)
+gather-gather f g (x ∷ l) = gather-append f (g x) _ ∙ rw (gather-gather f g l)
 
 pub gather-map : {A B C : Type 0} (f : B → List C) (g : A → B) (l : List A) → gather f (map g l) ≡ gather (λ x. f (g x)) l
 unfolding gather

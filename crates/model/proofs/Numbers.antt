@@ -33,7 +33,7 @@ within-any (suc f) zero n h k = absurd (not-suc-le-zero k)
 within-any (suc f) (suc g) n h k =
     ⊎-elim
     (λ l. within-small _ _ l ∙ sym (within-small _ _ l))
-    (λ l. within-more _ _ l ∙ ap (λ (t : List ℕ). t ++ ((48 + n % 10) ∷ [])) (within-any f g (n / 10) (omega arith) (omega arith))
+    (λ l. within-more _ _ l ∙ (rw (within-any f g (n / 10) (omega arith) (omega arith)))
     ∙ sym (within-more _ _ l))
     (lt-or n 10)
 
@@ -123,7 +123,7 @@ digits-one : (b : ℕ) → T (isDigit b) → digits (b - 48) ≡ b ∷ []
 digits-one b t =
     let h = digit-bounds _ t in
     let e : 48 + (b - 48) ≡ b = omega arith in
-    digits-small (b - 48) (omega arith) ∙ ap (λ (x : ℕ). x ∷ []) e
+    digits-small (b - 48) (omega arith) ∙ rw e
 
 digits-step : (v b : ℕ) → 0 < v → T (isDigit b) → digits (v * 10 + (b - 48)) ≡ digits v ++ (b ∷ [])
 digits-step v b p t =
@@ -207,7 +207,7 @@ first-digit =
     (λ n l p. (48 + n, [], digits-small _ l, omega arith))
     (λ n l ih p.
     let f = ih (omega arith) in
-    (f .0, f .1 ++ ((48 + n % 10) ∷ []), digits-more _ l ∙ ap (λ (x : List ℕ). x ++ ((48 + n % 10) ∷ [])) (f .2), f .3))
+    (f .0, f .1 ++ ((48 + n % 10) ∷ []), digits-more _ l ∙ rw (f .2), f .3))
 
 -- the text of a number of at most ten digits is one that the text rule admits
 pub digits-number : (n : ℕ) → n < 10 ^ 10 → T (isNumber (digits n))

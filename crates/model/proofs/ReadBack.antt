@@ -164,7 +164,7 @@ module _ (N M p q : ℕ) (nodes : N ≤ 1024) (links : M ≤ 16384) (text : List
       outside : (v : ℕ) → x .nodes ≤ v → neighboursOf s l v ≡ graphOf (x .nodes) (x .links) v
       outside v h =
           let z : getD s (v + 1) 0 - getD s v 0 ≡ 0 = omega (arith, past-starts (x .nodes) (graphOf (x .nodes) (x .links)) p v h) in
-          ap (λ (k : ℕ). take k (drop (getD s v 0) l)) z
+          (rw z)
           ∙ sym (keep-none _ _
           (λ y m t. absurd (omega (arith, named-below (x .nodes) (x .links) [] (facts .fresh) v _ t .0))))
 
@@ -217,7 +217,7 @@ unfolding named
 named-append [] ls a b = refl
 named-append (k ∷ ks) ls a b =
     let X = (eqb (k .0) a && eqb (k .1) b) || (eqb (k .0) b && eqb (k .1) a) in
-    ap (λ (t : Bool). X || t) (named-append ks _ _ _) ∙ sym (or-assoc X _ _)
+    rw (named-append ks ls a b) (sym (or-assoc X _ _))
 
 -- the links of node a to the nodes of a list
 row : ℕ → List ℕ → List (ℕ × ℕ)
@@ -413,4 +413,4 @@ writing-right n starts neighbours buffer k e p q hp hq = at (accepting n starts 
     at (refused j) i f = never f
     at (answered x) i f =
         let acc = accepting-facts _ _ _ _ i in
-        ap (λ (t : List ℕ). reading t p q) (written-text _ _ _ acc _ k e) ∙ read-back _ _ _ acc _ _ hp hq
+        rw (written-text _ _ _ acc _ k e) (read-back _ _ _ acc _ _ hp hq)

@@ -146,7 +146,7 @@ pub record Agree (n : ℕ) (starts neighbours starts′ neighbours′ : List ℕ
 module _ {n : ℕ} {starts neighbours starts′ neighbours′ : List ℕ} (e : Agree n starts neighbours starts′ neighbours′) where
   same-start : (v : ℕ) → v ≤ n → getD starts v 0 ≡ getD starts′ v 0
   same-start v h =
-      sym (getD-take (n + 1) starts v 0 (omega arith)) ∙ ap (λ (l : List ℕ). getD l v 0) (e .starts-used)
+      sym (getD-take (n + 1) starts v 0 (omega arith)) ∙ (rw (e .starts-used))
       ∙ getD-take (n + 1) starts′ v 0 (omega arith)
 
   -- the same with the two pairs exchanged
@@ -167,7 +167,7 @@ module _ {n : ℕ} {starts neighbours starts′ neighbours′ : List ℕ} (e : A
       let r = start-last _ starts (s .rising) (v + 1) (omega arith) in
       let w : a + (b - a) ≤ m = omega arith in
       sym (part-front a (b - a) m neighbours w)
-      ∙ ap (λ (l : List ℕ). take (b - a) (drop a l)) (e .neighbours-used)
+      ∙ (rw (e .neighbours-used))
       ∙ part-front a (b - a) m neighbours′ w
       ∙ ap₂ (λ (i j : ℕ). take (j - i) (drop i neighbours′)) (same-start v (omega arith)) (same-start (v + 1) (omega arith))
 

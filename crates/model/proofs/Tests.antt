@@ -67,7 +67,7 @@ same-test false true f g = absurd (g tt)
 same-test false false f g = refl
 
 pub or-false : (a b : Bool) → a ≡ false → b ≡ false → (a || b) ≡ false
-or-false a b p q = ap (λ (t : Bool). t || b) p ∙ q
+or-false a b p q = rw p q
 
 pub of-or-false : (a b : Bool) → (a || b) ≡ false → (a ≡ false) × (b ≡ false)
 of-or-false true b e = absurd (subst T e tt)
@@ -75,7 +75,7 @@ of-or-false false b e = (refl, e)
 
 -- three tests in another order
 pub or-turned : (a b c : Bool) → (a || (b || c)) ≡ ((b || a) || c)
-or-turned a b c = sym (or-assoc a b c) ∙ ap (λ (t : Bool). t || c) (or-comm a b)
+or-turned a b c = sym (or-assoc a b c) ∙ rw (or-comm a b)
 
 pub not-and : (a b : Bool) → not (a && b) ≡ (not a || not b)
 not-and true b = refl

@@ -29,7 +29,7 @@ sumOver f (x ∷ xs) = f x + sumOver f xs
 gather-sum : (f : ℕ → List ℕ) (l : List ℕ) → length (gather f l) ≡ sumOver (λ x. length (f x)) l
 unfolding gather sumOver
 gather-sum f [] = refl
-gather-sum f (x ∷ l) = length-append (f x) _ ∙ ap (λ (k : ℕ). length (f x) + k) (gather-sum f l)
+gather-sum f (x ∷ l) = length-append (f x) _ ∙ rw (gather-sum f l)
 
 keep-sum : (p : ℕ → Bool) (l : List ℕ) → length (keep p l) ≡ sumOver (λ x. bit (p x)) l
 unfolding keep sumOver bit

@@ -178,7 +178,7 @@ module _ (n s : ℕ) (G : Graph) (g : IsGraph n G) (size : n ≤ 1024) where
     where
       low : (v : ℕ) → v < n → T (isLow s G v) → ((u : ℕ) → u < v → T (isHigh s G u)) → {hs : List ℕ} → Sources hs
           → length hs ≡ length (G v) + 1
-      low v b t l (round u c q m) = ap (λ (x : ℕ). suc (length (G x))) (smallest (lt-or u v) (lt-or v u)) ∙ sym (add-one _)
+      low v b t l (round u c q m) = rw (smallest (lt-or u v) (lt-or v u)) (sym (add-one _))
         where
           smallest : (u < v) ⊎ (v ≤ u) → (v < u) ⊎ (u ≤ v) → u ≡ v
           smallest (inl h) k = absurd (T-not (isHigh s G u) q (l u h))
