@@ -337,7 +337,7 @@ keep-keep p q (y ∷ ys) = go (q y) (p y) refl (keep-keep p q ys)
   where
     go : (b c : Bool) → p y ≡ c → keep p (keep q ys) ≡ keep (λ x. q x && p x) ys
         → keep p (if b then y ∷ keep q ys else keep q ys) ≡ (if b && c then y ∷ keep (λ x. q x && p x) ys else keep (λ x. q x && p x) ys)
-    go true true e r = ap (λ (b : Bool). if b then y ∷ keep p (keep q ys) else keep p (keep q ys)) e ∙ (rw r)
+    go true true e r = rw (e, r)
     go true false e r = rw e r
     go false c e r = r
 
