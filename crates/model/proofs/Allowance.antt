@@ -115,7 +115,7 @@ module _ {n : ℕ} (s : ℕ) {G : Graph} (g : IsGraph n G) where
       → Chain (linked n G) (entryAt n (reportTable n s G) a b) a b
   unfolding routes
   report-chain {a} {b} ha hb = subst P (sym (report-entry ha hb)) (picked P (eqb a b) _ _
-      (λ e f. subst (λ (z : ℕ). Chain (linked n G) 0 a z) (eqb-true a b e) here)
+      (λ e f. rw (← eqb-true a b e) here)
       (λ _. ⊎-elim
       (λ e. subst P (sym e) (λ f. widen (low-widen n s G g) (low-is s g ha hb f .2 .0)))
       (λ r. subst P (sym (r .2)) (via-chain ha hb (hubs-below n G s (r .0) (r .1))))

@@ -1,7 +1,7 @@
 -- Chains, by their count of links and as lists of nodes. `fewest` is the least number of links in a chain, for any graph whose links
 -- lead from nodes below n to nodes below n.
 -- Assumes nothing.
-use mathlib.Core.Path.{_≡_, refl, ap, subst}
+use mathlib.Core.Path.{_≡_, refl, ap}
 use mathlib.Core.Logic.{_⊎_, inl, inr, ⊎-elim}
 use mathlib.Core.List.{List, [], _∷_}
 use Prim.Native.Nat.{ℕ, zero, suc, _+_, _≤_, _<_, suc-le-suc, zero-le}
@@ -105,7 +105,7 @@ module _ (E : Edges) (n a : ℕ) where
     -- and the other end of a chain of k links is reached with k
     complete : (k v : ℕ) → Chain E k a v → Reached k v
     unfolding reach
-    complete zero v c = subst (λ (z : ℕ). T (has z (a ∷ []))) (chain-zero c) (has-head _ _)
+    complete zero v c = rw (← chain-zero c) (has-head _ _)
     complete (suc k) v c =
         let s = split-last c in
         step k _ _ (inside ends start c) (complete k (s .0) (s .1)) (s .2)

@@ -1,7 +1,7 @@
 -- Demand 3 for the calls themselves, with their refusals: for an accepted survey, and tables built from it.
 -- Assumes nothing.
 use mathlib.Core.Path.{_≡_, refl, sym, ap, _∙_, subst}
-use mathlib.Core.Logic.{_⊎_, ⊎-elim, _↔_}
+use mathlib.Core.Logic.{⊎-elim, _↔_}
 use mathlib.Core.Bool.{Bool, true, false, not, _||_}
 use mathlib.Core.List.{List, _++_}
 use mathlib.Core.Option.{some}
@@ -238,7 +238,7 @@ module _ {n : ℕ} {starts neighbours : List ℕ} (acc : Accepted n starts neigh
       let q : withRoute (entryAt n report a b) (i .0) ≡ x = cc (asked own ha hb, i .1) in
       (rw (walks full low report (full-room own) (low-room own) (report-room own) ha hb w))
       ∙ walk-built g (acc .size) own ha hb (taken n full a b) p w
-      (subst (λ (y : Answer). (y .report ≡ none) ⊎ (y .report < w)) (sym q) room)
+      (rw (← q) at room)
       ∙ sym (asked own ha hb) ∙ e
 
 -- building into lists that are long enough

@@ -90,7 +90,7 @@ pub links-sound : (n m : ℕ) (done : List (ℕ × ℕ)) (text : List ℕ) (ls :
 unfolding readLinks readOn onLinks linkLines gather
 links-sound n zero done [] ls e =
     let q : _≡_ {A = List (ℕ × ℕ)} [] ls = cc in
-    subst (λ (k : List (ℕ × ℕ)). LinesRead n zero done [] k) q (record { is-text = refl; count = refl; fresh = tt })
+    rw (← q) (record { is-text = refl; count = refl; fresh = tt })
 links-sound n zero done (c ∷ text) ls e = never e
 links-sound n (suc m) done [] ls e = never e
 links-sound n (suc m) done (c ∷ text) ls e =
@@ -107,7 +107,7 @@ links-sound n (suc m) done (c ∷ text) ls e =
     more l rest (answered ks) t f e rec =
         let q : l ∷ ks ≡ ls = cc in
         let r = rec ks refl in
-        subst (λ (k : List (ℕ × ℕ)). LinesRead n (suc m) done (c ∷ text) k) q (record {
+        rw (← q) (record {
           is-text = t .is-text ∙ ap (λ (k : List ℕ). lineOf 76 (l .0) (l .1) ++ k) (r .is-text);
           count = ap suc (r .count);
           fresh = (f, r .fresh);
@@ -205,8 +205,8 @@ module _ (N M p q : ℕ) where
           let y : _≡_ {A = Parsed} (record { nodes = n; links = ls }) x = cc in
           let g = links-sound _ _ _ (f .2) ls i in
           let l = line-sound 83 text n m (f .2) h in
-          subst (λ (z : Parsed). TextRead N M p q text z) y (record {
-            within = subst (λ (k : ℕ). Within N M p q n k) (sym (g .count)) w;
+          rw (← y) (record {
+            within = rw (g .count) w;
             is-text = l .is-text ∙ ap₂ (λ (k : ℕ) (t : List ℕ). lineOf 83 n k ++ t) (sym (g .count)) (g .is-text);
             fresh = g .fresh;
           })

@@ -68,7 +68,7 @@ has-keep p (y ∷ ys) x h t = go (p y) refl (of-cons _ _ ys h) (λ r. has-keep p
   where
     go : (b : Bool) → p y ≡ b → (x ≡ y) ⊎ T (has x ys) → (T (has x ys) → T (has x (keep p ys)))
         → T (has x (if b then y ∷ keep p ys else keep p ys))
-    go true e (inl q) rec = subst (λ (z : ℕ). T (has x (z ∷ keep p ys))) q (has-head x (keep p ys))
+    go true e (inl q) rec = rw (← q) (has-head x (keep p ys))
     go true e (inr r) rec = has-tail x _ (keep p ys) (rec r)
     go false e (inl q) rec = absurd (subst T e (rw q at t))
     go false e (inr r) rec = rec r
@@ -81,7 +81,7 @@ of-keep p (y ∷ ys) x h = go (p y) refl h (λ r. of-keep p ys x r)
     go : (b : Bool) → p y ≡ b → T (has x (if b then y ∷ keep p ys else keep p ys))
         → (T (has x (keep p ys)) → T (has x ys) × T (p x)) → T (has x (y ∷ ys)) × T (p x)
     go true e h rec = ⊎-elim
-        (λ q. (subst (λ (z : ℕ). T (has x (z ∷ ys))) q (has-head x ys), rw q (subst T (sym e) tt)))
+        (λ q. (rw (← q) (has-head x ys), rw q (subst T (sym e) tt)))
         (λ r. let i = rec r in (has-tail x _ ys (i .0), i .1))
         (of-cons _ _ (keep p ys) h)
     go false e h rec = let i = rec h in (has-tail x _ ys (i .0), i .1)
@@ -92,7 +92,7 @@ pub has-from : (k m x : ℕ) → k ≤ x → x < k + m → T (has x (from k m))
 unfolding from
 has-from k zero x lo hi = absurd (omega arith)
 has-from k (suc m) x lo hi = ⊎-elim
-    (λ e. subst (λ (z : ℕ). T (has x (z ∷ from (suc k) m))) e (has-head _ _))
+    (λ e. rw (← e) (has-head _ _))
     (λ d. has-tail _ _ _ (has-from (suc k) m _ (omega arith) (omega arith)))
     (eq-or x k)
 

@@ -1,6 +1,6 @@
 -- Laws of the decimal text of a number. Exactly the texts of numbers of at most ten digits are accepted.
 -- Assumes nothing.
-use mathlib.Core.Path.{_≡_, refl, sym, ap, _∙_, subst}
+use mathlib.Core.Path.{_≡_, refl, sym, ap, _∙_}
 use mathlib.Core.Logic.{_⊎_, inl, inr, ⊎-elim}
 use mathlib.Core.Bool.{true, not, _&&_, _||_}
 use mathlib.Core.List.{List, [], _∷_, _++_, append-assoc, append-nil}
@@ -198,7 +198,7 @@ number-length (d ∷ ds) n = suc-le-suc (number-text _ _ n .few)
 
 -- and their value is below 10 ^ 10
 pub value-below : (t : List ℕ) → T (isNumber t) → valueOf t < 10 ^ 10
-value-below t n = below-pow _ _ (subst (λ (x : List ℕ). length x ≤ 10) (sym (digits-value _ n)) (number-length _ n))
+value-below t n = below-pow _ _ (rw (← digits-value _ n) at (number-length _ n))
 
 -- the text of a positive number does not begin with 0
 first-digit : (n : ℕ) → 0 < n → (h : ℕ) × (t : List ℕ) × (digits n ≡ h ∷ t) × (48 < h)

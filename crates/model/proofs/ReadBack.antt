@@ -178,7 +178,7 @@ reading-right text p q x e = at (parse 1024 16384 p q text) refl e
     at (refused k) h e = never e
     at (answered y) h e =
         let s : _≡_ {A = Size} (record { nodes = y .nodes; links = length (y .links) }) x = cc in
-        subst (λ (z : Size). IsRead text z (readingOf p q (answered y) .starts) (readingOf p q (answered y) .neighbours)) s (record {
+        rw (← s) (record {
           survey = read-accepted _ _ _ _ (omega arith) (omega arith) text y h;
           links = y .links;
           count = refl;
@@ -234,7 +234,7 @@ row-sound a (b ∷ l) u v t = ⊎-elim
     (named-cases (a, b) (row a l) u v t)
   where
     this : {k : ℕ} → b ≡ k → T (has k (b ∷ l))
-    this e = subst (λ (k : ℕ). T (has k (b ∷ l))) e (has-head _ _)
+    this e = rw (← e) (has-head _ _)
 
 row-complete : (a : ℕ) (l : List ℕ) (v : ℕ) → T (has v l) → T (named (row a l) a v)
 unfolding row named

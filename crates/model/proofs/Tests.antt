@@ -82,7 +82,7 @@ not-and true b = refl
 not-and false b = refl
 
 pub eq-T : (x y : ℕ) → x ≡ y → T (eqb x y)
-eq-T x y e = subst (λ (z : ℕ). T (eqb x z)) e (eqb-refl x)
+eq-T x y e = rw (← e) (eqb-refl x)
 
 pub eq-or : (x y : ℕ) → (x ≡ y) ⊎ (x ≡ y → ⊥)
 eq-or x y = go (eqb x y) refl

@@ -76,7 +76,7 @@ module _ (n s : ℕ) (G : Graph) (g : IsGraph n G) (size : n ≤ 1024) where
       ⊎-elim
       (λ e.
       let r = near c v (has-head _ _) hv in
-      (r .0, le-trans (r .1) (omega arith), subst (λ (z : ℕ). Chain (linked n G) (r .0) z v) e (r .2)))
+      (r .0, le-trans (r .1) (omega arith), rw (← e) (r .2)))
       (λ p.
       let r = near (p .1) v (has-tail _ _ _ (linked-has _ _ _ _ (p .3))) hv in
       (p .0 + r .0, omega (arith, p .2, q .1, r .1), append (turn (linked-sym n G) (p .4)) (r .2)))

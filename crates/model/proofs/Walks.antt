@@ -355,7 +355,7 @@ module _ {n : ℕ} (s : ℕ) {G : Graph} (g : IsGraph n G) (full low : List ℕ)
     pub route-sound : (x : Answer) → Chosen-here (answered x) → (x .report ≡ none → ⊥)
         → Sound (linked n G) (x .report) a b (walkNodes n s G full low a b (x .route))
     unfolding walkNodes
-    route-sound x (to-itself e z) m = (subst (λ (y : ℕ). Walked (linked n G) (a ∷ []) a y) e stop, refl)
+    route-sound x (to-itself e z) m = (rw (← e) stop, refl)
     route-sound x (to-none f e) m = absurd (m refl)
     route-sound x (to-low f g e) m = rw e at low-sound
     route-sound x (to-hub f g y z) m =
