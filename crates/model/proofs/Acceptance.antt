@@ -1,8 +1,8 @@
 -- An accepted survey as a test and as facts, each from the other; and what the facts say of its graph.
 -- Assumes nothing.
-use mathlib.Core.Path.{_≡_, refl, sym, ap, _∙_, subst}
-use mathlib.Core.Logic.{_⊎_, inl, inr}
-use mathlib.Core.Bool.{Bool, true, false, not, _&&_, _||_}
+use mathlib.Core.Path.{_≡_, refl, ap, _∙_}
+use mathlib.Core.Logic.{⊎-elim, _↔_}
+use mathlib.Core.Bool.{Bool, true, false, not, _&&_}
 use mathlib.Core.List.{List}
 use Prim.Native.Nat.{ℕ, _+_, _/_, _%_, _≤_, _<_}
 use native.Mathlib.Omega.{arith}
@@ -22,9 +22,10 @@ module _ (n : ℕ) (starts neighbours : List ℕ) where
   own : ℕ → ℕ → Bool
   own v x = ltb x n && not (eqb x v) && has v (neighboursOf starts neighbours x)
 
-  pub survey-facts : T (isSurvey n starts neighbours) → IsSurvey n starts neighbours
+  -- each of the seven tests is one fact
+  survey-both : T (isSurvey n starts neighbours) ↔ IsSurvey n starts neighbours
   unfolding isSurvey own
-  survey-facts t =
+  survey-both =
       let G : Graph = neighboursOf starts neighbours in
       let last = getD starts n 0 in
       let A = eqb (getD starts 0 0) 0 in
@@ -32,72 +33,66 @@ module _ (n : ℕ) (starts neighbours : List ℕ) where
       let C = eqb (last % 2) 0 in
       let D = leb (last / 2) 16384 in
       let E = leb last (length neighbours) in
-      let F = all (λ v. ascending (G v)) (upTo n) in
-      let H = all (λ v. all (λ x. own v x) (G v)) (upTo n) in
-      let t6 : T (A && B && C && D && E && F) = and-l (A && B && C && D && E && F) H t in
-      let t5 : T (A && B && C && D && E) = and-l (A && B && C && D && E) F t6 in
-      let t4 : T (A && B && C && D) = and-l (A && B && C && D) E t5 in
-      let t3 : T (A && B && C) = and-l (A && B && C) D t4 in
-      let t2 : T (A && B) = and-l (A && B) C t3 in
-      let own-facts : (v x : ℕ) → v < n → T (has x (G v)) → T (own v x) =
-      λ v x h m. of-all (λ x. own v x) (G v)
-      (of-all (λ v. all (λ x. own v x) (G v)) (upTo n) (and-r (A && B && C && D && E && F) H t) v (has-upTo n v h)) x m in
-      record {
-        first = eqb→eq (getD starts 0 0) 0 (and-l A B t2);
-        rising = λ v h. leb→le (getD starts v 0) (getD starts (v + 1) 0)
-            (of-all (λ v. leb (getD starts v 0) (getD starts (v + 1) 0)) (upTo n) (and-r A B t2) v (has-upTo n v h));
-        even = eqb→eq (last % 2) 0 (and-r (A && B) C t3);
-        few-links = leb→le (last / 2) 16384 (and-r (A && B && C) D t4);
-        within = leb→le last (length neighbours) (and-r (A && B && C && D) E t5);
-        sorted = λ v h. of-all (λ v. ascending (G v)) (upTo n) (and-r (A && B && C && D && E) F t6) v (has-upTo n v h);
-        loopless = λ v x h m e. T-not (eqb x v)
-            (and-r (ltb x n) (not (eqb x v)) (and-l (ltb x n && not (eqb x v)) (has v (G x)) (own-facts v x h m))) (eq-T x v e);
-        graph = record {
-          below =
-              λ v x h m. ltb→lt x n (and-l (ltb x n) (not (eqb x v)) (and-l (ltb x n && not (eqb x v)) (has v (G x)) (own-facts v x h m)));
-          symmetric = λ v x h m. and-r (ltb x n && not (eqb x v)) (has v (G x)) (own-facts v x h m);
-        };
-      }
+      let F = all (λ v. ascending (G v)) (upTo n) in (
+        λ t.
+            let t6 = and-l (A && B && C && D && E && F) _ t in
+            let t5 = and-l (A && B && C && D && E) _ t6 in
+            let t4 = and-l (A && B && C && D) _ t5 in
+            let t3 = and-l (A && B && C) _ t4 in
+            let t2 = and-l (A && B) _ t3 in
+            let own-facts : (v x : ℕ) → v < n → T (has x (G v)) → T (own v x) =
+            λ v x h m. of-all (λ x. own v x) _
+            (of-all (λ v. all (λ x. own v x) (G v)) _ (and-r (A && B && C && D && E && F) _ t) _ (has-upTo _ _ h)) _ m in
+            record {
+              first = eqb→eq _ _ (and-l A _ t2);
+              rising = λ v h. leb→le _ _ (of-all (λ v. leb (getD starts v 0) (getD starts (v + 1) 0)) _ (and-r A _ t2) _ (has-upTo _ _ h));
+              even = eqb→eq _ _ (and-r (A && B) _ t3);
+              few-links = leb→le _ _ (and-r (A && B && C) _ t4);
+              within = leb→le _ _ (and-r (A && B && C && D) _ t5);
+              sorted = λ v h. of-all (λ v. ascending (G v)) _ (and-r (A && B && C && D && E) _ t6) _ (has-upTo _ _ h);
+              loopless = λ v x h m e. T-not (eqb x v)
+                  (and-r (ltb x n) (not (eqb x v)) (and-l (ltb x n && not (eqb x v)) _ (own-facts v x h m))) (eq-T _ _ e);
+              graph = record {
+                below =
+                    λ v x h m. ltb→lt _ _ (and-l (ltb x n) (not (eqb x v)) (and-l (ltb x n && not (eqb x v)) _ (own-facts v x h m)));
+                symmetric = λ v x h m. and-r (ltb x n && not (eqb x v)) _ (own-facts v x h m);
+              };
+            },
+        λ s.
+            and-i (A && B && C && D && E && F) _
+            (and-i (A && B && C && D && E) _
+            (and-i (A && B && C && D) _
+            (and-i (A && B && C) _
+            (and-i (A && B) _
+            (and-i A _ (eq-T _ _ (s .first))
+            (all-of (λ v. leb (getD starts v 0) (getD starts (v + 1) 0)) _
+            (λ v h. le→leb _ _ (s .rising v (of-upTo _ _ h)))))
+            (eq-T _ _ (s .even)))
+            (le→leb _ _ (s .few-links)))
+            (le→leb _ _ (s .within)))
+            (all-of (λ v. ascending (G v)) _ (λ v h. s .sorted v (of-upTo _ _ h))))
+            (all-of (λ v. all (λ x. own v x) (G v)) _ (λ v h.
+            all-of (λ x. own v x) _ (λ x m.
+            let b = of-upTo _ _ h in
+            and-i (ltb x n && not (eqb x v)) _
+            (and-i (ltb x n) _ (lt→ltb _ _ (s .graph .below v x b m)) (not-T (eqb x v) (λ e. s .loopless v x b m (eqb→eq _ _ e))))
+            (s .graph .symmetric v x b m)))),
+      )
+
+  pub survey-facts : T (isSurvey n starts neighbours) → IsSurvey n starts neighbours
+  survey-facts = survey-both .0
 
   pub survey-test : IsSurvey n starts neighbours → T (isSurvey n starts neighbours)
-  unfolding isSurvey own
-  survey-test s =
-      let G : Graph = neighboursOf starts neighbours in
-      let last = getD starts n 0 in
-      let A = eqb (getD starts 0 0) 0 in
-      let B = all (λ v. leb (getD starts v 0) (getD starts (v + 1) 0)) (upTo n) in
-      let C = eqb (last % 2) 0 in
-      let D = leb (last / 2) 16384 in
-      let E = leb last (length neighbours) in
-      let F = all (λ v. ascending (G v)) (upTo n) in
-      let H = all (λ v. all (λ x. own v x) (G v)) (upTo n) in
-      and-i (A && B && C && D && E && F) H
-      (and-i (A && B && C && D && E) F
-      (and-i (A && B && C && D) E
-      (and-i (A && B && C) D
-      (and-i (A && B) C
-      (and-i A B (eq-T (getD starts 0 0) 0 (s .first))
-      (all-of (λ v. leb (getD starts v 0) (getD starts (v + 1) 0)) (upTo n)
-      (λ v h. le→leb (getD starts v 0) (getD starts (v + 1) 0) (s .rising v (of-upTo n v h)))))
-      (eq-T (last % 2) 0 (s .even)))
-      (le→leb (last / 2) 16384 (s .few-links)))
-      (le→leb last (length neighbours) (s .within)))
-      (all-of (λ v. ascending (G v)) (upTo n) (λ v h. s .sorted v (of-upTo n v h))))
-      (all-of (λ v. all (λ x. own v x) (G v)) (upTo n) (λ v h.
-      all-of (λ x. own v x) (G v) (λ x m.
-      let b = of-upTo n v h in
-      and-i (ltb x n && not (eqb x v)) (has v (G x))
-      (and-i (ltb x n) (not (eqb x v)) (lt→ltb x n (s .graph .below v x b m)) (not-T (eqb x v) (λ e. s .loopless v x b m (eqb→eq x v e))))
-      (s .graph .symmetric v x b m))))
+  survey-test = survey-both .1
 
 -- ---- the same for acceptance
 
 -- n is not outside exactly where it is from 1 to the limit
 pub in-range : (most n : ℕ) → 1 ≤ n → n ≤ most → outside most n ≡ false
-in-range most n p q = or-false (ltb n 1) (ltb most n) (le-ltb n 1 p) (le-ltb most n q)
+in-range most n p q = or-false _ _ (le-ltb _ _ p) (le-ltb _ _ q)
 
 pub of-in-range : (most n : ℕ) → outside most n ≡ false → (1 ≤ n) × (n ≤ most)
-of-in-range most n e = let h = of-or-false (ltb n 1) (ltb most n) e in (ltb-false n 1 (h .0), ltb-false most n (h .1))
+of-in-range most n e = let h = of-or-false _ _ e in (ltb-false _ _ (h .0), ltb-false _ _ (h .1))
 
 pub good-size : (n : ℕ) → 1 ≤ n → n ≤ 1024 → badSize n ≡ false
 unfolding badSize
@@ -105,11 +100,11 @@ good-size = in-range 1024
 
 pub small-size : (n : ℕ) → n < 1 → badSize n ≡ true
 unfolding badSize
-small-size n h = ap (λ (t : Bool). t || ltb 1024 n) (lt-ltb n 1 h)
+small-size n h = rw (lt-ltb _ _ h)
 
 pub large-size : (n : ℕ) → 1024 < n → badSize n ≡ true
 unfolding badSize
-large-size n h = T-true (outside 1024 n) (or-r (ltb n 1) (ltb 1024 n) (lt→ltb 1024 n h))
+large-size n h = T-true (outside 1024 n) (or-r (ltb n 1) _ (lt→ltb _ _ h))
 
 pub size-bounds : (n : ℕ) → badSize n ≡ false → (1 ≤ n) × (n ≤ 1024)
 unfolding badSize
@@ -119,11 +114,11 @@ module _ (n : ℕ) (starts neighbours : List ℕ) where
   -- the facts, where the three tests are passed
   pub tests-facts : badSize n ≡ false → ltb (length starts) (n + 1) ≡ false → not (isSurvey n starts neighbours) ≡ false
       → Accepted n starts neighbours
-  tests-facts size room lists = let b = size-bounds n size in record {
+  tests-facts size room lists = let b = size-bounds _ size in record {
     some-node = b .0;
     size = b .1;
-    room = ltb-false (length starts) (n + 1) room;
-    lists = survey-facts n starts neighbours (not-not (isSurvey n starts neighbours) lists);
+    room = ltb-false _ _ room;
+    lists = survey-facts _ _ _ (not-not (isSurvey n starts neighbours) lists);
   }
 
   pub accepted-facts : T (accepted n starts neighbours) → Accepted n starts neighbours
@@ -146,11 +141,11 @@ module _ (n : ℕ) (starts neighbours : List ℕ) where
 
   pub accepting-facts : (x : Unit {0}) → accepting n starts neighbours ≡ answered x → Accepted n starts neighbours
   unfolding accepted
-  accepting-facts x e = accepted-facts (subst (λ (o : Outcome (Unit {0})). T (isAnswered o)) (sym e) tt)
+  accepting-facts x e = accepted-facts (rw e tt)
 
   pub facts-accepted : Accepted n starts neighbours → T (accepted n starts neighbours)
   unfolding accepted
-  facts-accepted f = subst (λ (o : Outcome (Unit {0})). T (isAnswered o)) (sym (accepting-answers f)) tt
+  facts-accepted f = rw (accepting-answers f) tt
 
 -- ---- accepted lists are an undirected graph without loops on n nodes, whatever stands past the entries used
 
@@ -168,12 +163,11 @@ module _ (n : ℕ) (G : Graph) where
       let A = ltb a n in
       let B = ltb b n in
       let C = has b (G a) in
-      let D = has a (G b) in
       record {
-        first = ltb→lt a n (and-l A B (and-l (A && B) C (and-l (A && B && C) D t)));
-        second = ltb→lt b n (and-r A B (and-l (A && B) C (and-l (A && B && C) D t)));
-        there = and-r (A && B) C (and-l (A && B && C) D t);
-        back = and-r (A && B && C) D t;
+        first = ltb→lt _ _ (and-l A B (and-l (A && B) C (and-l (A && B && C) _ t)));
+        second = ltb→lt _ _ (and-r A B (and-l (A && B) C (and-l (A && B && C) _ t)));
+        there = and-r (A && B) C (and-l (A && B && C) _ t);
+        back = and-r (A && B && C) _ t;
       }
 
   pub is-linked : (a b : ℕ) → Link a b → T (linked n G a b)
@@ -182,47 +176,42 @@ module _ (n : ℕ) (G : Graph) where
       let A = ltb a n in
       let B = ltb b n in
       let C = has b (G a) in
-      let D = has a (G b) in
-      and-i (A && B && C) D (and-i (A && B) C (and-i A B (lt→ltb a n (l .first)) (lt→ltb b n (l .second))) (l .there)) (l .back)
+      and-i (A && B && C) _ (and-i (A && B) _ (and-i A _ (lt→ltb _ _ (l .first)) (lt→ltb _ _ (l .second))) (l .there)) (l .back)
 
   pub linked-has : (a b : ℕ) → T (linked n G a b) → T (has b (G a))
-  linked-has a b t = linked-is a b t .there
+  linked-has a b t = linked-is _ _ t .there
 
   pub linked-ends : (a b : ℕ) → a < n → T (linked n G a b) → b < n
-  linked-ends a b h t = linked-is a b t .second
+  linked-ends a b h t = linked-is _ _ t .second
 
   pub linked-sym : (a b : ℕ) → T (linked n G a b) → T (linked n G b a)
   linked-sym a b t =
-      let l = linked-is a b t in is-linked b a (record { first = l .second; second = l .first; there = l .back; back = l .there })
+      let l = linked-is _ _ t in is-linked _ _ (record { first = l .second; second = l .first; there = l .back; back = l .there })
 
   -- in a graph, each neighbour is linked
   pub linked-of : IsGraph n G → (a b : ℕ) → a < n → T (has b (G a)) → T (linked n G a b)
-  linked-of g a b h m = is-linked a b (record { first = h; second = g .below a b h m; there = m; back = g .symmetric a b h m })
+  linked-of g a b h m = is-linked _ _ (record { first = h; second = g .below a b h m; there = m; back = g .symmetric a b h m })
 
 module _ (n : ℕ) (starts neighbours : List ℕ) (acc : Accepted n starts neighbours) where
   abbrev pub graph : Graph
   graph = neighboursOf starts neighbours
 
   pub no-loop : (a : ℕ) → T (linked n (neighboursOf starts neighbours) a a) → ⊥
-  no-loop a t = let l = linked-is n (neighboursOf starts neighbours) a a t in acc .lists .loopless a a (l .first) (l .there) refl
+  no-loop a t = let l = linked-is _ _ _ _ t in acc .lists .loopless a a (l .first) (l .there) refl
 
   -- the neighbour count is the number of linked nodes
   pub degree : (v : ℕ) → v < n
       → length (keep (linked n (neighboursOf starts neighbours) v) (upTo n)) ≡ length (neighboursOf starts neighbours v)
   degree v h =
-      let G : Graph = neighboursOf starts neighbours in
       ap length (
-      keep-same (linked n G v) (λ x. has x (G v)) (upTo n)
-      (λ x m. linked-has n G v x) (λ x m. linked-of n G (acc .lists .graph) v x h)
-      ∙ ascending-keep (G v) n (acc .lists .sorted v h) (λ x m. acc .lists .graph .below v x h m)
+      keep-same _ _ _
+      (λ x m. linked-has _ _ _ _) (λ x m. linked-of _ _ (acc .lists .graph) _ _ h)
+      ∙ ascending-keep _ _ (acc .lists .sorted v h) (λ x m. acc .lists .graph .below v x h m)
       )
 
   -- so a node has fewer than n neighbours
   pub few-neighbours : (v : ℕ) → v < n → length (neighboursOf starts neighbours v) < n
-  few-neighbours v h = at (keep-grows (linked n graph v) (λ x. true) (upTo n) (λ x m t. tt))
-    where
-      at : ((x : ℕ) → T (has x (upTo n)) → T true → T (linked n (neighboursOf starts neighbours) v x))
-          ⊎ (length (keep (linked n (neighboursOf starts neighbours) v) (upTo n)) < length (keep (λ x. true) (upTo n)))
-          → length (neighboursOf starts neighbours v) < n
-      at (inl f) = absurd (no-loop v (f v (has-upTo n v h) tt))
-      at (inr l) = omega (arith, degree v h, keep-length (λ x. true) (upTo n), length-upTo n)
+  few-neighbours v h = ⊎-elim
+      (λ f. absurd (no-loop v (f v (has-upTo n v h) tt)))
+      (λ l. omega (arith, degree v h, keep-length (λ x. true) (upTo n), length-upTo n))
+      (keep-grows (linked n graph v) (λ x. true) (upTo n) (λ x m t. tt))

@@ -1,21 +1,22 @@
 -- The report table of a survey: none exactly where no chain joins the pair, else from the fewest links to two more.
 -- Assumes nothing. Holds for every threshold s.
 use mathlib.Core.Path.{_≡_, refl, sym, ap, _∙_, subst}
-use mathlib.Core.Logic.{_⊎_, inl, inr}
-use mathlib.Core.Bool.{Bool, true, false, not, _&&_, _||_}
+use mathlib.Core.Logic.{_⊎_, inl, inr, ⊎-elim}
+use mathlib.Core.Bool.{Bool, not, _&&_, _||_}
 use mathlib.Core.List.{List, [], _∷_}
 use Prim.Native.Nat.{ℕ, suc, _+_, _≤_, _<_, zero-le, min}
 use native.Mathlib.Nat.{zero-add, suc-add, le-refl, le-trans, min-le-left, min-le-right}
 use native.Mathlib.Omega.{arith}
 use native.Mathlib.Decide.{decLe}
-use lib.Dec.{T, eqb, eqb→eq, eqb-refl, not-T}
+use borrow.Author.Tests.{eqb-true, eqb-false}
+use lib.Dec.{T, eqb, eqb→eq, not-T}
 use Rattle.model.specs.Basics.{none, if_then_else_, has}
-use Rattle.model.specs.Graph.{Edges, between, Chain, here, link, Unjoined, Fewest, fewest, linked}
+use Rattle.model.specs.Graph.{Edges, between, Chain, here, link, linked}
 use Rattle.model.specs.Survey.{Graph, IsGraph}
 use Rattle.model.specs.Hubs.{isHigh, isLow, hubs}
 use Rattle.model.specs.Tables.{entryAt, fullTable, lowLinks, lowTable, sum, via, reportTable, least, reportEntry}
 use Rattle.model.specs.Demand.{Allowed}
-use Rattle.model.proofs.Tests.{and-i, passes}
+use Rattle.model.proofs.Tests.{and-i, or-e, true-T, of-or-false, passes, eq-or, picked}
 use Rattle.model.proofs.Lists.{of-cons, has-head, has-tail}
 use Rattle.model.proofs.Chains.{append, turn, widen, inside, fewest-cases}
 use Rattle.model.proofs.Acceptance.{linked-ends, linked-sym}
@@ -27,17 +28,16 @@ use Rattle.model.proofs.TableLaws.{full-is, full-joined, low-is, low-jo
 
 module _ (f : ℕ → ℕ) (base : ℕ) where
   pub least-base : (hs : List ℕ) → least f base hs ≤ base
-  least-base [] = le-refl base
-  least-base (h ∷ hs) = le-trans (min-le-right (f h) (least f base hs)) (least-base hs)
+  least-base [] = le-refl _
+  least-base (h ∷ hs) = le-trans (min-le-right _ _) (least-base hs)
 
   least-at : (hs : List ℕ) (h : ℕ) → T (has h hs) → least f base hs ≤ f h
   unfolding has
   least-at [] h m = absurd m
-  least-at (x ∷ xs) h m = go (of-cons h x xs m) (λ r. least-at xs h r)
-    where
-      go : (h ≡ x) ⊎ T (has h xs) → (T (has h xs) → least f base xs ≤ f h) → min (f x) (least f base xs) ≤ f h
-      go (inl e) rec = subst (λ (z : ℕ). min (f x) (least f base xs) ≤ f z) (sym e) (min-le-left (f x) (least f base xs))
-      go (inr r) rec = le-trans (min-le-right (f x) (least f base xs)) (rec r)
+  least-at (x ∷ xs) h m = ⊎-elim
+      (λ e. rw e (min-le-left _ _))
+      (λ r. le-trans (min-le-right _ _) (least-at xs h r))
+      (of-cons _ _ xs m)
 
   pub least-cases : (hs : List ℕ) → (least f base hs ≡ base) ⊎ ((h : ℕ) × T (has h hs) × (least f base hs ≡ f h))
   least-cases [] = inl refl
@@ -45,9 +45,9 @@ module _ (f : ℕ → ℕ) (base : ℕ) where
     where
       go : Dec (f x ≤ least f base xs) → (least f base xs ≡ base) ⊎ ((h : ℕ) × T (has h xs) × (least f base xs ≡ f h))
           → (min (f x) (least f base xs) ≡ base) ⊎ ((h : ℕ) × T (has h (x ∷ xs)) × (min (f x) (least f base xs) ≡ f h))
-      go (yes l) r = inr (x, has-head x xs, omega arith)
+      go (yes l) r = inr (x, has-head _ _, omega arith)
       go (no l) (inl e) = inl (omega arith)
-      go (no l) (inr r) = inr (r .0, has-tail (r .0) x xs (r .1), omega (arith, r .2))
+      go (no l) (inr r) = inr (r .0, has-tail _ _ _ (r .1), omega (arith, r .2))
 
 -- ---- a sum of two entries
 
@@ -57,15 +57,11 @@ pub data Sum (x y z : ℕ) : Type 0 where
 
 pub sum-is : (x y : ℕ) → Sum x y (sum x y)
 unfolding sum
-sum-is x y = go (eqb x none) refl (eqb y none) refl
-  where
-    unequal : (z : ℕ) → eqb z none ≡ false → z ≡ none → ⊥
-    unequal z e q = subst T (sym (ap (λ (w : ℕ). eqb w none) q) ∙ e) (eqb-refl none)
-
-    go : (b : Bool) → eqb x none ≡ b → (c : Bool) → eqb y none ≡ c → Sum x y (if b || c then none else x + y)
-    go true e c g = part refl (inl (eqb→eq x none (subst T (sym e) tt)))
-    go false e true g = part refl (inr (eqb→eq y none (subst T (sym g) tt)))
-    go false e false g = whole (unequal x e) (unequal y g) refl
+sum-is x y =
+    picked (Sum x y) (eqb x none || eqb y none) _ _
+    (λ e. part refl (⊎-elim
+    (λ t. inl (eqb→eq x none t)) (λ t. inr (eqb→eq y none t)) (or-e (eqb x none) (eqb y none) (true-T (eqb x none || eqb y none) e))))
+    (λ e. let h = of-or-false (eqb x none) (eqb y none) e in whole (eqb-false x none (h .0)) (eqb-false y none (h .1)) refl)
 
 -- ---- a chain goes through low nodes only, or through a high one
 
@@ -74,38 +70,35 @@ data Split (E : Edges) (high : ℕ → Bool) (k a b : ℕ) : Type 0 where
   through : (w i j : ℕ) → T (high w) → Chain E i a w → Chain E j w b → i + j ≡ k → Split E high k a b
 
 split : (E : Edges) (high : ℕ → Bool) {k a b : ℕ} → Chain E k a b → Split E high k a b
-split E high {a = a} here = go (passes (high a))
-  where
-    go : T (high a) ⊎ (T (high a) → ⊥) → Split E high 0 a a
-    go (inl t) = through a 0 0 t here here refl
-    go (inr f) = lows (not-T (high a) f) (not-T (high a) f) here
+split E high {a = a} here = ⊎-elim
+    (λ t. through a 0 0 t here here refl)
+    (λ f. lows (not-T (high a) f) (not-T (high a) f) here)
+    (passes (high a))
 split E high {a = a} {b = c} (link {k = k} {b = b} t r) = go (passes (high a)) (split E high r)
   where
     go : T (high a) ⊎ (T (high a) → ⊥) → Split E high k b c → Split E high (suc k) a c
-    go (inl h) rest = through a 0 (suc k) h here (link t r) (zero-add (suc k))
+    go (inl h) rest = through a 0 (suc k) h here (link t r) (zero-add _)
     go (inr f) (lows p q l) =
-        lows (not-T (high a) f) q
-        (link (and-i (not (high a) && not (high b)) (E a b) (and-i (not (high a)) (not (high b)) (not-T (high a) f) p) t) l)
-    go (inr f) (through w i j h p q e) = through w (suc i) j h (link t p) q (suc-add i j ∙ ap suc e)
+        lows (not-T (high a) f) q (link (and-i (not (high a) && not (high b)) _ (and-i (not (high a)) _ (not-T (high a) f) p) t) l)
+    go (inr f) (through w i j h p q e) = through w (suc i) j h (link t p) q (suc-add _ _ ∙ ap suc e)
 
 -- ---- the survey's tables
 
-module _ (n s : ℕ) (G : Graph) (g : IsGraph n G) where
+module _ {n : ℕ} (s : ℕ) {G : Graph} (g : IsGraph n G) where
   -- ---- the report
 
   unfoldable pub routes : ℕ → ℕ → ℕ
   routes a b = least (via n (fullTable n s G) a b) (entryAt n (lowTable n s G) a b) (hubs n s G)
 
-  pub report-entry : (a b : ℕ) → a < n → b < n → entryAt n (reportTable n s G) a b ≡ (if eqb a b then 0 else routes a b)
+  pub report-entry : {a b : ℕ} → a < n → b < n → entryAt n (reportTable n s G) a b ≡ (if eqb a b then 0 else routes a b)
   unfolding reportTable routes
-  report-entry a b ha hb =
-      entry-table n (reportEntry n (fullTable n s G) (lowTable n s G) (hubs n s G)) a b ha hb
+  report-entry = entry-table n (reportEntry n (fullTable n s G) (lowTable n s G) (hubs n s G)) _ _
 
   -- a route through a hub, if there is one, is a chain of as many links
-  via-chain : (a b h : ℕ) → a < n → b < n → h < n → (via n (fullTable n s G) a b h ≡ none → ⊥)
+  via-chain : {a b h : ℕ} → a < n → b < n → h < n → (via n (fullTable n s G) a b h ≡ none → ⊥)
       → Chain (linked n G) (via n (fullTable n s G) a b h) a b
   unfolding via
-  via-chain a b h ha hb hh f = go (sum-is x y) f
+  via-chain {a} {b} {h} ha hb hh f = go (sum-is _ _) f
     where
       x : ℕ
       x = entryAt n (fullTable n s G) h a
@@ -114,76 +107,52 @@ module _ (n s : ℕ) (G : Graph) (g : IsGraph n G) where
       y = entryAt n (fullTable n s G) h b
 
       go : {z : ℕ} → Sum x y z → (f : z ≡ none → ⊥) → Chain (linked n G) z a b
-      go (whole p q e) f = subst (λ (k : ℕ). Chain (linked n G) k a b) (sym e)
-          (append (turn (linked-sym n G) (full-is n s G g h a hh ha p .1 .0)) (full-is n s G g h b hh hb q .1 .0))
+      go (whole p q e) f = rw e (append (turn (linked-sym _ _) (full-is s g hh ha p .1 .0)) (full-is s g hh hb q .1 .0))
       go (part e p) f = absurd (f e)
 
   -- a report that is not none is the number of links of some chain
-  pub report-chain : (a b : ℕ) → a < n → b < n → (entryAt n (reportTable n s G) a b ≡ none → ⊥)
+  pub report-chain : {a b : ℕ} → a < n → b < n → (entryAt n (reportTable n s G) a b ≡ none → ⊥)
       → Chain (linked n G) (entryAt n (reportTable n s G) a b) a b
   unfolding routes
-  report-chain a b ha hb = go (eqb a b) refl (report-entry a b ha hb)
+  report-chain {a} {b} ha hb = subst P (sym (report-entry ha hb)) (picked P (eqb a b) _ _
+      (λ e f. rw (← eqb-true a b e) here)
+      (λ _. ⊎-elim
+      (λ e. subst P (sym e) (λ f. widen (low-widen n s G g) (low-is s g ha hb f .2 .0)))
+      (λ r. subst P (sym (r .2)) (via-chain ha hb (hubs-below n G s (r .0) (r .1))))
+      (least-cases _ _ (hubs n s G))))
     where
-      full : List ℕ
-      full = fullTable n s G
-
-      low : ℕ
-      low = entryAt n (lowTable n s G) a b
-
-      some-route : (routes a b ≡ none → ⊥) → Chain (linked n G) (routes a b) a b
-      some-route f = at (least-cases (via n full a b) low (hubs n s G))
-        where
-          at : (routes a b ≡ low) ⊎ ((h : ℕ) × T (has h (hubs n s G)) × (routes a b ≡ via n full a b h))
-              → Chain (linked n G) (routes a b) a b
-          at (inl e) =
-              subst (λ (k : ℕ). Chain (linked n G) k a b) (sym e)
-              (widen (low-widen n s G g) (low-is n s G g a b ha hb (λ q. f (e ∙ q)) .2 .0))
-          at (inr r) = subst (λ (k : ℕ). Chain (linked n G) k a b) (sym (r .2))
-              (via-chain a b (r .0) ha hb (hubs-below n G s (r .0) (r .1)) (λ q. f (r .2 ∙ q)))
-
-      go : (t : Bool) → eqb a b ≡ t → entryAt n (reportTable n s G) a b ≡ (if t then 0 else routes a b)
-          → (entryAt n (reportTable n s G) a b ≡ none → ⊥) → Chain (linked n G) (entryAt n (reportTable n s G) a b) a b
-      go true q e f =
-          subst (λ (k : ℕ). Chain (linked n G) k a b) (sym e)
-          (subst (λ (z : ℕ). Chain (linked n G) 0 a z) (eqb→eq a b (subst T (sym q) tt)) here)
-      go false q e f = subst (λ (k : ℕ). Chain (linked n G) k a b) (sym e) (some-route (λ z. f (e ∙ z)))
+      P : ℕ → Type 0
+      P k = (k ≡ none → ⊥) → Chain (linked n G) k a b
 
   -- where a chain of k links joins the pair, the report is at most k + 2
-  pub report-near : (a b k : ℕ) → n ≤ 1024 → a < n → b < n → Chain (linked n G) k a b → entryAt n (reportTable n s G) a b ≤ k + 2
+  pub report-near : {a b k : ℕ} → n ≤ 1024 → a < n → b < n → Chain (linked n G) k a b → entryAt n (reportTable n s G) a b ≤ k + 2
   unfolding isLow lowLinks routes via
-  report-near a b k size ha hb c = go (eqb a b) (report-entry a b ha hb)
+  report-near {a} {b} {k} size ha hb c =
+      subst P (sym (report-entry ha hb)) (picked P (eqb a b) _ _ (λ _. zero-le) (λ _. near (split (linked n G) (isHigh s G) c)))
     where
-      full : List ℕ
-      full = fullTable n s G
-
-      low : ℕ
-      low = entryAt n (lowTable n s G) a b
-
-      hs : List ℕ
-      hs = hubs n s G
+      P : ℕ → Type 0
+      P x = x ≤ k + 2
 
       -- a hub that is the high node w or is linked to it
       spoke : (w : ℕ) → w < n → T (isHigh s G w) → (h : ℕ) × (h < n) × T (has h (hubs n s G)) × (e : ℕ) × (e ≤ 1) × Chain (linked n G) e h w
-      spoke w hw t = at (high-linked n s G g w hw t)
-        where
-          at : T (has w (hubs n s G)) ⊎ ((h : ℕ) × T (has h (hubs n s G)) × T (linked n G w h))
-              → (h : ℕ) × (h < n) × T (has h (hubs n s G)) × (e : ℕ) × (e ≤ 1) × Chain (linked n G) e h w
-          at (inl m) = (w, hw, m, 0, zero-le, here)
-          at (inr c) = (c .0, linked-ends n G w (c .0) hw (c .2), c .1, 1, le-refl 1, link (linked-sym n G w (c .0) (c .2)) here)
+      spoke w hw t = ⊎-elim
+          (λ m. (w, hw, m, 0, zero-le, here))
+          (λ c. (c .0, linked-ends _ _ _ _ hw (c .2), c .1, 1, le-refl _, link (linked-sym _ _ _ _ (c .2)) here))
+          (high-linked n s G g w hw t)
 
       near : Split (linked n G) (isHigh s G) k a b → routes a b ≤ k + 2
       near (lows p q l) =
-          le-trans (least-base (via n full a b) low hs) (le-trans (low-joined n s G g a b k ha hb p q l .1 .1 k l) (omega arith))
+          le-trans (least-base _ _ (hubs n s G)) (le-trans (low-joined s g ha hb p q l .1 .1 k l) (omega arith))
       near (through w i j t p q e) =
-          let hw : w < n = inside (linked n G) n a (linked-ends n G) ha ha p in
+          let hw : w < n = inside (linked-ends n G) ha p in
           let r = spoke w hw t in
           let h = r .0 in
           let ca = append (r .5) (turn (linked-sym n G) p) in
           let cb = append (r .5) q in
-          let fa = full-joined n s G g h a (r .3 + i) (r .1) ha (r .2) ca in
-          let fb = full-joined n s G g h b (r .3 + j) (r .1) hb (r .2) cb in
-          le-trans (least-at (via n full a b) low hs h (r .2))
-          (bound (sum-is (entryAt n full h a) (entryAt n full h b)) (r .3) (r .4) e (fa .1 .1 (r .3 + i) ca, fa .0)
+          let fa = full-joined s g (r .1) ha (r .2) ca in
+          let fb = full-joined s g (r .1) hb (r .2) cb in
+          le-trans (least-at _ _ (hubs n s G) h (r .2))
+          (bound (sum-is _ _) (r .3) (r .4) e (fa .1 .1 (r .3 + i) ca, fa .0)
           (fb .1 .1 (r .3 + j) cb, fb .0))
         where
           bound : {x y z : ℕ} → Sum x y z → (d : ℕ) → d ≤ 1 → i + j ≡ k → (x ≤ d + i) × (x < n) → (y ≤ d + j) × (y < n) → z ≤ k + 2
@@ -191,16 +160,12 @@ module _ (n s : ℕ) (G : Graph) (g : IsGraph n G) where
           bound (part e (inl q)) d l f xs ys = absurd (omega arith)
           bound (part e (inr q)) d l f xs ys = absurd (omega arith)
 
-      go : (t : Bool) → entryAt n (reportTable n s G) a b ≡ (if t then 0 else routes a b) → entryAt n (reportTable n s G) a b ≤ k + 2
-      go true e = subst (λ (x : ℕ). x ≤ k + 2) (sym e) zero-le
-      go false e = subst (λ (x : ℕ). x ≤ k + 2) (sym e) (near (split (linked n G) (isHigh s G) c))
-
 -- none exactly where no chain joins the pair; else at least the fewest links, and at most two more
 pub allowed : (n s : ℕ) (G : Graph) → IsGraph n G → n ≤ 1024 → (a b : ℕ) → a < n → b < n
     → Allowed (linked n G) a b (entryAt n (reportTable n s G) a b)
 allowed n s G g size a b ha hb = record {
-  no-route = (λ e k c. far k c e, λ f. at (passes (eqb r none)) f);
-  near = λ d m. (m .1 r (report-chain n s G g a b ha hb (λ e. far d (m .0) e)), report-near n s G g a b d size ha hb (m .0));
+  no-route = (λ e k c. far k c e, λ f. ⊎-elim (λ e. e) (λ d. absurd (f r (report-chain s g ha hb d))) (eq-or r none));
+  near = λ d m. (m .1 r (report-chain s g ha hb (λ e. far d (m .0) e)), report-near s g size ha hb (m .0));
 }
   where
     r : ℕ
@@ -208,15 +173,6 @@ allowed n s G g size a b ha hb = record {
 
     -- a joined pair is less than n apart, so its report is far below none
     far : (k : ℕ) → Chain (linked n G) k a b → r ≡ none → ⊥
-    far k c e = cases (fewest-cases (linked n G) n a (linked-ends n G) ha b)
-      where
-        d : ℕ
-        d = fewest (linked n G) n a b
-
-        cases : ((d < n) × Fewest (linked n G) a b d) ⊎ ((d ≡ none) × Unjoined (linked n G) a b) → ⊥
-        cases (inl p) = let l = report-near n s G g a b d size ha hb (p .1 .0) in omega arith
-        cases (inr p) = p .1 k c
-
-    at : T (eqb r none) ⊎ (T (eqb r none) → ⊥) → Unjoined (linked n G) a b → r ≡ none
-    at (inl t) f = eqb→eq r none t
-    at (inr t) f = absurd (f r (report-chain n s G g a b ha hb (λ e. t (subst (λ (z : ℕ). T (eqb r z)) e (eqb-refl r)))))
+    far k c e = ⊎-elim
+        (λ p. omega (arith, p .0, report-near s g size ha hb (p .1 .0))) (λ p. p .1 k c)
+        (fewest-cases (linked n G) n a (linked-ends n G) ha b)

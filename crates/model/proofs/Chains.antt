@@ -1,16 +1,15 @@
 -- Chains, by their count of links and as lists of nodes. `fewest` is the least number of links in a chain, for any graph whose links
 -- lead from nodes below n to nodes below n.
 -- Assumes nothing.
-use mathlib.Core.Path.{_≡_, refl, sym, ap, subst}
-use mathlib.Core.Logic.{_⊎_, inl, inr}
-use mathlib.Core.Bool.{Bool, _||_}
+use mathlib.Core.Path.{_≡_, refl, ap}
+use mathlib.Core.Logic.{_⊎_, inl, inr, ⊎-elim}
 use mathlib.Core.List.{List, [], _∷_}
 use Prim.Native.Nat.{ℕ, zero, suc, _+_, _≤_, _<_, suc-le-suc, zero-le}
 use native.Mathlib.Nat.{zero-add, suc-add, le-step, le-refl, le-antisymm}
 use native.Mathlib.Omega.{arith}
 use lib.Dec.{T}
 use lib.ListN.{length}
-use Rattle.model.specs.Basics.{none, upTo, has, any, keep, firstOf}
+use Rattle.model.specs.Basics.{none, upTo, has, keep}
 use Rattle.model.specs.Graph.{Edges, Chain, here, link, Fewest, Walked, stop, go, reach, fewest, Unjoined}
 use Rattle.model.proofs.Tests.{or-l, or-r, or-e}
 use Rattle.model.proofs.Lists.{has-head, of-single, any-of, of-any, has-keep, of-keep, has-upTo, of-upTo, First}
@@ -39,8 +38,8 @@ module _ {E : Edges} where
   split-first (link {k = i} {b = x} t r) = inr (i, x, refl, t, r)
 
   pub append : {j k a b c : ℕ} → Chain E j a b → Chain E k b c → Chain E (j + k) a c
-  append {k = k} {a = a} {c = c} here q = subst (λ (i : ℕ). Chain E i a c) (sym (zero-add k)) q
-  append {k = k} {a = a} {c = c} (link {k = j} t p) q = subst (λ (i : ℕ). Chain E i a c) (sym (suc-add j k)) (link t (append p q))
+  append here q = rw (zero-add _) q
+  append (link t p) q = rw (suc-add _ _) (link t (append p q))
 
   pub turn : ((u v : ℕ) → T (E u v) → T (E v u)) → {k a b : ℕ} → Chain E k a b → Chain E k b a
   turn f here = here
@@ -59,159 +58,125 @@ module _ {E : Edges} where
   chain-walked (here {a = a}) = (a ∷ [], refl, stop)
   chain-walked (link {a = a} t c) = let w = chain-walked c in (a ∷ w .0, ap suc (w .1), go t (w .2))
 
+-- where links lead from nodes below n to nodes below n, so do chains
+pub inside : {E : Edges} {n : ℕ} → ((u v : ℕ) → u < n → T (E u v) → v < n) → {k b v : ℕ} → b < n → Chain E k b v → v < n
+inside ends h here = h
+inside ends h (link t r) = inside ends (ends _ _ h t) r
+
 module _ (E : Edges) (n a : ℕ) where
+  -- v is reached with k links
+  abbrev pub Reached : ℕ → ℕ → Type 0
+  Reached k v = T (has v (reach E n a k))
+
+  -- layer j + 1 adds nothing to layer j
+  abbrev Stable : ℕ → Type 0
+  Stable j = (v : ℕ) → Reached (suc j) v → Reached j v
+
   -- a node that is reached with k + 1 links is reached with k, or linked from one that is
-  grown : (k v : ℕ) → T (has v (reach E n a (suc k)))
-      → (v < n) × (T (has v (reach E n a k)) ⊎ ((u : ℕ) × T (has u (reach E n a k)) × T (E u v)))
+  grown : (k v : ℕ) → Reached (suc k) v → (v < n) × (Reached k v ⊎ ((u : ℕ) × Reached k u × T (E u v)))
   unfolding reach
   grown k v h =
       let r = reach E n a k in
-      let i = of-keep (λ v. has v r || any (λ u. E u v) r) (upTo n) v h in
-      (of-upTo n v (i .0), at (or-e (has v r) (any (λ u. E u v) r) (i .1)))
-    where
-      at : T (has v (reach E n a k)) ⊎ T (any (λ u. E u v) (reach E n a k))
-          → T (has v (reach E n a k)) ⊎ ((u : ℕ) × T (has u (reach E n a k)) × T (E u v))
-      at (inl s) = inl s
-      at (inr s) = inr (of-any (λ u. E u v) (reach E n a k) s)
+      let i = of-keep _ _ _ h in
+      (of-upTo _ _ (i .0), ⊎-elim inl (λ s. inr (of-any (λ u. E u v) _ s)) (or-e (has v r) _ (i .1)))
 
-  pub stay : (k v : ℕ) → v < n → T (has v (reach E n a k)) → T (has v (reach E n a (suc k)))
+  pub stay : (k v : ℕ) → v < n → Reached k v → Reached (suc k) v
   unfolding reach
   stay k v b h =
       let r = reach E n a k in
-      has-keep (λ v. has v r || any (λ u. E u v) r) (upTo n) v (has-upTo n v b) (or-l (has v r) (any (λ u. E u v) r) h)
+      has-keep _ _ _ (has-upTo _ _ b) (or-l (has v r) _ h)
 
-  pub step : (k u v : ℕ) → v < n → T (has u (reach E n a k)) → T (E u v) → T (has v (reach E n a (suc k)))
+  pub step : (k u v : ℕ) → v < n → Reached k u → T (E u v) → Reached (suc k) v
   unfolding reach
   step k u v b h t =
       let r = reach E n a k in
-      has-keep (λ v. has v r || any (λ u. E u v) r) (upTo n) v (has-upTo n v b)
-      (or-r (has v r) (any (λ u. E u v) r) (any-of (λ u. E u v) r u h t))
+      has-keep _ _ _ (has-upTo _ _ b) (or-r (has v r) _ (any-of _ _ _ h t))
 
   -- what is reached with k links is joined by a chain of k or fewer
-  sound : (k v : ℕ) → T (has v (reach E n a k)) → (j : ℕ) × (j ≤ k) × Chain E j a v
+  sound : (k v : ℕ) → Reached k v → (j : ℕ) × (j ≤ k) × Chain E j a v
   unfolding reach
-  sound zero v h = (0, zero-le, subst (λ (z : ℕ). Chain E 0 a z) (sym (of-single v a h)) here)
-  sound (suc k) v h = at (grown k v h .1) (λ u s. sound k u s)
-    where
-      at : T (has v (reach E n a k)) ⊎ ((u : ℕ) × T (has u (reach E n a k)) × T (E u v))
-          → ((u : ℕ) → T (has u (reach E n a k)) → (j : ℕ) × (j ≤ k) × Chain E j a u) → (j : ℕ) × (j ≤ suc k) × Chain E j a v
-      at (inl s) rec = let i = rec v s in (i .0, le-step (i .1), i .2)
-      at (inr s) rec = let i = rec (s .0) (s .1) in (suc (i .0), suc-le-suc (i .1), snoc (i .2) (s .2))
+  sound zero v h = (0, zero-le, rw (of-single _ _ h) here)
+  sound (suc k) v h = ⊎-elim
+      (λ s. let i = sound k _ s in (i .0, le-step (i .1), i .2))
+      (λ s. let i = sound k (s .0) (s .1) in (suc (i .0), suc-le-suc (i .1), snoc (i .2) (s .2)))
+      (grown k _ h .1)
 
   module _ (ends : (u v : ℕ) → u < n → T (E u v) → v < n) (start : a < n) where
-    pub inside : {k b v : ℕ} → b < n → Chain E k b v → v < n
-    inside h here = h
-    inside h (link t r) = inside (ends _ _ h t) r
-
     -- and the other end of a chain of k links is reached with k
-    complete : (k v : ℕ) → Chain E k a v → T (has v (reach E n a k))
+    complete : (k v : ℕ) → Chain E k a v → Reached k v
     unfolding reach
-    complete zero v c = subst (λ (z : ℕ). T (has z (a ∷ []))) (chain-zero c) (has-head a [])
+    complete zero v c = rw (← chain-zero c) (has-head _ _)
     complete (suc k) v c =
         let s = split-last c in
-        step k (s .0) v (inside start c) (complete k (s .0) (s .1)) (s .2)
+        step k _ _ (inside ends start c) (complete k (s .0) (s .1)) (s .2)
 
-    starts : (k : ℕ) → T (has a (reach E n a k))
+    starts : (k : ℕ) → Reached k a
     unfolding reach
-    starts zero = has-head a []
-    starts (suc k) = stay k a start (starts k)
+    starts zero = has-head _ _
+    starts (suc k) = stay k _ start (starts k)
 
     -- once a layer adds nothing, no later one does
-    stable : (j : ℕ) → ((v : ℕ) → T (has v (reach E n a (suc j))) → T (has v (reach E n a j)))
-        → (k v : ℕ) → T (has v (reach E n a k)) → T (has v (reach E n a j))
+    stable : (j : ℕ) → Stable j → (k v : ℕ) → Reached k v → Reached j v
     unfolding reach
-    stable j f zero v h = subst (λ (z : ℕ). T (has z (reach E n a j))) (sym (of-single v a h)) (starts j)
-    stable j f (suc k) v h = at (grown k v h) (λ u s. stable j f k u s)
-      where
-        at : (v < n) × (T (has v (reach E n a k)) ⊎ ((u : ℕ) × T (has u (reach E n a k)) × T (E u v)))
-            → ((u : ℕ) → T (has u (reach E n a k)) → T (has u (reach E n a j))) → T (has v (reach E n a j))
-        at g rec = case (g .1)
-          where
-            case : T (has v (reach E n a k)) ⊎ ((u : ℕ) × T (has u (reach E n a k)) × T (E u v)) → T (has v (reach E n a j))
-            case (inl s) = rec v s
-            case (inr s) = f v (step j (s .0) v (g .0) (rec (s .0) (s .1)) (s .2))
+    stable j f zero v h = rw (of-single _ _ h) (starts j)
+    stable j f (suc k) v h =
+        let g = grown k _ h in
+        ⊎-elim (stable j f k _) (λ s. f v (step j _ _ (g .0) (stable j f k (s .0) (s .1)) (s .2))) (g .1)
 
     count : ℕ → ℕ
     count k = length (keep (λ v. has v (reach E n a k)) (upTo n))
 
-    Stable : ℕ → Type 0
-    Stable j = (v : ℕ) → T (has v (reach E n a (suc j))) → T (has v (reach E n a j))
-
     -- each layer adds a node until one adds nothing
     layers : (k : ℕ) → ((j : ℕ) × (j < k) × Stable j) ⊎ (k < count k)
-    unfolding count Stable
-    layers zero = inr (length-pos a (keep (λ v. has v (reach E n a 0)) (upTo n))
-        (has-keep (λ v. has v (reach E n a 0)) (upTo n) a (has-upTo n a start) (starts 0)))
+    unfolding count
+    layers zero = inr (length-pos _ _ (has-keep _ _ _ (has-upTo _ _ start) (starts _)))
     layers (suc k) =
         at (layers k) (keep-grows (λ v. has v (reach E n a k)) (λ v. has v (reach E n a (suc k))) (upTo n)
-        (λ v b h. stay k v (of-upTo n v b) h))
+        (λ v b h. stay _ _ (of-upTo _ _ b) h))
       where
         at : ((j : ℕ) × (j < k) × Stable j) ⊎ (k < count k)
-            → ((v : ℕ) → T (has v (upTo n)) → T (has v (reach E n a (suc k))) → T (has v (reach E n a k))) ⊎ (count k < count (suc k))
+            → ((v : ℕ) → T (has v (upTo n)) → Reached (suc k) v → Reached k v) ⊎ (count k < count (suc k))
             → ((j : ℕ) × (j < suc k) × Stable j) ⊎ (suc k < count (suc k))
         at (inl s) g = inl (s .0, le-step (s .1), s .2)
-        at (inr c) (inl f) = inl (k, le-refl (suc k), λ v h. f v (has-upTo n v (grown k v h .0)) h)
+        at (inr c) (inl f) = inl (k, le-refl _, λ v h. f v (has-upTo _ _ (grown _ _ h .0)) h)
         at (inr c) (inr g) = inr (omega arith)
 
     -- so a layer below n adds nothing
     settled : (j : ℕ) × (j < n) × Stable j
     unfolding count
-    settled = at (layers n)
-      where
-        at : ((j : ℕ) × (j < n) × Stable j) ⊎ (n < count n) → (j : ℕ) × (j < n) × Stable j
-        at (inl s) = s
-        at (inr c) = absurd (omega (arith, keep-length (λ v. has v (reach E n a n)) (upTo n), length-upTo n))
+    settled = ⊎-elim (λ s. s)
+        (λ c. absurd (omega (arith, keep-length (λ v. has v (reach E n a n)) (upTo n), length-upTo n))) (layers _)
 
     -- what the search for b finds, and what it misses
     pub fewest-cases : (b : ℕ) → ((fewest E n a b < n) × Fewest E a b (fewest E n a b)) ⊎ ((fewest E n a b ≡ none) × Unjoined E a b)
-    unfolding fewest Stable
-    fewest-cases b = at (first-below p none n)
+    unfolding fewest
+    fewest-cases b = at (first-below (λ k. has b (reach E n a k)) none n)
       where
-        p : ℕ → Bool
-        p k = has b (reach E n a k)
-
-        at : First p none 0 n (firstOf p none (upTo n))
-            → ((firstOf p none (upTo n) < n) × Fewest E a b (firstOf p none (upTo n))) ⊎ ((firstOf p none (upTo n) ≡ none) × Unjoined E a b)
-        at (found lo hi t least) =
-            let r = firstOf p none (upTo n) in
-            let s = sound r b t in
-            let low : (k : ℕ) → Chain E k a b → r ≤ k = λ k c. fit k (λ h. least k zero-le h (complete k b c)) in
+        at : {r : ℕ} → First (λ k. has b (reach E n a k)) none 0 n r → ((r < n) × Fewest E a b r) ⊎ ((r ≡ none) × Unjoined E a b)
+        at {r} (found lo hi t least) =
+            let s = sound _ _ t in
+            let low : (k : ℕ) → Chain E k a b → r ≤ k = λ k c. fit k (λ h. least k zero-le h (complete _ _ c)) in
             let e : s .0 ≡ r = le-antisymm (s .1) (low (s .0) (s .2)) in
-            inl (omega arith, (subst (λ (k : ℕ). Chain E k a b) e (s .2), low))
+            inl (omega arith, (rw e at (s .2), low))
           where
-            fit : (k : ℕ) → (k < firstOf p none (upTo n) → ⊥) → firstOf p none (upTo n) ≤ k
+            fit : (k : ℕ) → (k < r → ⊥) → r ≤ k
             fit k f = omega arith
         at (nothing e least) =
             let s = settled in
-            inr (e, λ k c. least (s .0) zero-le (omega arith) (stable (s .0) (s .2) k b (complete k b c)))
+            inr (e, λ k c. least (s .0) zero-le (omega arith) (stable _ (s .2) _ _ (complete _ _ c)))
 
 -- The same as four facts: what a number other than none says, what none says, and the two converses.
 module _ (E : Edges) (n a : ℕ) (ends : (u v : ℕ) → u < n → T (E u v) → v < n) (start : a < n) where
   pub fewest-is : (b : ℕ) → (fewest E n a b ≡ none → ⊥) → Fewest E a b (fewest E n a b)
-  fewest-is b h = at (fewest-cases E n a ends start b)
-    where
-      at : ((fewest E n a b < n) × Fewest E a b (fewest E n a b)) ⊎ ((fewest E n a b ≡ none) × Unjoined E a b)
-          → Fewest E a b (fewest E n a b)
-      at (inl s) = s .1
-      at (inr s) = absurd (h (s .0))
+  fewest-is b h = ⊎-elim (λ s. s .1) (λ s. absurd (h (s .0))) (fewest-cases _ _ _ ends start _)
 
   pub fewest-none : n ≤ none → (b : ℕ) → fewest E n a b ≡ none → Unjoined E a b
-  fewest-none m b e = at (fewest-cases E n a ends start b)
-    where
-      at : ((fewest E n a b < n) × Fewest E a b (fewest E n a b)) ⊎ ((fewest E n a b ≡ none) × Unjoined E a b) → Unjoined E a b
-      at (inl s) = absurd (omega arith)
-      at (inr s) = s .1
+  fewest-none m b e = ⊎-elim (λ s. absurd (omega arith)) (λ s. s .1) (fewest-cases E n _ ends start _)
 
   pub fewest-of : (b d : ℕ) → Fewest E a b d → fewest E n a b ≡ d
-  fewest-of b d f = at (fewest-cases E n a ends start b)
-    where
-      at : ((fewest E n a b < n) × Fewest E a b (fewest E n a b)) ⊎ ((fewest E n a b ≡ none) × Unjoined E a b) → fewest E n a b ≡ d
-      at (inl s) = le-antisymm (s .1 .1 d (f .0)) (f .1 (fewest E n a b) (s .1 .0))
-      at (inr s) = absurd (s .1 d (f .0))
+  fewest-of b d f = ⊎-elim
+      (λ s. le-antisymm (s .1 .1 d (f .0)) (f .1 (fewest E n a b) (s .1 .0))) (λ s. absurd (s .1 d (f .0)))
+      (fewest-cases _ _ _ ends start _)
 
   pub fewest-missing : (b : ℕ) → Unjoined E a b → fewest E n a b ≡ none
-  fewest-missing b f = at (fewest-cases E n a ends start b)
-    where
-      at : ((fewest E n a b < n) × Fewest E a b (fewest E n a b)) ⊎ ((fewest E n a b ≡ none) × Unjoined E a b) → fewest E n a b ≡ none
-      at (inl s) = absurd (f (fewest E n a b) (s .1 .0))
-      at (inr s) = s .0
+  fewest-missing b f = ⊎-elim (λ s. absurd (f (fewest E n a b) (s .1 .0))) (λ s. s .0) (fewest-cases _ _ _ ends start _)

@@ -1,11 +1,11 @@
 -- Demand 3 for the calls themselves, with their refusals: for an accepted survey, and tables built from it.
 -- Assumes nothing.
 use mathlib.Core.Path.{_≡_, refl, sym, ap, _∙_, subst}
-use mathlib.Core.Logic.{_⊎_, ⊎-elim, _↔_}
+use mathlib.Core.Logic.{⊎-elim, _↔_}
 use mathlib.Core.Bool.{Bool, true, false, not, _||_}
 use mathlib.Core.List.{List, _++_}
 use mathlib.Core.Option.{some}
-use Prim.Native.Nat.{ℕ, suc, _+_, _-_, _*_, _≤_, _<_}
+use Prim.Native.Nat.{ℕ, _+_, _-_, _*_, _≤_, _<_}
 use native.Mathlib.Numerals.{add-one}
 use native.Mathlib.Omega.{arith}
 use borrow.Author.Tests.{le-ltb, lt-leb, leb-false}
@@ -16,7 +16,7 @@ use Rattle.model.specs.declared.Route.the-variants.{NoRoute}
 use Rattle.model.specs.declared.Answer.{Answer}
 use Rattle.model.specs.Answers.{Outcome, refused, answered}
 use Rattle.model.specs.Basics.{none, over}
-use Rattle.model.specs.Graph.{Edges, Chain, Walked, linked}
+use Rattle.model.specs.Graph.{Edges, Chain, linked}
 use Rattle.model.specs.Survey.{Graph, neighboursOf, badSize, isSurvey, Accepted}
 use Rattle.model.specs.Threshold.{threshold}
 use Rattle.model.specs.Hubs.{hubs}
@@ -28,7 +28,7 @@ use Rattle.model.specs.Building.{AfterBuilding, shortLists, built, build
 use Rattle.model.specs.Asking.{asking}
 use Rattle.model.specs.Walking.{AfterWalking, refuseWalk, fit, walkOf, walking}
 use Rattle.model.specs.Testing.{testing}
-use Rattle.model.specs.Demand.{Allowed, AllowedAnswer, AskRight, WalkSound, WalkAnswers, WalkRight, RightVerdict, TestRight, BuildRight}
+use Rattle.model.specs.Demand.{AllowedAnswer, AskRight, WalkSound, WalkAnswers, WalkRight, RightVerdict, TestRight, BuildRight}
 use Rattle.model.proofs.Outcomes.{never, numberIn}
 use Rattle.model.proofs.Tests.{or-false, of-or-false, picked, not-not, lt-or}
 use Rattle.model.proofs.Chains.{walked-chain}
@@ -46,18 +46,18 @@ passed false t = absurd t
 
 -- ---- lists that tables were built into have room for them
 
-module _ (n s : ℕ) (G : Graph) (full low report : List ℕ) (own : AreBuilt n s G full low report) where
+module _ {n s : ℕ} {G : Graph} {full low report : List ℕ} (own : AreBuilt n s G full low report) where
   pub full-room : n * n ≤ length full
   unfolding fullTable
-  full-room = front-length (n * n) full (fullTable n s G) (own .full-front) (length-table n _)
+  full-room = front-length _ _ _ (own .full-front) (length-table _ _)
 
   pub low-room : n * n ≤ length low
   unfolding lowTable
-  low-room = front-length (n * n) low (lowTable n s G) (own .low-front) (length-table n _)
+  low-room = front-length _ _ _ (own .low-front) (length-table _ _)
 
   pub report-room : n * n ≤ length report
   unfolding reportTable
-  report-room = front-length (n * n) report (reportTable n s G) (own .report-front) (length-table n _)
+  report-room = front-length _ _ _ (own .report-front) (length-table _ _)
 
 -- ---- building leaves the tables and the hub list built from the survey
 
@@ -73,11 +73,11 @@ pub built-right : (n s : ℕ) (G : Graph) (full low report list : List ℕ)
 unfolding built over fullTable lowTable reportTable
 built-right n s G full low report list = record {
   tables = record {
-    full-front = take-at (fullTable n s G) _ (n * n) (length-table n _);
-    low-front = take-at (lowTable n s G) _ (n * n) (length-table n _);
-    report-front = take-at (reportTable n s G) _ (n * n) (length-table n _);
+    full-front = take-at _ _ _ (length-table _ _);
+    low-front = take-at _ _ _ (length-table _ _);
+    report-front = take-at _ _ _ (length-table _ _);
   };
-  hubs-front = take-at (hubList n s G) _ n (hub-list-length n s G);
+  hubs-front = take-at _ _ _ (hub-list-length _ _ _);
 }
 
 -- ---- a walk given out, from any tables
@@ -87,11 +87,11 @@ given-out-sound E a b w (refusal k) x e f = never e
 given-out-sound E a b w no-way x e f = let q : withRoute none NoRoute ≡ x = cc in absurd (f (sym (ap (λ (y : Answer). y .report) q)))
 given-out-sound E a b w (walked y l g m room) x e f =
     let q : y ≡ x = cc in
-    let c : length l ≡ x .report + 1 = m ∙ ap (λ (z : Answer). suc (z .report)) q ∙ sym (add-one (x .report)) in
-    let t : take (x .report + 1) (l ++ replicate (w - length l) none) ≡ l = take-at l (replicate (w - length l) none) (x .report + 1) c in
+    let c : length l ≡ x .report + 1 = m ∙ (rw q) ∙ sym (add-one _) in
+    let t : take (x .report + 1) (l ++ replicate (w - length l) none) ≡ l = take-at _ _ _ c in
     let i = walked-chain g in
     record {
-      walked = subst (λ (k : List ℕ). Walked E k a b) (sym t) g;
+      walked = rw t g;
       count = ap length t ∙ c;
       chain = subst (λ (k : ℕ). Chain E k a b) (omega (arith, i .1, c)) (i .2);
     }
@@ -105,10 +105,9 @@ walking-sound n starts neighbours full low report a b w =
     picked P (ltb (length starts) (n + 1) || shortTables n (length full) (length low) (length report)) _ _ (λ _. refuses) (λ room.
     picked P (not (isSurvey n starts neighbours)) _ _ (λ _. refuses) (λ lists.
     picked P (leb n a || leb n b) _ _ (λ _. refuses) (λ below.
-    let h = of-or-false (leb n a) (leb n b) below in
-    let g = survey-facts n starts neighbours (not-not (isSurvey n starts neighbours) lists) .graph in
-    given-out-sound (linked n G) a b w
-    (walk-given-out n (threshold n) G g full low a b (leb-false n a (h .0)) (leb-false n b (h .1)) (taken n full a b) report w)))))
+    let h = of-or-false _ _ below in
+    let g = survey-facts _ _ _ (not-not (isSurvey n starts neighbours) lists) .graph in
+    given-out-sound _ _ _ w (walk-given-out (threshold n) g full low (leb-false _ _ (h .0)) (leb-false _ _ (h .1)) _ report w)))))
   where
     G : Graph
     G = neighboursOf starts neighbours
@@ -121,10 +120,10 @@ walking-sound n starts neighbours full low report a b w =
 
 -- ---- what an answer says of the tests before it
 
-asking-passed : (n : ℕ) (full low report : List ℕ) (a b : ℕ) (x : Answer) → asking n full low report a b ≡ answered x
+asking-passed : (n : ℕ) (full low report : List ℕ) (a b : ℕ) {x : Answer} → asking n full low report a b ≡ answered x
     → (n * n ≤ length full) × (n * n ≤ length low) × (n * n ≤ length report) × (a < n) × (b < n) × (pair n full low report a b ≡ answered x)
 unfolding asking
-asking-passed n full low report a b x =
+asking-passed n full low report a b {x} =
     picked P (badSize n) _ _ (λ _ e. never e) (λ _.
     picked P (shortTables n (length full) (length low) (length report)) _ _ (λ _ e. never e) (λ room.
     picked P (leb n a || leb n b) _ _ (λ _ e. never e) (λ below e.
@@ -140,18 +139,18 @@ asking-passed n full low report a b x =
 short-fit : (w : ℕ) (x : Answer) (l : List ℕ) → (fit w x (some l) .answer ≡ refused 8) ↔ (w < length l)
 unfolding refuseWalk
 short-fit w x l = (
-  λ q. ⊎-elim (λ h. h) (λ h. never (sym q ∙ ap (λ (r : AfterWalking). r .answer) (fit-long w x l h))) (lt-or w (length l)),
-  λ h. ap (λ (r : AfterWalking). r .answer) (fit-short w x l h),
+  λ q. ⊎-elim (λ h. h) (λ h. never (sym q ∙ ap (λ (r : AfterWalking). r .answer) (fit-long _ _ _ h))) (lt-or w (length l)),
+  λ h. rw (fit-short _ _ _ h),
 )
 
 -- ---- an accepted survey
 
-module _ (n : ℕ) (starts neighbours : List ℕ) (acc : Accepted n starts neighbours) where
+module _ {n : ℕ} {starts neighbours : List ℕ} (acc : Accepted n starts neighbours) where
   abbrev pub G : Graph
   G = neighboursOf starts neighbours
 
   is-survey : not (isSurvey n starts neighbours) ≡ false
-  is-survey = passed (isSurvey n starts neighbours) (survey-test n starts neighbours (acc .lists))
+  is-survey = passed (isSurvey n starts neighbours) (survey-test _ _ _ (acc .lists))
 
   -- the test is not refused, and its verdict is right
   pub testing-answers : testing n starts neighbours ≡ answered (testResult n (threshold n) G)
@@ -162,31 +161,17 @@ module _ (n : ℕ) (starts neighbours : List ℕ) (acc : Accepted n starts neigh
   testing-verdict = record {
     value = testResult n (threshold n) G;
     given = testing-answers;
-    right = verdict-right n (threshold n) G (acc .lists .graph) (acc .size);
+    right = verdict-right _ _ _ (acc .lists .graph) (acc .size);
   }
 
-  -- building into lists that are long enough
-  pub building-answers : (full low report list : List ℕ) → n * n ≤ length full → n * n ≤ length low → n * n ≤ length report
-      → n ≤ length list
-      → building n starts neighbours full low report list ≡ built n (threshold n) G full low report list
-  unfolding building
-  building-answers full low report list hf hl hr hh =
-      rw (
-        good-size n (acc .some-node) (acc .size),
-        le-ltb (length starts) (n + 1) (acc .room),
-        long-tables n (length full) (length low) (length report) hf hl hr,
-        le-ltb (length list) n hh,
-        is-survey,
-      ) refl
-
   -- with tables that are long enough and two nodes below n, all tests of asking and walking are passed
-  module _ (full low report : List ℕ) (hf : n * n ≤ length full) (hl : n * n ≤ length low) (hr : n * n ≤ length report) (a b : ℕ)
+  module _ (full low report : List ℕ) (hf : n * n ≤ length full) (hl : n * n ≤ length low) (hr : n * n ≤ length report) {a b : ℕ}
       (ha : a < n) (hb : b < n) where
     below : (leb n a || leb n b) ≡ false
-    below = or-false (leb n a) (leb n b) (lt-leb n a ha) (lt-leb n b hb)
+    below = or-false _ _ (lt-leb _ _ ha) (lt-leb _ _ hb)
 
     fits : shortTables n (length full) (length low) (length report) ≡ false
-    fits = long-tables n (length full) (length low) (length report) hf hl hr
+    fits = long-tables _ _ _ _ hf hl hr
 
     pub asks : asking n full low report a b ≡ pair n full low report a b
     unfolding asking
@@ -199,46 +184,38 @@ module _ (n : ℕ) (starts neighbours : List ℕ) (acc : Accepted n starts neigh
 
   -- for any tables: where asking answers x and the walk's nodes are found, the walk is refused 8 exactly where there is a route and
   -- the walk list has fewer than report + 1 entries
-  pub walking-short : (full low report : List ℕ) (a b : ℕ) (x : Answer) → asking n full low report a b ≡ answered x
-      → (l : List ℕ) → walkNodes n (threshold n) G full low a b (x .route) ≡ some l
+  pub walking-short : (full low report : List ℕ) (a b : ℕ) {x : Answer} → asking n full low report a b ≡ answered x
+      → {l : List ℕ} → walkNodes n (threshold n) G full low a b (x .route) ≡ some l
       → (w : ℕ) → (walking n starts neighbours full low report a b w .answer ≡ refused 8) ↔ ((x .report ≡ none → ⊥) × (w < x .report + 1))
   unfolding pair pairBy walkOf
-  walking-short full low report a b x e l f w =
-      let p = asking-passed n full low report a b x e in
+  walking-short full low report a b {x} e {l} f w =
+      let p = asking-passed n full low report a b e in
       let r = entryAt n report a b in
       let c = subst (λ (q : Outcome Answer). Chosen a b r (entryAt n low a b) (attaining (taken n full a b) n full a b r) q) (p .5)
-      (chosen a b r (entryAt n low a b) (attaining (taken n full a b) n full a b r)) in
-      let i = found-longer n (threshold n) G (acc .lists .graph) full low a b (p .3) (p .4) (taken n full a b) report x c l f w in
+      (chosen a b r _ _) in
+      let i = found-longer _ (acc .lists .graph) full low (p .3) (p .4) _ report x c l f w in
       let o : walking n starts neighbours full low report a b w ≡ fit w x (some l) =
-      walks full low report (p .0) (p .1) (p .2) a b (p .3) (p .4) w
+      walks full low report (p .0) (p .1) (p .2) (p .3) (p .4) w
       ∙ ap (walkOf w n (threshold n) G full low a b) (p .5)
       ∙ ap (fit w x) f in
       let j = short-fit w x l in
-      (λ q. i .0 (j .0 (sym (ap (λ (y : AfterWalking). y .answer) o) ∙ q)), λ h. ap (λ (y : AfterWalking). y .answer) o ∙ j .1 (i .1 h))
+      (λ q. i .0 (j .0 (sym (rw o) ∙ q)), λ h. rw o (j .1 (i .1 h)))
 
   -- tables built with any threshold
-  module _ (s : ℕ) (full low report : List ℕ) (own : AreBuilt n s (neighboursOf starts neighbours) full low report) (a b : ℕ)
+  module _ {s : ℕ} {full low report : List ℕ} (own : AreBuilt n s (neighboursOf starts neighbours) full low report) {a b : ℕ}
       (ha : a < n) (hb : b < n) where
-    hf : n * n ≤ length full
-    hf = full-room n s G full low report own
-
-    hl : n * n ≤ length low
-    hl = low-room n s G full low report own
-
-    hr : n * n ≤ length report
-    hr = report-room n s G full low report own
+    asked : asking n full low report a b ≡ pair n full low report a b
+    asked = asks full low report (full-room own) (low-room own) (report-room own) ha hb
 
     -- asking is not refused, and answers the entry of Report
     pub asking-answers : (x : Answer) × (asking n full low report a b ≡ answered x) × (x .report ≡ entryAt n (reportTable n s G) a b)
     unfolding pair
     asking-answers =
         let g = acc .lists .graph in
-        let i =
-        pair-built n s G g (acc .size) full low report own a b ha hb (taken n full a b)
-        (taken-right n s G g (acc .size) full low report own a b ha hb) in (
+        let i = pair-built g (acc .size) own ha hb _ (taken-right g (acc .size) own ha hb) in (
           withRoute (entryAt n report a b) (i .0),
-          asks full low report hf hl hr a b ha hb ∙ i .1,
-          report-at n s G g (acc .size) full low report own a b ha hb,
+          asked ∙ i .1,
+          report-at g (acc .size) own ha hb,
         )
 
     -- the report is none exactly where no chain joins the pair, else from the fewest links to two more
@@ -246,42 +223,52 @@ module _ (n : ℕ) (starts neighbours : List ℕ) (acc : Accepted n starts neigh
     asking-allowed = let i = asking-answers in record {
       value = i .0;
       given = i .1;
-      allowed = subst (λ (r : ℕ). Allowed (linked n G) a b r) (sym (i .2)) (allowed n s G (acc .lists .graph) (acc .size) a b ha hb);
+      allowed = rw (i .2) (allowed n s G (acc .lists .graph) (acc .size) a b ha hb);
     }
 
   -- and writing the walk answers as asking does, if the walk list has report + 1 entries or there is no route
-  walking-answers : (full low report : List ℕ) → AreBuilt n (threshold n) (neighboursOf starts neighbours) full low report
-      → (a b : ℕ) → a < n → b < n → (w : ℕ)
+  walking-answers : {full low report : List ℕ} → AreBuilt n (threshold n) (neighboursOf starts neighbours) full low report
+      → {a b : ℕ} → a < n → b < n → (w : ℕ)
       → WalkAnswers w (asking n full low report a b) (walking n starts neighbours full low report a b w)
   unfolding pair
-  walking-answers full low report own a b ha hb w x e room =
-      let s = threshold n in
+  walking-answers {full} {low} {report} own {a} {b} ha hb w x e room =
       let g = acc .lists .graph in
-      let f = full-room n s G full low report own in
-      let l = low-room n s G full low report own in
-      let r = report-room n s G full low report own in
-      let p = taken-right n s G g (acc .size) full low report own a b ha hb in
-      let i = pair-built n s G g (acc .size) full low report own a b ha hb (taken n full a b) p in
-      let q : withRoute (entryAt n report a b) (i .0) ≡ x = cc (asks full low report f l r a b ha hb, i .1) in
-      ap (λ (y : AfterWalking). y .answer) (walks full low report f l r a b ha hb w)
-      ∙ walk-built n s G g (acc .size) full low report own a b ha hb (taken n full a b) p w
-      (subst (λ (y : Answer). (y .report ≡ none) ⊎ (y .report < w)) (sym q) room)
-      ∙ sym (asks full low report f l r a b ha hb) ∙ e
+      let p = taken-right g (acc .size) own ha hb in
+      let i = pair-built g (acc .size) own ha hb (taken n full a b) p in
+      let q : withRoute (entryAt n report a b) (i .0) ≡ x = cc (asked own ha hb, i .1) in
+      (rw (walks full low report (full-room own) (low-room own) (report-room own) ha hb w))
+      ∙ walk-built g (acc .size) own ha hb (taken n full a b) p w
+      (rw (← q) at room)
+      ∙ sym (asked own ha hb) ∙ e
+
+-- building into lists that are long enough
+pub building-answers : (n : ℕ) (starts neighbours : List ℕ) → Accepted n starts neighbours → (full low report list : List ℕ)
+    → n * n ≤ length full → n * n ≤ length low → n * n ≤ length report → n ≤ length list
+    → building n starts neighbours full low report list ≡ built n (threshold n) (neighboursOf starts neighbours) full low report list
+unfolding building
+building-answers n starts neighbours acc full low report list hf hl hr hh =
+    rw (
+      good-size n (acc .some-node) (acc .size),
+      le-ltb (length starts) (n + 1) (acc .room),
+      long-tables n (length full) (length low) (length report) hf hl hr,
+      le-ltb (length list) n hh,
+      is-survey acc,
+    ) refl
 
 -- ---- what the calls promise, in the words of specs/Demand.antt
 
 pub asking-right : (n : ℕ) (full low report : List ℕ) (a b : ℕ) → AskRight n full low report a b (asking n full low report a b)
-asking-right n full low report a b s starts neighbours acc own = asking-allowed n starts neighbours acc s full low report own a b
+asking-right n full low report a b s starts neighbours acc own = asking-allowed acc own
 
 pub walking-right : (n : ℕ) (starts neighbours full low report : List ℕ) (a b w : ℕ)
     → WalkRight n (threshold n) starts neighbours full low report a b w (walking n starts neighbours full low report a b w)
 walking-right n starts neighbours full low report a b w acc own ha hb = (
-  asking-allowed n starts neighbours acc (threshold n) full low report own a b ha hb,
-  walking-answers n starts neighbours acc full low report own a b ha hb w,
+  asking-allowed acc own ha hb,
+  walking-answers acc own ha hb w,
 )
 
 pub testing-right : (n : ℕ) (starts neighbours : List ℕ) → TestRight n starts neighbours (testing n starts neighbours)
-testing-right n starts neighbours acc = testing-verdict n starts neighbours acc
+testing-right n starts neighbours acc = testing-verdict acc
 
 pub building-right : (n : ℕ) (starts neighbours full low report list : List ℕ)
     → BuildRight n (threshold n) starts neighbours (building n starts neighbours full low report list)
@@ -290,11 +277,11 @@ building-right n starts neighbours full low report list =
     picked P (badSize n) _ _ (λ _ k e. never e) (λ size.
     picked P (shortLists n (length starts) (length full) (length low) (length report) (length list)) _ _ (λ _ k e. never e) (λ room.
     picked P (not (isSurvey n starts neighbours)) _ _ (λ _ k e. never e) (λ lists k e.
-    let some-room = of-or-false (ltb (length starts) (n + 1)) _
-    (of-or-false (ltb (length starts) (n + 1) || shortTables n (length full) (length low) (length report)) _ room .0) .0 in
+    let some-room = of-or-false _ _
+    (of-or-false _ _ room .0) .0 in
     record {
-      survey = tests-facts n starts neighbours size some-room lists;
-      tables = built-right n (threshold n) (neighboursOf starts neighbours) full low report list;
+      survey = tests-facts _ _ _ size some-room lists;
+      tables = built-right _ _ _ full _ _ _;
       count = sym (ap (numberIn (λ i. i)) e);
     })))
   where

@@ -18,32 +18,32 @@ use Rattle.model.proofs.Lists.{length-upTo}
 getD-numbers : (k m i d : ℕ) → i < m → getD (from k m) i d ≡ k + i
 unfolding from
 getD-numbers k zero i d h = absurd (not-suc-le-zero h)
-getD-numbers k (suc m) zero d h = sym (add-zero k)
-getD-numbers k (suc m) (suc i) d h = getD-numbers (suc k) m i d (le-of-suc-le-suc h) ∙ suc-add k i ∙ sym (add-suc k i)
+getD-numbers k (suc m) zero d h = sym (add-zero _)
+getD-numbers k (suc m) (suc i) d h = getD-numbers (suc k) m _ _ (le-of-suc-le-suc h) ∙ suc-add _ _ ∙ sym (add-suc _ _)
 
 -- a list of one value reads that value everywhere, past its end too
 pub getD-same : (n i d : ℕ) → getD (replicate n d) i d ≡ d
 getD-same zero i d = refl
 getD-same (suc n) zero d = refl
-getD-same (suc n) (suc i) d = getD-same n i d
+getD-same (suc n) (suc i) d = getD-same n _ _
 
 -- the i-th of the numbers below n is i
 pub getD-upTo : (n i d : ℕ) → i < n → getD (upTo n) i d ≡ i
 unfolding upTo
-getD-upTo n i d h = getD-numbers 0 n i d h ∙ zero-add i
+getD-upTo n i d h = getD-numbers _ _ _ _ h ∙ zero-add _
 
 getD-from : (g : ℕ → ℕ) (k m i d : ℕ) → i < m → getD (map g (from k m)) i d ≡ g (k + i)
 unfolding from
 getD-from g k zero i d h = absurd (not-suc-le-zero h)
-getD-from g k (suc m) zero d h = ap g (sym (add-zero k))
-getD-from g k (suc m) (suc i) d h = getD-from g (suc k) m i d (le-of-suc-le-suc h) ∙ ap g (suc-add k i ∙ sym (add-suc k i))
+getD-from g k (suc m) zero d h = ap g (sym (add-zero _))
+getD-from g k (suc m) (suc i) d h = getD-from g (suc k) m _ _ (le-of-suc-le-suc h) ∙ ap g (suc-add _ _ ∙ sym (add-suc _ _))
 
 pub getD-row : (g : ℕ → ℕ) (n i d : ℕ) → i < n → getD (map g (upTo n)) i d ≡ g i
 unfolding upTo
 getD-row g n i d h = getD-from g 0 n i d h ∙ ap g (zero-add i)
 
 pub length-row : (g : ℕ → ℕ) (n : ℕ) → length (map g (upTo n)) ≡ n
-length-row g n = length-map (upTo n) g ∙ length-upTo n
+length-row g n = length-map (upTo n) g ∙ length-upTo _
 
 module _ (n : ℕ) (f : ℕ → ℕ → ℕ) where
   -- the m rows from row k on
@@ -52,7 +52,7 @@ module _ (n : ℕ) (f : ℕ → ℕ → ℕ) where
 
   pub length-rows : (k m : ℕ) → length (rows k m) ≡ m * n
   unfolding rows from gather rowsOf
-  length-rows k zero = sym (zero-mul n)
+  length-rows k zero = sym (zero-mul _)
   length-rows k (suc m) =
       length-append (map (f k) (upTo n)) (rows (suc k) m) ∙ omega (arith, length-row (f k) n, length-rows (suc k) m, suc-mul m n)
 
@@ -64,24 +64,24 @@ module _ (n : ℕ) (f : ℕ → ℕ → ℕ) where
       let e : zero * n + j ≡ j = omega (arith, zero-mul n) in
       let b : j < length row = omega (arith, length-row (f k) n) in
       ap (λ (x : ℕ). getD (row ++ rows (suc k) m) x 0) e
-      ∙ List·getD-append row (rows (suc k) m) 0 j b
-      ∙ getD-row (f k) n j 0 hj
-      ∙ ap (λ (x : ℕ). f x j) (sym (add-zero k))
+      ∙ List·getD-append row _ _ _ b
+      ∙ getD-row (f k) _ _ _ hj
+      ∙ ap (λ (x : ℕ). f x j) (sym (add-zero _))
   getD-rows k (suc m) (suc i) j hi hj =
       let row = map (f k) (upTo n) in
       let e : suc i * n + j ≡ length row + (i * n + j) = omega (arith, suc-mul i n, length-row (f k) n) in
       ap (λ (x : ℕ). getD (row ++ rows (suc k) m) x 0) e
-      ∙ getD-append-add row (rows (suc k) m) (i * n + j) 0
-      ∙ getD-rows (suc k) m i j (le-of-suc-le-suc hi) hj
-      ∙ ap (λ (x : ℕ). f x j) (suc-add k i ∙ sym (add-suc k i))
+      ∙ getD-append-add row _ _ _
+      ∙ getD-rows (suc k) m _ _ (le-of-suc-le-suc hi) hj
+      ∙ ap (λ (x : ℕ). f x j) (suc-add _ _ ∙ sym (add-suc _ _))
 
   pub length-table : length (table n f) ≡ n * n
   unfolding table upTo rows rowsOf
-  length-table = length-rows 0 n
+  length-table = length-rows _ _
 
   pub entry-table : (a b : ℕ) → a < n → b < n → entryAt n (table n f) a b ≡ f a b
   unfolding table upTo rows entryAt rowsOf
-  entry-table a b ha hb = getD-rows 0 n a b ha hb ∙ ap (λ (x : ℕ). f x b) (zero-add a)
+  entry-table a b ha hb = getD-rows _ _ _ _ ha hb ∙ rw (zero-add _)
 
 -- an entry's place in its table; and a table has at most 1,048,576 entries
 pub place-inside : (n a b : ℕ) → a < n → b < n → a * n + b < n * n
@@ -94,7 +94,7 @@ square-small n h = mul-le-mul h h
 pub entry-front : (n : ℕ) (t u : List ℕ) → take (n * n) t ≡ u → (a b : ℕ) → a < n → b < n → entryAt n t a b ≡ entryAt n u a b
 unfolding entryAt
 entry-front n t u e a b ha hb =
-    sym (getD-take (n * n) t (a * n + b) 0 (place-inside n a b ha hb)) ∙ ap (λ (l : List ℕ). getD l (a * n + b) 0) e
+    sym (getD-take _ _ _ _ (place-inside _ _ _ ha hb)) ∙ ap (λ (l : List ℕ). getD l (a * n + b) 0) e
 
 pub front-length : (k : ℕ) (t u : List ℕ) → take k t ≡ u → length u ≡ k → k ≤ length t
 front-length k t u e l = omega (arith, length-take k t, ap length e, l)
@@ -110,4 +110,4 @@ pub of-long-tables : (n f l r : ℕ) → shortTables n f l r ≡ false → (n * 
 of-long-tables n f l r e =
     let p = of-or-false (ltb f (n * n) || ltb l (n * n)) (ltb r (n * n)) e in
     let q = of-or-false (ltb f (n * n)) (ltb l (n * n)) (p .0) in
-    (ltb-false f (n * n) (q .0), ltb-false l (n * n) (q .1), ltb-false r (n * n) (p .1))
+    (ltb-false _ _ (q .0), ltb-false _ _ (q .1), ltb-false _ _ (p .1))

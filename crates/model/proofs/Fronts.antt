@@ -1,5 +1,5 @@
--- The front of a text decides. No line has more than 24 bytes, so the first line and the link lines that the limit allows have a greatest
--- length; of what follows, reading only looks whether there is any.
+-- A text is read as its front is. No line has more than 24 bytes, so the first line and the link lines that the limit allows have a greatest
+-- length; of what follows, reading only tests whether there is any.
 -- Assumes nothing.
 use mathlib.Core.Path.{_≡_, refl, sym, ap, ap₂, _∙_}
 use mathlib.Core.Bool.{Bool, true, false, _||_}
@@ -18,6 +18,7 @@ use Rattle.model.specs.Survey.{outside}
 use Rattle.model.specs.Reading.{named, onLinks, linkOf, readOn, readLinks, parsed, countsOf, parseLinks, parse, readingOf, reading}
 use Rattle.model.specs.Listing.{listingText, listing}
 use Rattle.model.proofs.Numbers.{length-le}
+use Rattle.model.proofs.Outcomes.{no-value}
 use Rattle.model.proofs.Lines.{length-line, line-complete, line-sound}
 
 -- ---- one line: none in both, or the same numbers in both
@@ -37,12 +38,11 @@ line-front letter after text k h = at (line letter text) refl (line letter (take
         → FrontLine letter text k
     at missing e missing g = no-line e g
     at missing e (some l) g =
-        let s = line-sound letter (take k text) (l .0) (l .1) (l .2) g in
+        let s = line-sound _ (take k text) _ _ (l .2) g in
         let whole : text ≡ lineOf letter (l .0) (l .1) ++ (l .2 ++ drop k text) =
-        sym (take-append-drop k text) ∙ ap (λ (t : List ℕ). t ++ drop k text) (s .is-text)
-        ∙ append-assoc (lineOf letter (l .0) (l .1)) (l .2) (drop k text) in
-        let f = ap (line letter) whole ∙ line-complete letter after (l .0) (l .1) (s .small-x) (s .small-y) (l .2 ++ drop k text) in
-        absurd (let z : _≡_ {A = ℕ} 0 1 = cc in omega arith)
+        sym (take-append-drop k _) ∙ ap (λ (t : List ℕ). t ++ drop k text) (s .is-text)
+        ∙ append-assoc (lineOf letter (l .0) (l .1)) _ _ in
+        no-value (sym e ∙ ap (line letter) whole ∙ line-complete _ after _ _ (s .small-x) (s .small-y) _)
     at (some l) e f g =
         let s = line-sound letter text (l .0) (l .1) (l .2) e in
         let first : List ℕ = lineOf letter (l .0) (l .1) in
@@ -55,12 +55,12 @@ line-front letter after text k h = at (line letter text) refl (line letter (take
 
 -- ---- the link lines
 
--- the tests of a line look at its numbers only
-link-same : (n : ℕ) (given : ℕ → ℕ → Bool) (x y : ℕ) (r r′ : List ℕ) (next : ℕ → ℕ → List ℕ → Outcome (List (ℕ × ℕ)))
+-- the tests of a line depend on its numbers only
+link-same : (n : ℕ) (given : ℕ → ℕ → Bool) (next : ℕ → ℕ → List ℕ → Outcome (List (ℕ × ℕ))) {x y : ℕ} {r r′ : List ℕ}
     → next x y r ≡ next x y r′
     → readOn next (linkOf n given (some (x, y, r))) ≡ readOn next (linkOf n given (some (x, y, r′)))
 unfolding linkOf readOn
-link-same n given x y r r′ next e = at (leb n x || leb n y) (eqb x y) (given x y)
+link-same n given next {x} {y} {r} {r′} e = at (leb n x || leb n y) (eqb x y) (given x y)
   where
     at : (a b c : Bool)
         → readOn next (if a then refused 4 else if b then refused 5 else if c then refused 6 else answered (x, y, r))
@@ -79,7 +79,7 @@ links-front n zero done (c ∷ text) (suc k) h = refl
 links-front n (suc m) done text zero h = absurd (omega arith)
 links-front n (suc m) done [] (suc k) h = refl
 links-front n (suc m) done (c ∷ text) (suc k) h =
-    at (line-front 76 (omega arith) (c ∷ text) (suc k) (omega arith)) (λ a b rest j. links-front n m ((a, b) ∷ done) rest j)
+    at (line-front _ (omega arith) _ _ (omega arith)) (λ a b. links-front n m ((a, b) ∷ done))
   where
     next : ℕ → ℕ → List ℕ → Outcome (List (ℕ × ℕ))
     next a b rest = readLinks n m ((a, b) ∷ done) rest
@@ -88,11 +88,9 @@ links-front n (suc m) done (c ∷ text) (suc k) h =
         → ((a b : ℕ) (rest : List ℕ) (j : ℕ) → 24 * m < j
         → readLinks n m ((a, b) ∷ done) (take j rest) ≡ readLinks n m ((a, b) ∷ done) rest)
         → readOn next (linkOf n (named done) (line 76 (take (suc k) (c ∷ text)))) ≡ readOn next (linkOf n (named done) (line 76 (c ∷ text)))
-    at (no-line e f) rec = ap (λ (o : Option (ℕ × ℕ × List ℕ)). readOn next (linkOf n (named done) o)) (f ∙ sym e)
+    at (no-line e f) rec = rw (f, e)
     at (same-line x y rest j i e f) rec =
-        ap (λ (o : Option (ℕ × ℕ × List ℕ)). readOn next (linkOf n (named done) o)) f
-        ∙ link-same n (named done) x y (take j rest) rest next (rec x y rest j (omega arith))
-        ∙ sym (ap (λ (o : Option (ℕ × ℕ × List ℕ)). readOn next (linkOf n (named done) o)) e)
+        rw (f, e) (link-same n (named done) next (rec x y rest j (omega arith)))
 
 -- ---- the whole text
 
@@ -107,19 +105,17 @@ counts-same N M p q x y r r′ e = at (outside N x) (ltb M y) refl (ltb p (x + 1
     at true b m c = refl
     at false true m c = refl
     at false false m true = refl
-    at false false m false = ap (parsed x) (e (ltb-false M y m))
+    at false false m false = ap (parsed x) (e (ltb-false _ _ m))
 
 -- within limits, a text says what its front says
 pub parse-front : (N M p q : ℕ) (text : List ℕ) (k : ℕ) → 24 * (M + 1) < k → parse N M p q (take k text) ≡ parse N M p q text
 unfolding parse
-parse-front N M p q text k h = at (line-front 83 (omega arith) text k (omega arith))
+parse-front N M p q text k h = at (line-front _ (omega arith) _ _ (omega arith))
   where
     at : FrontLine 83 text k → parseLinks (countsOf N M p q (line 83 (take k text))) ≡ parseLinks (countsOf N M p q (line 83 text))
-    at (no-line e f) = ap (λ (o : Option (ℕ × ℕ × List ℕ)). parseLinks (countsOf N M p q o)) (f ∙ sym e)
+    at (no-line e f) = rw (f, e)
     at (same-line x y rest j i e f) =
-        ap (λ (o : Option (ℕ × ℕ × List ℕ)). parseLinks (countsOf N M p q o)) f
-        ∙ counts-same N M p q x y (take j rest) rest (λ m. links-front x y [] rest j (omega arith))
-        ∙ sym (ap (λ (o : Option (ℕ × ℕ × List ℕ)). parseLinks (countsOf N M p q o)) e)
+        rw (f, e) (counts-same N M p q x y _ _ (λ m. links-front x y [] _ j (omega arith)))
 
 -- a text is read as its first 393,241 bytes are
 pub reading-front : (text : List ℕ) (p q k : ℕ) → 24 * (16384 + 1) < k → reading (take k text) p q ≡ reading text p q
@@ -129,4 +125,4 @@ reading-front text p q k h = ap (readingOf p q) (parse-front 1024 16384 p q text
 -- and its listing is that of its first 49,177 bytes
 pub listing-front : (text : List ℕ) (k : ℕ) → 24 * (2048 + 1) < k → listing (take k text) ≡ listing text
 unfolding listing
-listing-front text k h = ap listingText (parse-front 128 2048 (128 + 1) (2 * 2048) text k h)
+listing-front text k h = ap listingText (parse-front 128 2048 _ _ text k h)

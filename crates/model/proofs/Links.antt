@@ -1,7 +1,7 @@
 -- The link lines. Reading accepts them exactly where each line names a link that is new.
 -- Assumes nothing.
 use mathlib.Core.Path.{_≡_, refl, sym, ap, ap₂, _∙_, subst}
-use mathlib.Core.Bool.{Bool, true, false, _||_}
+use mathlib.Core.Bool.{Bool, false, _||_}
 use mathlib.Core.List.{List, [], _∷_, _++_}
 use mathlib.Core.Option.{Option, none as missing, some}
 use Prim.Native.Nat.{ℕ, zero, suc, _+_, _*_, _^_, _≤_, _<_}
@@ -11,12 +11,12 @@ use borrow.Author.Tests.{lt-leb, leb-false, ne-eqb, le-ltb, ltb-false, eqb-false
 use lib.ListN.{length}
 use lib.Dec.{eqb, ltb, leb}
 use Rattle.model.specs.Answers.{Outcome, refused, answered}
-use Rattle.model.specs.Basics.{if_then_else_, gather}
+use Rattle.model.specs.Basics.{gather}
 use Rattle.model.specs.SurveyText.{line, lineOf, linkLines, surveyText}
 use Rattle.model.specs.Survey.{outside}
 use Rattle.model.specs.Reading.{named, onLinks, linkOf, readOn, readLinks, Parsed, parsed, countsOf, parseLinks, parse}
 use Rattle.model.proofs.Outcomes.{never}
-use Rattle.model.proofs.Tests.{or-false, of-or-false}
+use Rattle.model.proofs.Tests.{or-false, of-or-false, picked}
 use Rattle.model.proofs.Acceptance.{in-range, of-in-range}
 use Rattle.model.proofs.Lines.{line-complete, IsLine, line-sound}
 
@@ -47,36 +47,24 @@ module _ (n : ℕ) (given : ℕ → ℕ → Bool) where
   pub of-link-taken : (o : Option (ℕ × ℕ × List ℕ)) (x : ℕ × ℕ × List ℕ) → linkOf n given o ≡ answered x
       → (o ≡ some x) × Fresh n given (x .0) (x .1)
   unfolding linkOf
-  of-link-taken missing x e = never e
-  of-link-taken (some l) x e = four (leb n (l .0) || leb n (l .1)) refl e
+  of-link-taken missing x = never
+  of-link-taken (some l) x =
+      picked P (leb n (l .0) || leb n (l .1)) _ _ (λ _ e. never e) (λ below.
+      picked P (eqb (l .0) (l .1)) _ _ (λ _ e. never e) (λ different.
+      picked P (given (l .0) (l .1)) _ _ (λ _ e. never e) (λ new e.
+      let h = of-or-false _ _ below in
+      let i : l ≡ x = cc in (
+        ap some i,
+        subst (λ (y : ℕ × ℕ × List ℕ). Fresh n given (y .0) (y .1)) i (record {
+          below-a = leb-false _ _ (h .0);
+          below-b = leb-false _ _ (h .1);
+          different = eqb-false _ _ different;
+          new = new;
+        }),
+      ))))
     where
-      Taken : Type 0
-      Taken = (some l ≡ some x) × Fresh n given (x .0) (x .1)
-
-      six : (l .0 < n) × (l .1 < n) → (l .0 ≡ l .1 → ⊥) → (t : Bool) → given (l .0) (l .1) ≡ t
-          → if_then_else_ {A = Outcome (ℕ × ℕ × List ℕ)} t (refused 6) (answered l) ≡ answered x → Taken
-      six b d true q e = never e
-      six b d false q e =
-          let i : l ≡ x = cc in (
-            ap some i,
-            subst (λ (y : ℕ × ℕ × List ℕ). Fresh n given (y .0) (y .1)) i
-                (record { below-a = b .0; below-b = b .1; different = d; new = q }),
-          )
-
-      five : (l .0 < n) × (l .1 < n) → (t : Bool) → eqb (l .0) (l .1) ≡ t
-          → if_then_else_ {A = Outcome (ℕ × ℕ × List ℕ)} t (refused 5) (if given (l .0) (l .1) then refused 6 else answered l) ≡ answered x
-          → Taken
-      five b true q e = never e
-      five b false q e = six b (eqb-false (l .0) (l .1) q) (given (l .0) (l .1)) refl e
-
-      four : (t : Bool) → (leb n (l .0) || leb n (l .1)) ≡ t
-          → if_then_else_ {A = Outcome (ℕ × ℕ × List ℕ)} t (refused 4)
-          (if eqb (l .0) (l .1) then refused 5 else if given (l .0) (l .1) then refused 6 else answered l) ≡ answered x
-          → Taken
-      four true q e = never e
-      four false q e =
-          let h = of-or-false (leb n (l .0)) (leb n (l .1)) q in
-          five (leb-false n (l .0) (h .0), leb-false n (l .1) (h .1)) (eqb (l .0) (l .1)) refl e
+      P : Outcome (ℕ × ℕ × List ℕ) → Type 0
+      P o = o ≡ answered x → (some l ≡ some x) × Fresh n given (x .0) (x .1)
 
 -- ---- all lines
 
@@ -88,8 +76,8 @@ links-complete n le (l ∷ ls) done f =
     let g = f .0 in
     let next : ℕ → ℕ → List ℕ → Outcome (List (ℕ × ℕ)) = λ a b rest. readLinks n (length ls) ((a, b) ∷ done) rest in
     ap (λ (o : Option (ℕ × ℕ × List ℕ)). readOn next (linkOf n (named done) o))
-    (line-complete 76 (omega arith) (l .0) (l .1) (lt-of-lt-of-le (g .below-a) le) (lt-of-lt-of-le (g .below-b) le) (linkLines ls))
-    ∙ ap (readOn next) (link-taken n (named done) (l .0, l .1, linkLines ls) g)
+    (line-complete _ (omega arith) _ _ (lt-of-lt-of-le (g .below-a) le) (lt-of-lt-of-le (g .below-b) le) _)
+    ∙ ap (readOn next) (link-taken _ _ _ g)
     ∙ ap (onLinks l) (links-complete n le ls (l ∷ done) (f .1))
 
 pub record LinesRead (n m : ℕ) (done : List (ℕ × ℕ)) (text : List ℕ) (ls : List (ℕ × ℕ)) : Type 0 where
@@ -102,11 +90,11 @@ pub links-sound : (n m : ℕ) (done : List (ℕ × ℕ)) (text : List ℕ) (ls :
 unfolding readLinks readOn onLinks linkLines gather
 links-sound n zero done [] ls e =
     let q : _≡_ {A = List (ℕ × ℕ)} [] ls = cc in
-    subst (λ (k : List (ℕ × ℕ)). LinesRead n zero done [] k) q (record { is-text = refl; count = refl; fresh = tt })
+    rw (← q) (record { is-text = refl; count = refl; fresh = tt })
 links-sound n zero done (c ∷ text) ls e = never e
 links-sound n (suc m) done [] ls e = never e
 links-sound n (suc m) done (c ∷ text) ls e =
-    at (linkOf n (named done) (line 76 (c ∷ text))) refl e (λ a b rest ks. links-sound n m ((a, b) ∷ done) rest ks)
+    at (linkOf n (named done) (line 76 (c ∷ text))) refl e (λ a b rest ks. links-sound n m _ _ _)
   where
     next : ℕ → ℕ → List ℕ → Outcome (List (ℕ × ℕ))
     next a b rest = readLinks n m ((a, b) ∷ done) rest
@@ -119,7 +107,7 @@ links-sound n (suc m) done (c ∷ text) ls e =
     more l rest (answered ks) t f e rec =
         let q : l ∷ ks ≡ ls = cc in
         let r = rec ks refl in
-        subst (λ (k : List (ℕ × ℕ)). LinesRead n (suc m) done (c ∷ text) k) q (record {
+        rw (← q) (record {
           is-text = t .is-text ∙ ap (λ (k : List ℕ). lineOf 76 (l .0) (l .1) ++ k) (r .is-text);
           count = ap suc (r .count);
           fresh = (f, r .fresh);
@@ -131,7 +119,7 @@ links-sound n (suc m) done (c ∷ text) ls e =
         → LinesRead n (suc m) done (c ∷ text) ls
     at (refused k) q e rec = never e
     at (answered x) q e rec =
-        let t = of-link-taken n (named done) (line 76 (c ∷ text)) x q in
+        let t = of-link-taken _ _ _ _ q in
         more (x .0, x .1) (x .2) (next (x .0) (x .1) (x .2)) (line-sound 76 (c ∷ text) (x .0) (x .1) (x .2) (t .0)) (t .1) e
         (λ ks. rec (x .0) (x .1) (x .2) ks)
 
@@ -160,46 +148,28 @@ module _ (N M p q : ℕ) where
   pub of-first-taken : (o : Option (ℕ × ℕ × List ℕ)) (x : ℕ × ℕ × List ℕ) → countsOf N M p q o ≡ answered x
       → (o ≡ some x) × Within N M p q (x .0) (x .1)
   unfolding countsOf
-  of-first-taken missing x e = never e
-  of-first-taken (some f) x e = two (outside N n) refl e
+  of-first-taken missing x = never
+  of-first-taken (some f) x =
+      let n = f .0 in
+      let m = f .1 in
+      picked P (outside N n) _ _ (λ _ e. never e) (λ size.
+      picked P (ltb M m) _ _ (λ _ e. never e) (λ few.
+      picked P (ltb p (n + 1) || ltb q (2 * m)) _ _ (λ _ e. never e) (λ room e.
+      let b = of-in-range _ _ size in
+      let r = of-or-false _ _ room in
+      let i : f ≡ x = cc in (
+        ap some i,
+        subst (λ (y : ℕ × ℕ × List ℕ). Within N M p q (y .0) (y .1)) i (record {
+          some-node = b .0;
+          size = b .1;
+          few = ltb-false _ _ few;
+          room = ltb-false _ _ (r .0);
+          list-room = ltb-false _ _ (r .1);
+        }),
+      ))))
     where
-      n : ℕ
-      n = f .0
-
-      m : ℕ
-      m = f .1
-
-      Taken : Type 0
-      Taken = (some f ≡ some x) × Within N M p q (x .0) (x .1)
-
-      eight : (1 ≤ n) × (n ≤ N) → m ≤ M → (t : Bool) → (ltb p (n + 1) || ltb q (2 * m)) ≡ t
-          → if_then_else_ {A = Outcome (ℕ × ℕ × List ℕ)} t (refused 8) (answered f) ≡ answered x → Taken
-      eight s w true k e = never e
-      eight s w false k e =
-          let i : f ≡ x = cc in
-          let r = of-or-false (ltb p (n + 1)) (ltb q (2 * m)) k in (
-            ap some i,
-            subst (λ (y : ℕ × ℕ × List ℕ). Within N M p q (y .0) (y .1)) i (record {
-              some-node = s .0;
-              size = s .1;
-              few = w;
-              room = ltb-false p (n + 1) (r .0);
-              list-room = ltb-false q (2 * m) (r .1);
-            }),
-          )
-
-      three : (1 ≤ n) × (n ≤ N) → (t : Bool) → ltb M m ≡ t
-          → if_then_else_ {A = Outcome (ℕ × ℕ × List ℕ)} t (refused 3) (if ltb p (n + 1) || ltb q (2 * m) then refused 8 else answered f)
-          ≡ answered x → Taken
-      three s true k e = never e
-      three s false k e = eight s (ltb-false M m k) (ltb p (n + 1) || ltb q (2 * m)) refl e
-
-      two : (t : Bool) → outside N n ≡ t
-          → if_then_else_ {A = Outcome (ℕ × ℕ × List ℕ)} t (refused 2)
-          (if ltb M m then refused 3 else if ltb p (n + 1) || ltb q (2 * m) then refused 8 else answered f) ≡ answered x
-          → Taken
-      two true k e = never e
-      two false k e = three (of-in-range N n k) (ltb M m) refl e
+      P : Outcome (ℕ × ℕ × List ℕ) → Type 0
+      P o = o ≡ answered x → (some f ≡ some x) × Within N M p q (x .0) (x .1)
 
 -- a text that is accepted, with lists of p and q entries: its counts are within the limits, it is the text of its links, and each is new
 pub record TextRead (mostNodes mostLinks p q : ℕ) (text : List ℕ) (x : Parsed) : Type 0 where
@@ -212,13 +182,12 @@ module _ (N M p q : ℕ) where
   unfolding parse parseLinks parsed surveyText
   parse-complete hN hM x text r =
       let n = x .nodes in
-      let m = length (x .links) in
       let w = r .within in
       ap (parse N M p q) (r .is-text)
       ∙ ap (λ (o : Option (ℕ × ℕ × List ℕ)). parseLinks (countsOf N M p q o))
-      (line-complete 83 (omega arith) n m (lt-of-le-of-lt (w .size) hN) (lt-of-le-of-lt (w .few) hM) (linkLines (x .links)))
-      ∙ ap parseLinks (first-taken N M p q (n, m, linkLines (x .links)) w)
-      ∙ ap (parsed n) (links-complete n (lt-le hN (w .size)) (x .links) [] (r .fresh))
+      (line-complete _ (omega arith) _ _ (lt-of-le-of-lt (w .size) hN) (lt-of-le-of-lt (w .few) hM) _)
+      ∙ ap parseLinks (first-taken N M p q _ w)
+      ∙ ap (parsed n) (links-complete _ (lt-le hN (w .size)) _ _ (r .fresh))
     where
       lt-le : N < 10 ^ 10 → x .nodes ≤ N → x .nodes ≤ 10 ^ 10
       lt-le h k = omega arith
@@ -234,10 +203,10 @@ module _ (N M p q : ℕ) where
           let n = f .0 in
           let m = f .1 in
           let y : _≡_ {A = Parsed} (record { nodes = n; links = ls }) x = cc in
-          let g = links-sound n m [] (f .2) ls i in
+          let g = links-sound _ _ _ (f .2) ls i in
           let l = line-sound 83 text n m (f .2) h in
-          subst (λ (z : Parsed). TextRead N M p q text z) y (record {
-            within = subst (λ (k : ℕ). Within N M p q n k) (sym (g .count)) w;
+          rw (← y) (record {
+            within = rw (g .count) w;
             is-text = l .is-text ∙ ap₂ (λ (k : ℕ) (t : List ℕ). lineOf 83 n k ++ t) (sym (g .count)) (g .is-text);
             fresh = g .fresh;
           })
@@ -245,5 +214,5 @@ module _ (N M p q : ℕ) where
       at : (o : Outcome (ℕ × ℕ × List ℕ)) → countsOf N M p q (line 83 text) ≡ o → parseLinks o ≡ answered x → TextRead N M p q text x
       at (refused k) h e = never e
       at (answered f) h e =
-          let t = of-first-taken N M p q (line 83 text) f h in
+          let t = of-first-taken N M p q _ f h in
           links f (t .0) (t .1) (readLinks (f .0) (f .1) [] (f .2)) refl e

@@ -1,7 +1,7 @@
 -- The listing of a survey has a line for each pair a < b, in order, with an allowed report.
 -- Assumes nothing.
 use mathlib.Core.Path.{_≡_, sym, ap, _∙_, subst}
-use mathlib.Core.List.{List, _++_, map}
+use mathlib.Core.List.{List, _++_}
 use Prim.Native.Nat.{ℕ, _+_, _*_, _≤_, _<_}
 use native.Mathlib.Omega.{arith}
 use lib.Dec.{T, ltb}
@@ -17,7 +17,7 @@ use Rattle.model.specs.Threshold.{threshold}
 use Rattle.model.specs.Hubs.{hubs}
 use Rattle.model.specs.Tables.{entryAt, fullTable, lowTable, reportTable, AreBuilt}
 use Rattle.model.specs.Pair.{withRoute, taken, pair}
-use Rattle.model.specs.Reading.{named, Parsed, parse, graphOf}
+use Rattle.model.specs.Reading.{Parsed, parse, graphOf}
 use Rattle.model.specs.Listing.{pairLine, pairsBelow, pairLines, listingOf, listingText, listing}
 use Rattle.model.specs.Demand.{Allowed}
 use Rattle.model.proofs.Lists.{has-keep, of-keep, has-upTo, of-upTo, gather-same, gather-gather, gather-map}
@@ -30,15 +30,15 @@ use Rattle.model.proofs.Totals.{named-sym}
 -- the tables that the rules give are the ones built
 pub rules-built : (n s : ℕ) (G : Graph) → AreBuilt n s G (fullTable n s G) (lowTable n s G) (reportTable n s G)
 unfolding fullTable lowTable reportTable
-rules-built n s G = record { full-front = table-front n _; low-front = table-front n _; report-front = table-front n _ }
+rules-built n s G = record { full-front = table-front _ _; low-front = table-front _ _; report-front = table-front _ _ }
 
 -- links name a graph
 pub links-graph : (n : ℕ) (ls : List (ℕ × ℕ)) → IsGraph n (graphOf n ls)
 unfolding graphOf
 links-graph n ls = record {
-  below = λ v x h m. of-upTo n x (of-keep (named ls v) (upTo n) x m .0);
+  below = λ v x h m. of-upTo _ _ (of-keep _ _ _ m .0);
   symmetric =
-      λ v x h m. has-keep (named ls x) (upTo n) v (has-upTo n v h) (subst T (named-sym ls v x) (of-keep (named ls v) (upTo n) x m .1));
+      λ v x h m. has-keep _ _ _ (has-upTo _ _ h) (subst T (named-sym _ _ _) (of-keep _ _ _ m .1));
 }
 
 -- the pairs below n, ordered by their first node
@@ -46,8 +46,8 @@ pub by-pairs : {B : Type 0} (f : ℕ × ℕ → List B) (n : ℕ)
     → gather f (pairsBelow n) ≡ gather (λ a. gather (λ b. f (a, b)) (keep (λ b. ltb a b) (upTo n))) (upTo n)
 unfolding pairsBelow ordered
 by-pairs f n =
-    gather-gather f (λ a. map (λ b. (a, b)) (keep (λ b. ltb a b) (upTo n))) (upTo n)
-    ∙ gather-same _ _ (upTo n) (λ a m. gather-map f (λ b. (a, b)) (keep (λ b. ltb a b) (upTo n)))
+    gather-gather _ _ _
+    ∙ gather-same _ _ _ (λ a m. gather-map _ _ _)
 
 -- the value of an answer
 unfoldable pub valueIn : Outcome Answer → Answer
@@ -74,16 +74,11 @@ module _ (text : List ℕ) (x : Parsed) (e : parse 128 2048 (128 + 1) (2 * 2048)
       → (reply a b ≡ answered (valueIn (reply a b))) × (valueIn (reply a b) .report ≡ entryAt n (reportTable n s G) a b)
   unfolding reply pair valueIn
   reply-is a b ha hb =
-      let g = links-graph n (x .links) in
+      let g = links-graph _ _ in
       let own = rules-built n s G in
-      let full = fullTable n s G in
-      let low = lowTable n s G in
-      let report = reportTable n s G in
-      let i =
-      pair-built n s G g size full low report own a b ha hb (taken n full a b)
-      (taken-right n s G g size full low report own a b ha hb) in (
+      let i = pair-built g size own ha hb (taken n (fullTable n s G) a b) (taken-right g size own ha hb) in (
         i .1 ∙ ap answered (sym (ap valueIn (i .1))),
-        ap (λ (o : Outcome Answer). valueIn o .report) (i .1) ∙ report-at n s G g size full low report own a b ha hb,
+        ap (λ (o : Outcome Answer). valueIn o .report) (i .1) ∙ report-at g size own ha hb,
       )
 
   -- the first line, then for each a < b in order a line with an allowed report and a route
@@ -95,11 +90,10 @@ module _ (text : List ℕ) (x : Parsed) (e : parse 128 2048 (128 + 1) (2 * 2048)
   listing-lines = (
     λ a b. valueIn (reply a b),
     ap listingText e ∙ ap (λ (l : List ℕ). lineOf 82 n (length (hubs n s G)) ++ l) (
-        by-pairs (λ p. pairLine p (reply (p .0) (p .1))) n
-        ∙ gather-same _ _ (upTo n) (λ a ma. gather-same _ _ (keep (λ b. ltb a b) (upTo n)) (λ b mb.
-        ap (pairLine (a, b)) (reply-is a b (of-upTo n a ma) (of-upTo n b (of-keep (λ b. ltb a b) (upTo n) b mb .0)) .0)))
-        ∙ sym (by-pairs (λ p. pairLine p (answered (valueIn (reply (p .0) (p .1))))) n)
+        by-pairs _ _
+        ∙ gather-same _ _ _ (λ a ma. gather-same _ _ _ (λ b mb.
+        ap (pairLine (a, b)) (reply-is _ _ (of-upTo _ _ ma) (of-upTo _ _ (of-keep _ _ _ mb .0)) .0)))
+        ∙ sym (by-pairs _ _)
         ),
-    λ a b ha hb. subst (λ (r : ℕ). Allowed (linked n G) a b r) (sym (reply-is a b ha hb .1))
-        (allowed n s G (links-graph n (x .links)) size a b ha hb),
+    λ a b ha hb. rw (reply-is _ _ ha hb .1) (allowed _ _ _ (links-graph _ _) size _ _ ha hb),
   )

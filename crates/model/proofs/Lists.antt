@@ -1,7 +1,7 @@
 -- Laws of the small functions on lists of specs/Basics.antt.
 -- Assumes nothing.
 use mathlib.Core.Path.{_≡_, refl, sym, ap, ap₂, _∙_, subst}
-use mathlib.Core.Logic.{_⊎_, inl, inr}
+use mathlib.Core.Logic.{_⊎_, inl, inr, ⊎-elim}
 use mathlib.Core.Bool.{Bool, true, false, not, _&&_, _||_, or-assoc}
 use mathlib.Core.List.{List, [], _∷_, _++_, map, append-assoc, append-nil}
 use Prim.Native.Nat.{ℕ, zero, suc, _+_, _-_, _≤_, _<_, suc-le-suc, zero-le}
@@ -10,78 +10,67 @@ use native.Mathlib.Omega.{arith}
 use lib.Dec.{T, eqb, eqb→eq, eqb-refl}
 use lib.ListN.{length}
 use Rattle.model.specs.Basics.{if_then_else_, from, upTo, has, any, all, keep, firstOf, gather, same}
-use Rattle.model.proofs.Tests.{and-l, and-r, and-i, or-l, or-r, or-e, passes}
+use Rattle.model.proofs.Tests.{and-l, and-r, and-i, or-l, or-r, or-e, eq-or}
 
 -- ---- membership
 
 pub has-head : (x : ℕ) (ys : List ℕ) → T (has x (x ∷ ys))
 unfolding has
-has-head x ys = or-l (eqb x x) (has x ys) (eqb-refl x)
+has-head x ys = or-l (eqb x x) _ (eqb-refl x)
 
 pub has-tail : (x y : ℕ) (ys : List ℕ) → T (has x ys) → T (has x (y ∷ ys))
 unfolding has
-has-tail x y ys t = or-r (eqb x y) (has x ys) t
+has-tail x y ys t = or-r (eqb x y) _ t
 
 pub of-cons : (x y : ℕ) (ys : List ℕ) → T (has x (y ∷ ys)) → (x ≡ y) ⊎ T (has x ys)
 unfolding has
-of-cons x y ys t = go (or-e (eqb x y) (has x ys) t)
-  where
-    go : T (eqb x y) ⊎ T (has x ys) → (x ≡ y) ⊎ T (has x ys)
-    go (inl e) = inl (eqb→eq x y e)
-    go (inr r) = inr r
+of-cons x y ys t = ⊎-elim (λ e. inl (eqb→eq _ _ e)) inr (or-e (eqb x y) _ t)
 
 pub of-single : (x y : ℕ) → T (has x (y ∷ [])) → x ≡ y
 unfolding has
-of-single x y t = go (of-cons x y [] t)
-  where
-    go : (x ≡ y) ⊎ T (has x []) → x ≡ y
-    go (inl e) = e
-    go (inr r) = absurd r
+of-single x y t = ⊎-elim (λ e. e) (λ r. absurd r) (of-cons _ _ [] t)
 
 -- ---- any, all, keep
 
 pub any-of : (p : ℕ → Bool) (l : List ℕ) (x : ℕ) → T (has x l) → T (p x) → T (any p l)
 unfolding has any
 any-of p [] x h t = h
-any-of p (y ∷ ys) x h t = go (of-cons x y ys h) (λ r. any-of p ys x r t)
-  where
-    go : (x ≡ y) ⊎ T (has x ys) → (T (has x ys) → T (any p ys)) → T (p y || any p ys)
-    go (inl e) rec = or-l (p y) (any p ys) (subst (λ (z : ℕ). T (p z)) e t)
-    go (inr r) rec = or-r (p y) (any p ys) (rec r)
+any-of p (y ∷ ys) x h t = ⊎-elim
+    (λ e. or-l (p y) _ (rw e at t))
+    (λ r. or-r (p y) _ (any-of p ys x r t))
+    (of-cons _ _ ys h)
 
 pub of-any : (p : ℕ → Bool) (l : List ℕ) → T (any p l) → (x : ℕ) × T (has x l) × T (p x)
 unfolding any
 of-any p [] t = absurd t
-of-any p (y ∷ ys) t = go (or-e (p y) (any p ys) t) (λ r. of-any p ys r)
-  where
-    go : T (p y) ⊎ T (any p ys) → (T (any p ys) → (x : ℕ) × T (has x ys) × T (p x)) → (x : ℕ) × T (has x (y ∷ ys)) × T (p x)
-    go (inl s) rec = (y, has-head y ys, s)
-    go (inr r) rec = let h = rec r in (h .0, has-tail (h .0) y ys (h .1), h .2)
+of-any p (y ∷ ys) t = ⊎-elim
+    (λ s. (y, has-head _ _, s))
+    (λ r. let h = of-any p ys r in (h .0, has-tail _ _ _ (h .1), h .2))
+    (or-e (p y) _ t)
 
 pub of-all : (p : ℕ → Bool) (l : List ℕ) → T (all p l) → (x : ℕ) → T (has x l) → T (p x)
 unfolding all has
 of-all p [] t x h = absurd h
-of-all p (y ∷ ys) t x h = go (of-cons x y ys h) (λ r. of-all p ys (and-r (p y) (all p ys) t) x r)
-  where
-    go : (x ≡ y) ⊎ T (has x ys) → (T (has x ys) → T (p x)) → T (p x)
-    go (inl e) rec = subst (λ (z : ℕ). T (p z)) (sym e) (and-l (p y) (all p ys) t)
-    go (inr r) rec = rec r
+of-all p (y ∷ ys) t x h = ⊎-elim
+    (λ e. rw e (and-l (p y) _ t))
+    (of-all p ys (and-r (p y) _ t) _)
+    (of-cons _ _ ys h)
 
 pub all-of : (p : ℕ → Bool) (l : List ℕ) → ((x : ℕ) → T (has x l) → T (p x)) → T (all p l)
 unfolding all
 all-of p [] f = tt
-all-of p (y ∷ ys) f = and-i (p y) (all p ys) (f y (has-head y ys)) (all-of p ys (λ x h. f x (has-tail x y ys h)))
+all-of p (y ∷ ys) f = and-i (p y) _ (f y (has-head _ _)) (all-of p ys (λ x h. f x (has-tail _ _ _ h)))
 
 pub has-keep : (p : ℕ → Bool) (l : List ℕ) (x : ℕ) → T (has x l) → T (p x) → T (has x (keep p l))
 unfolding has keep
 has-keep p [] x h t = h
-has-keep p (y ∷ ys) x h t = go (p y) refl (of-cons x y ys h) (λ r. has-keep p ys x r t)
+has-keep p (y ∷ ys) x h t = go (p y) refl (of-cons _ _ ys h) (λ r. has-keep p ys x r t)
   where
     go : (b : Bool) → p y ≡ b → (x ≡ y) ⊎ T (has x ys) → (T (has x ys) → T (has x (keep p ys)))
         → T (has x (if b then y ∷ keep p ys else keep p ys))
-    go true e (inl q) rec = subst (λ (z : ℕ). T (has x (z ∷ keep p ys))) q (has-head x (keep p ys))
-    go true e (inr r) rec = has-tail x y (keep p ys) (rec r)
-    go false e (inl q) rec = absurd (subst T e (subst (λ (z : ℕ). T (p z)) q t))
+    go true e (inl q) rec = rw (← q) (has-head x (keep p ys))
+    go true e (inr r) rec = has-tail x _ (keep p ys) (rec r)
+    go false e (inl q) rec = absurd (subst T e (rw q at t))
     go false e (inr r) rec = rec r
 
 pub of-keep : (p : ℕ → Bool) (l : List ℕ) (x : ℕ) → T (has x (keep p l)) → T (has x l) × T (p x)
@@ -91,34 +80,27 @@ of-keep p (y ∷ ys) x h = go (p y) refl h (λ r. of-keep p ys x r)
   where
     go : (b : Bool) → p y ≡ b → T (has x (if b then y ∷ keep p ys else keep p ys))
         → (T (has x (keep p ys)) → T (has x ys) × T (p x)) → T (has x (y ∷ ys)) × T (p x)
-    go true e h rec = at (of-cons x y (keep p ys) h)
-      where
-        at : (x ≡ y) ⊎ T (has x (keep p ys)) → T (has x (y ∷ ys)) × T (p x)
-        at (inl q) = (subst (λ (z : ℕ). T (has x (z ∷ ys))) q (has-head x ys), subst (λ (z : ℕ). T (p z)) (sym q) (subst T (sym e) tt))
-        at (inr r) = let i = rec r in (has-tail x y ys (i .0), i .1)
-    go false e h rec = let i = rec h in (has-tail x y ys (i .0), i .1)
+    go true e h rec = ⊎-elim
+        (λ q. (rw (← q) (has-head x ys), rw q (subst T (sym e) tt)))
+        (λ r. let i = rec r in (has-tail x _ ys (i .0), i .1))
+        (of-cons _ _ (keep p ys) h)
+    go false e h rec = let i = rec h in (has-tail x _ ys (i .0), i .1)
 
 -- ---- the numbers below n
 
 pub has-from : (k m x : ℕ) → k ≤ x → x < k + m → T (has x (from k m))
 unfolding from
 has-from k zero x lo hi = absurd (omega arith)
-has-from k (suc m) x lo hi = go (passes (eqb x k)) (λ l. has-from (suc k) m x l (omega arith))
-  where
-    go : T (eqb x k) ⊎ (T (eqb x k) → ⊥) → (suc k ≤ x → T (has x (from (suc k) m))) → T (has x (k ∷ from (suc k) m))
-    go (inl e) rec = subst (λ (z : ℕ). T (has x (z ∷ from (suc k) m))) (eqb→eq x k e) (has-head x (from (suc k) m))
-    go (inr d) rec =
-        let ne : x ≡ k → ⊥ = λ e. d (subst (λ (z : ℕ). T (eqb x z)) e (eqb-refl x)) in
-        has-tail x k (from (suc k) m) (rec (omega arith))
+has-from k (suc m) x lo hi = ⊎-elim
+    (λ e. rw (← e) (has-head _ _))
+    (λ d. has-tail _ _ _ (has-from (suc k) m _ (omega arith) (omega arith)))
+    (eq-or x k)
 
 pub of-from : (k m x : ℕ) → T (has x (from k m)) → (k ≤ x) × (x < k + m)
 unfolding from has
 of-from k zero x h = absurd h
-of-from k (suc m) x h = go (of-cons x k (from (suc k) m) h) (λ r. of-from (suc k) m x r)
-  where
-    go : (x ≡ k) ⊎ T (has x (from (suc k) m)) → (T (has x (from (suc k) m)) → (suc k ≤ x) × (x < suc k + m)) → (k ≤ x) × (x < k + suc m)
-    go (inl e) rec = omega arith
-    go (inr r) rec = let i = rec r in omega arith
+of-from k (suc m) x h =
+    ⊎-elim (λ e. omega arith) (λ r. let i = of-from (suc k) m x r in omega arith) (of-cons x k (from (suc k) m) h)
 
 pub has-upTo : (n x : ℕ) → x < n → T (has x (upTo n))
 unfolding upTo
@@ -141,7 +123,7 @@ first-from p d k zero = nothing refl (λ y lo hi t. omega arith)
 first-from p d k (suc m) = go (p k) refl (first-from p d (suc k) m)
   where
     step : (f : T (p k) → ⊥) (y : ℕ) → k ≤ y → T (p y) → suc k ≤ y
-    step f y lo t = let ne : k ≡ y → ⊥ = λ e. f (subst (λ (z : ℕ). T (p z)) (sym e) t) in omega arith
+    step f y lo t = let ne : k ≡ y → ⊥ = λ e. f (rw e t) in omega arith
 
     rest : {r : ℕ} → (T (p k) → ⊥) → First p d (suc k) m r → First p d k (suc m) r
     rest f (found lo hi t least) = found (omega arith) (omega arith) t (λ y l h s. least y (step f y l s) h s)
@@ -149,7 +131,7 @@ first-from p d k (suc m) = go (p k) refl (first-from p d (suc k) m)
 
     go : (b : Bool) → p k ≡ b → First p d (suc k) m (firstOf p d (from (suc k) m))
         → First p d k (suc m) (if b then k else firstOf p d (from (suc k) m))
-    go true e r = found (le-refl k) (omega arith) (subst T (sym e) tt) (λ y lo hi t. omega arith)
+    go true e r = found (le-refl _) (omega arith) (subst T (sym e) tt) (λ y lo hi t. omega arith)
     go false e r = rest (λ t. subst T e t) r
 
 pub first-below : (p : ℕ → Bool) (d n : ℕ) → First p d 0 n (firstOf p d (upTo n))
@@ -158,7 +140,7 @@ first-below p d n = first-from p d 0 n
 
 -- the same for a number that is known to be the one found
 pub first-of : (p : ℕ → Bool) (d n : ℕ) {r : ℕ} → r ≡ firstOf p d (upTo n) → First p d 0 n r
-first-of p d n e = subst (λ (x : ℕ). First p d 0 n x) (sym e) (first-below p d n)
+first-of p d n e = rw e (first-below p d n)
 
 -- it is at most d, where d is not below n
 pub first-most : (p : ℕ → Bool) (d n : ℕ) → n ≤ d → firstOf p d (upTo n) ≤ d
@@ -174,12 +156,12 @@ first-most p d n h = at (first-below p d n)
 pub keep-mono : (p q : ℕ → Bool) (l : List ℕ) → ((x : ℕ) → T (has x l) → T (p x) → T (q x)) → length (keep p l) ≤ length (keep q l)
 unfolding keep
 keep-mono p q [] f = zero-le
-keep-mono p q (y ∷ ys) f = go (p y) refl (q y) refl (keep-mono p q ys (λ x h. f x (has-tail x y ys h)))
+keep-mono p q (y ∷ ys) f = go (p y) refl (q y) refl (keep-mono p q ys (λ x h. f x (has-tail _ _ _ h)))
   where
     go : (b : Bool) → p y ≡ b → (c : Bool) → q y ≡ c → length (keep p ys) ≤ length (keep q ys)
         → length (if b then y ∷ keep p ys else keep p ys) ≤ length (if c then y ∷ keep q ys else keep q ys)
     go true e true g h = suc-le-suc h
-    go true e false g h = absurd (subst T g (f y (has-head y ys) (subst T (sym e) tt)))
+    go true e false g h = absurd (subst T g (f y (has-head _ _) (subst T (sym e) tt)))
     go false e true g h = le-step h
     go false e false g h = h
 
@@ -189,14 +171,13 @@ pub keep-grows : (p q : ℕ → Bool) (l : List ℕ) → ((x : ℕ) → T (has x
 unfolding keep has
 keep-grows p q [] f = inl (λ x h t. absurd h)
 keep-grows p q (y ∷ ys) f =
-    go (p y) refl (q y) refl (keep-mono p q ys (λ x h. f x (has-tail x y ys h))) (keep-grows p q ys (λ x h. f x (has-tail x y ys h)))
+    go (p y) refl (q y) refl (keep-mono p q ys (λ x h. f x (has-tail x _ ys h))) (keep-grows p q ys (λ x h. f x (has-tail x _ ys h)))
   where
     both : (T (q y) → T (p y)) → ((x : ℕ) → T (has x ys) → T (q x) → T (p x)) → (x : ℕ) → T (has x (y ∷ ys)) → T (q x) → T (p x)
-    both h f x m t = at (of-cons x y ys m)
-      where
-        at : (x ≡ y) ⊎ T (has x ys) → T (p x)
-        at (inl e) = subst (λ (z : ℕ). T (p z)) (sym e) (h (subst (λ (z : ℕ). T (q z)) e t))
-        at (inr r) = f x r t
+    both h f x m t = ⊎-elim
+        (λ e. rw e (h (rw e at t)))
+        (λ r. f x r t)
+        (of-cons _ _ ys m)
 
     go : (b : Bool) → p y ≡ b → (c : Bool) → q y ≡ c → length (keep p ys) ≤ length (keep q ys)
         → ((x : ℕ) → T (has x ys) → T (q x) → T (p x)) ⊎ (length (keep p ys) < length (keep q ys))
@@ -270,19 +251,19 @@ first-in p d (x ∷ xs) = go (p x) refl (first-in p d xs)
         → (T (has (if b then x else r) (x ∷ xs)) × T (p (if b then x else r)))
         ⊎ (((if b then x else r) ≡ d) × ((y : ℕ) → T (has y (x ∷ xs)) → T (p y) → ⊥))
     go true e rest = inl (has-head x xs, subst T (sym e) tt)
-    go false e (inl i) = inl (has-tail r x xs (i .0), i .1)
-    go false e (inr i) = inr (i .0, λ y h t. at y t (of-cons y x xs h))
-      where
-        at : (y : ℕ) → T (p y) → (y ≡ x) ⊎ T (has y xs) → ⊥
-        at y t (inl q) = subst T e (subst (λ (z : ℕ). T (p z)) q t)
-        at y t (inr m) = i .1 y m t
+    go false e (inl i) = inl (has-tail r _ xs (i .0), i .1)
+    go false e (inr i) = inr (
+      i .0,
+      λ y h t.
+          ⊎-elim (λ q. subst T e (rw q at t)) (λ m. i .1 y m t) (of-cons _ _ xs h),
+    )
 
 -- ---- one list after another
 
 pub keep-append : (p : ℕ → Bool) (k l : List ℕ) → keep p (k ++ l) ≡ keep p k ++ keep p l
 unfolding keep
 keep-append p [] l = refl
-keep-append p (x ∷ k) l = go (p x) (keep-append p k l)
+keep-append p (x ∷ k) l = go (p x) (keep-append p k _)
   where
     go : (b : Bool) → keep p (k ++ l) ≡ keep p k ++ keep p l
         → (if b then x ∷ keep p (k ++ l) else keep p (k ++ l)) ≡ (if b then x ∷ keep p k else keep p k) ++ keep p l
@@ -292,17 +273,17 @@ keep-append p (x ∷ k) l = go (p x) (keep-append p k l)
 pub any-append : (p : ℕ → Bool) (k l : List ℕ) → any p (k ++ l) ≡ (any p k || any p l)
 unfolding any
 any-append p [] l = refl
-any-append p (x ∷ k) l = ap (λ (b : Bool). p x || b) (any-append p k l) ∙ sym (or-assoc (p x) (any p k) (any p l))
+any-append p (x ∷ k) l = rw (any-append p k l) (sym (or-assoc (p x) _ _))
 
 pub gather-append : {A B : Type 0} (f : A → List B) (k l : List A) → gather f (k ++ l) ≡ gather f k ++ gather f l
 unfolding gather
 gather-append f [] l = refl
-gather-append {B = B} f (x ∷ k) l = ap (λ (r : List B). f x ++ r) (gather-append f k l) ∙ sym (append-assoc (f x) (gather f k) (gather f l))
+gather-append f (x ∷ k) l = rw (gather-append f k l) (sym (append-assoc (f x) _ _))
 
 pub gather-same : {B : Type 0} (f g : ℕ → List B) (l : List ℕ) → ((x : ℕ) → T (has x l) → f x ≡ g x) → gather f l ≡ gather g l
 unfolding gather
 gather-same f g [] e = refl
-gather-same {B = B} f g (x ∷ l) e = ap₂ (λ (r s : List B). r ++ s) (e x (has-head x l)) (gather-same f g l (λ y m. e y (has-tail y x l m)))
+gather-same {B = B} f g (x ∷ l) e = ap₂ (λ (r s : List B). r ++ s) (e x (has-head _ _)) (gather-same f g l (λ y m. e y (has-tail _ _ _ m)))
 
 -- ---- the numbers below n, split at a place
 
@@ -310,28 +291,28 @@ pub from-add : (k m j : ℕ) → from k (m + j) ≡ from k m ++ from (k + m) j
 unfolding from
 from-add k zero j = ap₂ (λ (a b : ℕ). from a b) (sym (add-zero k)) (zero-add j)
 from-add k (suc m) j =
-    ap (from k) (suc-add m j)
-    ∙ ap (λ (r : List ℕ). k ∷ r) (from-add (suc k) m j ∙ ap (λ (x : ℕ). from (suc k) m ++ from x j) (suc-add k m ∙ sym (add-suc k m)))
+    ap (from k) (suc-add m _)
+    ∙ rw (from-add (suc k) m j ∙ ap (λ (x : ℕ). from (suc k) m ++ from x j) (suc-add _ _ ∙ sym (add-suc _ _)))
 
 pub upTo-add : (u k n : ℕ) → u + k ≡ n → upTo n ≡ upTo u ++ from u k
 unfolding upTo
-upTo-add u k n e = ap (from 0) (sym e) ∙ from-add 0 u k ∙ ap (λ (x : ℕ). from 0 u ++ from x k) (zero-add u)
+upTo-add u k n e = ap (from 0) (sym e) ∙ from-add _ _ _ ∙ rw (zero-add _)
 
 pub from-split : (v k n : ℕ) → v + suc k ≡ n → upTo n ≡ upTo v ++ v ∷ from (suc v) k
 unfolding from
-from-split v k n e = upTo-add v (suc k) n e
+from-split v k n e = upTo-add _ _ _ e
 
 -- the numbers below n + 1 are those below n, and n
 pub upTo-suc : (n : ℕ) → upTo (suc n) ≡ upTo n ++ n ∷ []
 unfolding from
-upTo-suc n = upTo-add n 1 (suc n) (omega arith)
+upTo-suc n = upTo-add _ 1 (suc n) (omega arith)
 
 pub gather-suc : {B : Type 0} (f : ℕ → List B) (n : ℕ) → gather f (upTo (suc n)) ≡ gather f (upTo n) ++ f n
 unfolding gather
 gather-suc {B} f n =
-    ap (gather f) (upTo-suc n)
-    ∙ gather-append f (upTo n) (n ∷ [])
-    ∙ ap (λ (l : List B). gather f (upTo n) ++ l) (append-nil (f n))
+    ap (gather f) (upTo-suc _)
+    ∙ gather-append f (upTo n) _
+    ∙ rw (append-nil _)
 
 -- ---- two tests on one list
 
@@ -339,13 +320,13 @@ pub keep-same : (p q : ℕ → Bool) (l : List ℕ) → ((x : ℕ) → T (has x 
     → keep p l ≡ keep q l
 unfolding keep
 keep-same p q [] f g = refl
-keep-same p q (y ∷ ys) f g = go (p y) refl (q y) refl (keep-same p q ys (λ x h. f x (has-tail x y ys h)) (λ x h. g x (has-tail x y ys h)))
+keep-same p q (y ∷ ys) f g = go (p y) refl (q y) refl (keep-same p q ys (λ x h. f x (has-tail x y ys h)) (λ x h. g x (has-tail _ _ _ h)))
   where
     go : (b : Bool) → p y ≡ b → (c : Bool) → q y ≡ c → keep p ys ≡ keep q ys
         → (if b then y ∷ keep p ys else keep p ys) ≡ (if c then y ∷ keep q ys else keep q ys)
     go true e true h r = ap (λ (t : List ℕ). y ∷ t) r
-    go true e false h r = absurd (subst T h (f y (has-head y ys) (subst T (sym e) tt)))
-    go false e true h r = absurd (subst T e (g y (has-head y ys) (subst T (sym h) tt)))
+    go true e false h r = absurd (subst T h (f y (has-head _ _) (subst T (sym e) tt)))
+    go false e true h r = absurd (subst T e (g y (has-head _ _) (subst T (sym h) tt)))
     go false e false h r = r
 
 -- keeping by one test, then by another, is keeping by both
@@ -356,40 +337,39 @@ keep-keep p q (y ∷ ys) = go (q y) (p y) refl (keep-keep p q ys)
   where
     go : (b c : Bool) → p y ≡ c → keep p (keep q ys) ≡ keep (λ x. q x && p x) ys
         → keep p (if b then y ∷ keep q ys else keep q ys) ≡ (if b && c then y ∷ keep (λ x. q x && p x) ys else keep (λ x. q x && p x) ys)
-    go true true e r = ap (λ (b : Bool). if b then y ∷ keep p (keep q ys) else keep p (keep q ys)) e ∙ ap (λ (t : List ℕ). y ∷ t) r
-    go true false e r = ap (λ (b : Bool). if b then y ∷ keep p (keep q ys) else keep p (keep q ys)) e ∙ r
+    go true true e r = rw (e, r)
+    go true false e r = rw e r
     go false c e r = r
 
 pub keep-none : (p : ℕ → Bool) (l : List ℕ) → ((x : ℕ) → T (has x l) → T (p x) → ⊥) → keep p l ≡ []
 unfolding keep
 keep-none p [] f = refl
-keep-none p (y ∷ ys) f = go (p y) refl (keep-none p ys (λ x h. f x (has-tail x y ys h)))
+keep-none p (y ∷ ys) f = go (p y) refl (keep-none p ys (λ x h. f x (has-tail _ _ _ h)))
   where
     go : (b : Bool) → p y ≡ b → keep p ys ≡ [] → (if b then y ∷ keep p ys else keep p ys) ≡ []
-    go true e r = absurd (f y (has-head y ys) (subst T (sym e) tt))
+    go true e r = absurd (f y (has-head _ _) (subst T (sym e) tt))
     go false e r = r
 
 pub first-same : (p q : ℕ → Bool) (d : ℕ) (l : List ℕ) → ((x : ℕ) → T (has x l) → p x ≡ q x) → firstOf p d l ≡ firstOf q d l
 unfolding firstOf
 first-same p q d [] f = refl
 first-same p q d (y ∷ ys) f =
-    ap₂ (λ (b : Bool) (r : ℕ). if b then y else r) (f y (has-head y ys)) (first-same p q d ys (λ x h. f x (has-tail x y ys h)))
+    ap₂ (λ (b : Bool) (r : ℕ). if b then y else r) (f y (has-head _ _)) (first-same p q d ys (λ x h. f x (has-tail _ _ _ h)))
 
 -- ---- membership in two lists
 
 pub has-append : (x : ℕ) (k l : List ℕ) → T (has x k) → T (has x (k ++ l))
 unfolding has
 has-append x [] l h = absurd h
-has-append x (y ∷ k) l h = go (or-e (eqb x y) (has x k) h) (λ r. has-append x k l r)
-  where
-    go : T (eqb x y) ⊎ T (has x k) → (T (has x k) → T (has x (k ++ l))) → T (eqb x y || has x (k ++ l))
-    go (inl e) rec = or-l (eqb x y) (has x (k ++ l)) e
-    go (inr r) rec = or-r (eqb x y) (has x (k ++ l)) (rec r)
+has-append x (y ∷ k) l h = ⊎-elim
+    (or-l (eqb x y) _)
+    (λ r. or-r (eqb x y) _ (has-append x k l r))
+    (or-e (eqb x y) _ h)
 
 pub all-append : (p : ℕ → Bool) (k l : List ℕ) → T (all p k) → T (all p l) → T (all p (k ++ l))
 unfolding all
 all-append p [] l h m = m
-all-append p (x ∷ k) l h m = and-i (p x) (all p (k ++ l)) (and-l (p x) (all p k) h) (all-append p k l (and-r (p x) (all p k) h) m)
+all-append p (x ∷ k) l h m = and-i (p x) _ (and-l (p x) _ h) (all-append p k l (and-r (p x) (all p k) h) m)
 
 pub none-in : (x : ℕ) → T (has x []) → ⊥
 unfolding has
@@ -398,15 +378,10 @@ none-in x h = h
 pub of-append : (x : ℕ) (k l : List ℕ) → T (has x (k ++ l)) → T (has x k) ⊎ T (has x l)
 unfolding has
 of-append x [] l h = inr h
-of-append x (y ∷ k) l h = go (or-e (eqb x y) (has x (k ++ l)) h) (λ r. of-append x k l r)
-  where
-    up : T (has x k) ⊎ T (has x l) → T (eqb x y || has x k) ⊎ T (has x l)
-    up (inl r) = inl (or-r (eqb x y) (has x k) r)
-    up (inr r) = inr r
-
-    go : T (eqb x y) ⊎ T (has x (k ++ l)) → (T (has x (k ++ l)) → T (has x k) ⊎ T (has x l)) → T (eqb x y || has x k) ⊎ T (has x l)
-    go (inl e) rec = inl (or-l (eqb x y) (has x k) e)
-    go (inr r) rec = up (rec r)
+of-append x (y ∷ k) l h = ⊎-elim
+    (λ e. inl (or-l (eqb x y) _ e))
+    (λ r. ⊎-elim (λ s. inl (or-r (eqb x y) _ s)) inr (of-append x k l r))
+    (or-e (eqb x y) _ h)
 
 -- ---- two lists that are the same
 
@@ -416,43 +391,43 @@ same-eq [] [] t = refl
 same-eq [] (y ∷ l) t = absurd t
 same-eq (x ∷ k) [] t = absurd t
 same-eq (x ∷ k) (y ∷ l) t =
-    ap₂ (λ (z : ℕ) (r : List ℕ). z ∷ r) (eqb→eq x y (and-l (eqb x y) (same k l) t)) (same-eq k l (and-r (eqb x y) (same k l) t))
+    ap₂ (λ (z : ℕ) (r : List ℕ). z ∷ r) (eqb→eq _ _ (and-l (eqb x y) _ t)) (same-eq k l (and-r (eqb x y) _ t))
 
 pub same-refl : (l : List ℕ) → T (same l l)
 unfolding same
 same-refl [] = tt
-same-refl (x ∷ l) = and-i (eqb x x) (same l l) (eqb-refl x) (same-refl l)
+same-refl (x ∷ l) = and-i (eqb x x) _ (eqb-refl x) (same-refl l)
 
 -- ---- gathering twice
 
 pub gather-gather : {A B C : Type 0} (f : B → List C) (g : A → List B) (l : List A) → gather f (gather g l) ≡ gather (λ x. gather f (g x)) l
 unfolding gather
 gather-gather f g [] = refl
-gather-gather {C = C} f g (x ∷ l) = gather-append f (g x) (gather g l) ∙ ap (λ (r : List C). gather f (g x) ++ r) (gather-gather f g l)
+gather-gather f g (x ∷ l) = gather-append f (g x) _ ∙ rw (gather-gather f g l)
 
 pub gather-map : {A B C : Type 0} (f : B → List C) (g : A → B) (l : List A) → gather f (map g l) ≡ gather (λ x. f (g x)) l
 unfolding gather
 gather-map f g [] = refl
-gather-map {C = C} f g (x ∷ l) = ap (λ (r : List C). f (g x) ++ r) (gather-map f g l)
+gather-map f g (x ∷ l) = rw (gather-map f g l)
 
 pub has-later : (x : ℕ) (k l : List ℕ) → T (has x l) → T (has x (k ++ l))
 has-later x [] l h = h
-has-later x (y ∷ k) l h = has-tail x y (k ++ l) (has-later x k l h)
+has-later x (y ∷ k) l h = has-tail _ _ _ (has-later x k l h)
 
 -- a test that always passes keeps all
 pub keep-all : (p : ℕ → Bool) (l : List ℕ) → ((x : ℕ) → T (has x l) → T (p x)) → keep p l ≡ l
 unfolding keep
 keep-all p [] f = refl
-keep-all p (y ∷ ys) f = go (p y) refl (keep-all p ys (λ x h. f x (has-tail x y ys h)))
+keep-all p (y ∷ ys) f = go (p y) refl (keep-all p ys (λ x h. f x (has-tail _ _ _ h)))
   where
     go : (b : Bool) → p y ≡ b → keep p ys ≡ ys → (if b then y ∷ keep p ys else keep p ys) ≡ y ∷ ys
     go true e r = ap (λ (t : List ℕ). y ∷ t) r
-    go false e r = absurd (subst T e (f y (has-head y ys)))
+    go false e r = absurd (subst T e (f y (has-head _ _)))
 
 -- where only numbers below n pass, the numbers from n on add nothing
 pub keep-below : (p : ℕ → Bool) (n m : ℕ) → n ≤ m → ((x : ℕ) → T (p x) → x < n) → keep p (upTo m) ≡ keep p (upTo n)
 keep-below p n m h f =
-    let e : upTo m ≡ upTo n ++ from n (m - n) = upTo-add n (m - n) m (omega arith) in
-    ap (keep p) e ∙ keep-append p (upTo n) (from n (m - n))
-    ∙ ap (λ (l : List ℕ). keep p (upTo n) ++ l) (keep-none p (from n (m - n)) (λ x k t. omega (arith, of-from n (m - n) x k, f x t)))
-    ∙ append-nil (keep p (upTo n))
+    let e : upTo m ≡ upTo n ++ from n (m - n) = upTo-add _ _ _ (omega arith) in
+    ap (keep p) e ∙ keep-append _ _ _
+    ∙ ap (λ (l : List ℕ). keep p (upTo n) ++ l) (keep-none _ _ (λ x k t. omega (arith, of-from n (m - n) x k, f x t)))
+    ∙ append-nil _

@@ -1,7 +1,7 @@
--- Laws for loops over a list: from what is left, the result for the whole list can still be told.
+-- Laws for loops over a list: the result for the whole list follows from what was found so far and what is left.
 -- Assumes nothing.
 use mathlib.Core.Path.{_≡_, sym, ap, ap₂, _∙_, subst}
-use mathlib.Core.Logic.{_⊎_, inl, inr}
+use mathlib.Core.Logic.{⊎-elim}
 use mathlib.Core.Bool.{Bool, true, false}
 use mathlib.Core.List.{List, [], _∷_, _++_}
 use Prim.Native.Nat.{ℕ, suc, _+_, _-_, _≤_, _<_}
@@ -17,9 +17,9 @@ use Rattle.model.proofs.Lists.{of-upTo, of-from, from-split, keep-appen
 
 -- the element at i, and those after it
 pub drop-next : (l : List ℕ) (i : ℕ) → i < length l → drop i l ≡ getD l i 0 ∷ drop (i + 1) l
-drop-next l i h = drop-cons l i 0 h ∙ ap (λ (k : ℕ). getD l i 0 ∷ drop k l) (sym (add-one i))
+drop-next l i h = drop-cons _ _ _ h ∙ ap (λ (k : ℕ). getD l i 0 ∷ drop k l) (sym (add-one i))
 
--- a search for the first element that passes a test: the elements that are left still say which it is
+-- a search for the first element that passes a test: while none has passed, it is the first of those that are left
 module _ (p : ℕ → Bool) (d : ℕ) (l : List ℕ) where
   abbrev pub Searched : ℕ → Type 0
   Searched i = firstOf p d (drop i l) ≡ firstOf p d l
@@ -39,11 +39,7 @@ module _ (p : ℕ → Bool) (d : ℕ) (l : List ℕ) where
 
 -- what holds below v, and at v, holds below v + 1
 pub below-next : (P : ℕ → Type 0) (v : ℕ) → ((u : ℕ) → u < v → P u) → P v → (u : ℕ) → u < v + 1 → P u
-below-next P v f p u h = at (eq-or u v)
-  where
-    at : (u ≡ v) ⊎ (u ≡ v → ⊥) → P u
-    at (inl e) = subst P (sym e) p
-    at (inr d) = f u (omega arith)
+below-next P v f p u h = ⊎-elim (λ e. subst P (sym e) p) (λ d. f u (omega arith)) (eq-or u v)
 
 -- the lists f x for the numbers x from v up to n: the first of them, then the others
 pub gather-next : {B : Type 0} (f : ℕ → List B) (n v : ℕ) → v < n → gather f (from v (n - v)) ≡ f v ++ gather f (from (v + 1) (n - (v + 1)))
@@ -51,11 +47,11 @@ unfolding from gather
 gather-next f n v h =
     let e : n - v ≡ suc (n - (v + 1)) = omega arith in
     ap (λ (k : ℕ). gather f (from v k)) e
-    ∙ ap (λ (u : ℕ). f v ++ gather f (from u (n - (v + 1)))) (sym (add-one v))
+    ∙ ap (λ (u : ℕ). f v ++ gather f (from u (n - (v + 1)))) (sym (add-one _))
 
 pub gather-end : {B : Type 0} (f : ℕ → List B) (n v : ℕ) → n ≤ v → gather f (from v (n - v)) ≡ []
 unfolding from gather
-gather-end f n v h = let e : n - v ≡ 0 = omega arith in ap (λ (k : ℕ). gather f (from v k)) e
+gather-end f n v h = let e : n - v ≡ 0 = omega arith in rw e
 
 -- of the numbers below n, those above a are the numbers from a + 1 on
 pub above : (a n : ℕ) → a < n → keep (λ b. ltb a b) (upTo n) ≡ from (a + 1) (n - (a + 1))
@@ -64,8 +60,8 @@ above a n h =
     let k = n - (a + 1) in
     let e : a + suc k ≡ n = omega arith in
     let p : ℕ → Bool = λ b. ltb a b in
-    ap (keep p) (from-split a k n e)
-    ∙ keep-append p (upTo a) (a ∷ from (suc a) k)
+    ap (keep p) (from-split _ _ _ e)
+    ∙ keep-append _ (upTo a) (a ∷ from (suc a) k)
     ∙ ap₂ (λ (x y : List ℕ). x ++ y)
     (keep-none p (upTo a) (λ x m t. absurd (omega (arith, of-upTo a x m, ltb→lt a x t))))
     (rw (le-ltb a a (omega arith)) (keep-all p (from (suc a) k) (λ x m. lt→ltb a x (omega (arith, of-from (suc a) k x m .0)))))

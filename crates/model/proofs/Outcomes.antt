@@ -1,6 +1,8 @@
--- Laws of outcomes: a refusal is no answer; promises of outcomes; the number in an outcome; how large a refusal's number is.
+-- Laws of outcomes: a refusal is no answer, and a missing value is no value; promises of outcomes; the number in an outcome; how large
+-- a refusal's number is.
 -- Assumes nothing.
 use mathlib.Core.Path.{_≡_, sym, subst}
+use mathlib.Core.Option.{none as missing, some}
 use Prim.Native.Nat.{ℕ, _<_}
 use native.Mathlib.Omega.{arith}
 use Rattle.model.specs.declared.Refusal.{Refusal}
@@ -10,6 +12,9 @@ use Rattle.model.specs.Answers.{Outcome, refused, answered, number}
 
 pub never : {A B : Type 0} {k : ℕ} {x : A} → refused k ≡ answered x → B
 never {k = k} {x = x} e = let z : _≡_ {A = ℕ} 0 1 = cc in absurd (omega arith)
+
+pub no-value : {A B : Type 0} {x : A} → missing ≡ some x → B
+no-value {x = x} e = let z : _≡_ {A = ℕ} 0 1 = cc in absurd (omega arith)
 
 -- what holds of an outcome x holds of what a call returned and left, r, if that is x
 pub promised : {A : Type 0} (P : A → Type 0) {x r : A} → P x → r ≡ x → (r ≡ x) × P r

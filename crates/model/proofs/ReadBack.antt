@@ -3,14 +3,14 @@
 -- Assumes nothing.
 use mathlib.Core.Path.{_≡_, refl, sym, ap, _∙_, subst, fun-ext}
 use mathlib.Core.Logic.{_⊎_, inl, inr, ⊎-elim}
-use mathlib.Core.Bool.{Bool, _&&_, _||_, or-assoc}
+use mathlib.Core.Bool.{_&&_, _||_, or-assoc}
 use mathlib.Core.List.{List, [], _∷_, _++_, map}
 use Prim.Native.Nat.{ℕ, zero, suc, _+_, _-_, _*_, _/_, _≤_, _<_, zero-le}
 use native.Mathlib.Nat.{zero-add}
 use native.Mathlib.Numerals.{add-one}
 use native.Mathlib.Omega.{arith}
 use borrow.Author.Tests.{lt-ltb, le-ltb}
-use lib.Dec.{T, eqb, ltb, eqb→eq, ltb→lt, lt→ltb}
+use lib.Dec.{T, eqb, ltb, ltb→lt, lt→ltb}
 use lib.ListN.{length, getD, take, drop, replicate, length-append}
 use lib.Seq.{take-at, getD-drop, getD-append-add}
 use Rattle.model.specs.declared.Size.{Size}
@@ -22,42 +22,30 @@ use Rattle.model.specs.Graph.{linked}
 use Rattle.model.specs.Reading.{named, Parsed, parse, graphOf, startsOf, neighboursFrom, readingOf, reading}
 use Rattle.model.specs.Writing.{textOf, AfterWriting, writingOf, writing}
 use Rattle.model.specs.Demand.{IsRead, ReadRight, asRead, WriteRight}
-use Rattle.model.proofs.Tests.{picked, and-l, and-r, and-i, or-l, or-r, or-e, eq-T, no-false, same-test, lt-or}
+use Rattle.model.proofs.Tests.{picked, and-i, or-l, or-r, or-e, eq-T, no-false, same-test, lt-or}
 use Rattle.model.proofs.Lists.{has-head, has-tail, of-cons, has-keep, of-keep, has-upTo, of-upTo, none-in, keep-same, keep-none}
 use Rattle.model.proofs.Ascending.{ascending-tail, ascending-above, keep-ascending, ascending-keep, keep-of-ascending}
 use Rattle.model.proofs.Acceptance.{accepting-facts, accepting-answers, linked-is, is-linked}
 use Rattle.model.proofs.Outcomes.{never, numberIn}
 use Rattle.model.proofs.Entries.{getD-same}
-use Rattle.model.proofs.Links.{Fresh, AllFresh, TextRead, parse-complete, parse-sound}
+use Rattle.model.proofs.Links.{AllFresh, TextRead, parse-complete, parse-sound}
 use Rattle.model.proofs.SurveyLists.{total, total-zero, total-suc, starts-length, neighbours-length, start-at, own-at}
 use Rattle.model.proofs.SurveyLists.{gather-below, neighbours-same, starts-same, own-total, own-neighbours, own-starts}
-use Rattle.model.proofs.Totals.{named-sym, links-total}
+use Rattle.model.proofs.Totals.{named-sym, named-cases, links-total}
 
 -- ---- links that are all new: the nodes they name are below n and different
 
 pub named-below : (n : ℕ) (ls done : List (ℕ × ℕ)) → AllFresh n done ls → (a b : ℕ) → T (named ls a b) → (a < n) × (b < n) × (a ≡ b → ⊥)
 unfolding named
 named-below n [] done f a b t = absurd t
-named-below n (l ∷ ls) done f a b t = at (or-e (X || Y) (named ls a b) t) (λ s. named-below n ls (l ∷ done) (f .1) a b s)
-  where
-    X : Bool
-    X = eqb (l .0) a && eqb (l .1) b
-
-    Y : Bool
-    Y = eqb (l .0) b && eqb (l .1) a
-
-    g : Fresh n (named done) (l .0) (l .1)
-    g = f .0
-
-    this : (u v : ℕ) → T (eqb (l .0) u && eqb (l .1) v) → (u < n) × (v < n) × (u ≡ v → ⊥)
-    this u v s =
-        let eu = eqb→eq (l .0) u (and-l (eqb (l .0) u) (eqb (l .1) v) s) in
-        let ev = eqb→eq (l .1) v (and-r (eqb (l .0) u) (eqb (l .1) v) s) in
-        (subst (λ (k : ℕ). k < n) eu (g .below-a), subst (λ (k : ℕ). k < n) ev (g .below-b), λ e. g .different (eu ∙ e ∙ sym ev))
-
-    at : T (X || Y) ⊎ T (named ls a b) → (T (named ls a b) → (a < n) × (b < n) × (a ≡ b → ⊥)) → (a < n) × (b < n) × (a ≡ b → ⊥)
-    at (inl s) rec = ⊎-elim (λ x. this a b x) (λ y. let r = this b a y in (r .1, r .0, λ e. r .2 (sym e))) (or-e X Y s)
-    at (inr s) rec = rec s
+named-below n (l ∷ ls) done f a b t =
+    let g = f .0 in
+    ⊎-elim
+    (λ e. (omega (arith, g .below-a), omega (arith, g .below-b), λ q. g .different (e .0 ∙ q ∙ sym (e .1))))
+    (⊎-elim
+    (λ e. (omega (arith, g .below-b), omega (arith, g .below-a), λ q. g .different (e .0 ∙ sym q ∙ sym (e .1))))
+    (named-below n ls (l ∷ done) (f .1) a b))
+    (named-cases l ls a b t)
 
 -- ---- the lists of such links are accepted
 
@@ -71,25 +59,25 @@ module _ (n : ℕ) (ls : List (ℕ × ℕ)) (some-node : 1 ≤ n) (size : n ≤ 
 
   own : (v : ℕ) → v < n → neighboursOf starts neighbours v ≡ graphOf n ls v
   unfolding starts neighbours
-  own = own-at n (graphOf n ls) more others
+  own = own-at _ _ _ _
 
   start : (v : ℕ) → v ≤ n → getD starts v 0 ≡ total (graphOf n ls) v
   unfolding starts
-  start = start-at n (graphOf n ls) more others
+  start = start-at _ _ _ others
 
   last : getD starts n 0 ≡ 2 * length ls
-  last = start n (omega arith) ∙ links-total n ls f
+  last = start _ (omega arith) ∙ links-total _ _ f
 
   -- a line names each neighbour of a node below n with that node
   own-named : (v x : ℕ) → v < n → T (has x (neighboursOf starts neighbours v)) → T (named ls v x)
   unfolding graphOf
-  own-named v x h m = of-keep (named ls v) (upTo n) x (subst (λ (l : List ℕ). T (has x l)) (own v h) m) .1
+  own-named v x h m = of-keep _ _ _ (rw (own _ h) at m) .1
 
   named-own : (v x : ℕ) → T (named ls v x) → T (has x (neighboursOf starts neighbours v))
   unfolding graphOf
   named-own v x t =
-      let b = named-below n ls [] f v x t in
-      subst (λ (l : List ℕ). T (has x l)) (sym (own v (b .0))) (has-keep (named ls v) (upTo n) x (has-upTo n x (b .1)) t)
+      let b = named-below _ _ _ f _ _ t in
+      rw (own _ (b .0)) (has-keep _ _ _ (has-upTo _ _ (b .1)) t)
 
   lists-accepted : Accepted n starts neighbours
   unfolding starts neighbours graphOf
@@ -98,37 +86,34 @@ module _ (n : ℕ) (ls : List (ℕ × ℕ)) (some-node : 1 ≤ n) (size : n ≤ 
     size = size;
     room = omega (arith, length-append (startsOf n (graphOf n ls)) more, starts-length n (graphOf n ls));
     lists = record {
-      first = start 0 zero-le ∙ total-zero (graphOf n ls);
+      first = start _ zero-le ∙ total-zero _;
       rising = λ v h.
           let a = start v (omega arith) in
-          let b = start (v + 1) (omega arith) ∙ ap (total (graphOf n ls)) (add-one v) ∙ total-suc (graphOf n ls) v in
+          let b = start _ (omega arith) ∙ ap (total (graphOf n ls)) (add-one v) ∙ total-suc _ _ in
           omega arith;
       even = omega (arith, last);
       few-links = omega (arith, last);
       within =
           omega (arith, start n (omega arith), neighbours-length n (graphOf n ls), length-append (neighboursFrom n (graphOf n ls)) others);
-      sorted = λ v h. subst (λ (l : List ℕ). T (ascending l)) (sym (own v h)) (keep-ascending (named ls v) n);
-      loopless = λ v x h m e. named-below n ls [] f v x (own-named v x h m) .2 (sym e);
+      sorted = λ v h. rw (own _ h) (keep-ascending _ _);
+      loopless = λ v x h m e. named-below _ _ _ f _ _ (own-named _ _ h m) .2 (sym e);
       graph = record {
-        below = λ v x h m. named-below n ls [] f v x (own-named v x h m) .1;
-        symmetric = λ v x h m. named-own x v (subst T (named-sym ls v x) (own-named v x h m));
+        below = λ v x h m. named-below _ _ _ f _ _ (own-named _ _ h m) .1;
+        symmetric = λ v x h m. named-own _ _ (subst T (named-sym _ _ _) (own-named _ _ h m));
       };
     };
   }
 
   links-exactly : (a b : ℕ) → linked n (neighboursOf starts neighbours) a b ≡ named ls a b
   links-exactly a b =
-      same-test (linked n G a b) (named ls a b)
-      (λ t. let l = linked-is n G a b t in own-named a b (l .first) (l .there))
-      (λ t. let h = named-below n ls [] f a b t in is-linked n G a b (record {
+      same-test _ _
+      (λ t. let l = linked-is _ _ _ _ t in own-named _ _ (l .first) (l .there))
+      (λ t. let h = named-below _ _ _ f _ _ t in is-linked _ _ _ _ (record {
         first = h .0;
         second = h .1;
-        there = named-own a b t;
-        back = named-own b a (subst T (named-sym ls a b) t);
+        there = named-own _ _ t;
+        back = named-own _ _ (subst T (named-sym _ _ _) t);
       }))
-    where
-      G : Graph
-      G = neighboursOf starts neighbours
 
 -- past n the starts read 0
 past-starts : (n : ℕ) (G : Graph) (p v : ℕ) → n ≤ v → getD (over (startsOf n G) (replicate p 0)) (v + 1) 0 ≡ 0
@@ -137,9 +122,9 @@ past-starts n G p v h =
     let s : List ℕ = startsOf n G in
     let i : v + 1 ≡ length s + (v - n) = omega (arith, starts-length n G) in
     ap (λ (k : ℕ). getD (s ++ drop (length s) (replicate p 0)) k 0) i
-    ∙ getD-append-add s (drop (length s) (replicate p 0)) (v - n) 0
-    ∙ getD-drop (length s) (replicate p 0) (v - n) 0
-    ∙ getD-same p (length s + (v - n)) 0
+    ∙ getD-append-add s _ _ _
+    ∙ getD-drop (length s) _ _ _
+    ∙ getD-same p _ _
 
 -- ---- what a text says, read within limits into lists of p and q entries
 
@@ -150,7 +135,7 @@ module _ (N M p q : ℕ) (nodes : N ≤ 1024) (links : M ≤ 16384) (text : List
   -- the lists are accepted
   pub read-accepted : Accepted (x .nodes) (readingOf p q (answered x) .starts) (readingOf p q (answered x) .neighbours)
   unfolding readingOf over starts neighbours
-  read-accepted = lists-accepted (x .nodes) (x .links) (facts .within .some-node) (omega (arith, facts .within .size))
+  read-accepted = lists-accepted _ _ (facts .within .some-node) (omega (arith, facts .within .size))
       (omega (arith, facts .within .few)) (facts .fresh) _ _
 
   -- their links are those that the lines name
@@ -158,7 +143,7 @@ module _ (N M p q : ℕ) (nodes : N ≤ 1024) (links : M ≤ 16384) (text : List
       → linked (x .nodes) (neighboursOf (readingOf p q (answered x) .starts) (readingOf p q (answered x) .neighbours)) a b
       ≡ named (x .links) a b
   unfolding readingOf over starts neighbours
-  read-exactly = links-exactly (x .nodes) (x .links) (facts .within .some-node) (omega (arith, facts .within .size))
+  read-exactly = links-exactly _ _ (facts .within .some-node) (omega (arith, facts .within .size))
       (omega (arith, facts .within .few)) (facts .fresh) _ _
 
   -- their neighbours are those of the links, past n too
@@ -179,9 +164,9 @@ module _ (N M p q : ℕ) (nodes : N ≤ 1024) (links : M ≤ 16384) (text : List
       outside : (v : ℕ) → x .nodes ≤ v → neighboursOf s l v ≡ graphOf (x .nodes) (x .links) v
       outside v h =
           let z : getD s (v + 1) 0 - getD s v 0 ≡ 0 = omega (arith, past-starts (x .nodes) (graphOf (x .nodes) (x .links)) p v h) in
-          ap (λ (k : ℕ). take k (drop (getD s v 0) l)) z
-          ∙ sym (keep-none (named (x .links) v) (upTo (x .nodes))
-          (λ y m t. absurd (omega (arith, named-below (x .nodes) (x .links) [] (facts .fresh) v y t .0))))
+          (rw z)
+          ∙ sym (keep-none _ _
+          (λ y m t. absurd (omega (arith, named-below (x .nodes) (x .links) [] (facts .fresh) v _ t .0))))
 
 -- what reading accepts is an accepted survey, with exactly the links that the lines name
 pub reading-right : (text : List ℕ) (p q : ℕ) → ReadRight text (reading text p q)
@@ -193,12 +178,12 @@ reading-right text p q x e = at (parse 1024 16384 p q text) refl e
     at (refused k) h e = never e
     at (answered y) h e =
         let s : _≡_ {A = Size} (record { nodes = y .nodes; links = length (y .links) }) x = cc in
-        subst (λ (z : Size). IsRead text z (readingOf p q (answered y) .starts) (readingOf p q (answered y) .neighbours)) s (record {
-          survey = read-accepted 1024 16384 p q (omega arith) (omega arith) text y h;
+        rw (← s) (record {
+          survey = read-accepted _ _ _ _ (omega arith) (omega arith) text y h;
           links = y .links;
           count = refl;
           lines = parse-sound 1024 16384 p q text y h .is-text;
-          exactly = read-exactly 1024 16384 p q (omega arith) (omega arith) text y h;
+          exactly = read-exactly _ _ _ _ (omega arith) (omega arith) text y h;
         })
 
 -- ---- a text that is written: in front of the buffer, or not at all
@@ -222,7 +207,7 @@ module _ (text buffer : List ℕ) where
       (λ h.
       let w = e ∙ write-whole h in
       let i : k ≡ length text = ap (λ (x : AfterWriting). numberIn (λ j. j) (x .answer)) w in
-      omega (arith, ap (λ (x : AfterWriting). length (x .buffer)) w ∙ length-append text (drop (length text) buffer)))
+      omega (arith, ap (λ (x : AfterWriting). length (x .buffer)) w ∙ length-append text _))
       (lt-or (length buffer) (length text))
 
 -- ---- a graph's links in order: each once, and all of them
@@ -232,7 +217,7 @@ unfolding named
 named-append [] ls a b = refl
 named-append (k ∷ ks) ls a b =
     let X = (eqb (k .0) a && eqb (k .1) b) || (eqb (k .0) b && eqb (k .1) a) in
-    ap (λ (t : Bool). X || t) (named-append ks ls a b) ∙ sym (or-assoc X (named ks a b) (named ls a b))
+    rw (named-append ks ls a b) (sym (or-assoc X _ _))
 
 -- the links of node a to the nodes of a list
 row : ℕ → List ℕ → List (ℕ × ℕ)
@@ -241,58 +226,42 @@ row a l = map (λ b. (a, b)) l
 row-sound : (a : ℕ) (l : List ℕ) (u v : ℕ) → T (named (row a l) u v) → ((u ≡ a) × T (has v l)) ⊎ ((v ≡ a) × T (has u l))
 unfolding row named
 row-sound a [] u v t = absurd t
-row-sound a (b ∷ l) u v t = at (or-e (X || Y) (named (row a l) u v) t) (λ s. row-sound a l u v s)
+row-sound a (b ∷ l) u v t = ⊎-elim
+    (λ e. inl (sym (e .0), this (e .1)))
+    (⊎-elim
+    (λ e. inr (sym (e .0), this (e .1)))
+    (λ s. ⊎-elim (λ i. inl (i .0, has-tail _ _ _ (i .1))) (λ i. inr (i .0, has-tail _ _ _ (i .1))) (row-sound a l u v s)))
+    (named-cases (a, b) (row a l) u v t)
   where
-    X : Bool
-    X = eqb a u && eqb b v
-
-    Y : Bool
-    Y = eqb a v && eqb b u
-
-    this : (i j : ℕ) → T (eqb a i && eqb b j) → (i ≡ a) × T (has j (b ∷ l))
-    this i j s = (
-      sym (eqb→eq a i (and-l (eqb a i) (eqb b j) s)),
-      subst (λ (k : ℕ). T (has k (b ∷ l))) (eqb→eq b j (and-r (eqb a i) (eqb b j) s)) (has-head b l),
-    )
-
-    at : T (X || Y) ⊎ T (named (row a l) u v) → (T (named (row a l) u v) → ((u ≡ a) × T (has v l)) ⊎ ((v ≡ a) × T (has u l)))
-        → ((u ≡ a) × T (has v (b ∷ l))) ⊎ ((v ≡ a) × T (has u (b ∷ l)))
-    at (inl s) rec = ⊎-elim (λ x. inl (this u v x)) (λ y. inr (this v u y)) (or-e X Y s)
-    at (inr s) rec = ⊎-elim (λ i. inl (i .0, has-tail v b l (i .1))) (λ i. inr (i .0, has-tail u b l (i .1))) (rec s)
+    this : {k : ℕ} → b ≡ k → T (has k (b ∷ l))
+    this e = rw (← e) (has-head _ _)
 
 row-complete : (a : ℕ) (l : List ℕ) (v : ℕ) → T (has v l) → T (named (row a l) a v)
 unfolding row named
-row-complete a [] v h = absurd (none-in v h)
-row-complete a (b ∷ l) v h = at (of-cons v b l h) (λ r. row-complete a l v r)
-  where
-    X : Bool
-    X = (eqb a a && eqb b v) || (eqb a v && eqb b a)
-
-    at : (v ≡ b) ⊎ T (has v l) → (T (has v l) → T (named (row a l) a v)) → T (X || named (row a l) a v)
-    at (inl e) rec = or-l X (named (row a l) a v)
-        (or-l (eqb a a && eqb b v) (eqb a v && eqb b a) (and-i (eqb a a) (eqb b v) (eq-T a a refl) (eq-T b v (sym e))))
-    at (inr r) rec = or-r X (named (row a l) a v) (rec r)
+row-complete a [] v h = absurd (none-in _ h)
+row-complete a (b ∷ l) v h =
+    let X = eqb a a && eqb b v in
+    let Y = eqb a v && eqb b a in
+    ⊎-elim
+    (λ e. or-l (X || Y) _ (or-l X _ (and-i (eqb a a) _ (eq-T a _ refl) (eq-T _ _ (sym e)))))
+    (λ r. or-r (X || Y) _ (row-complete a l v r))
+    (of-cons _ _ _ h)
 
 gather-sound : (f : ℕ → List (ℕ × ℕ)) (l : List ℕ) (u v : ℕ) → T (named (gather f l) u v) → (a : ℕ) × T (has a l) × T (named (f a) u v)
 unfolding gather named
 gather-sound f [] u v t = absurd t
-gather-sound f (x ∷ l) u v t =
-    at (or-e (named (f x) u v) (named (gather f l) u v) (subst T (named-append (f x) (gather f l) u v) t)) (λ r. gather-sound f l u v r)
-  where
-    at : T (named (f x) u v) ⊎ T (named (gather f l) u v) → (T (named (gather f l) u v) → (a : ℕ) × T (has a l) × T (named (f a) u v))
-        → (a : ℕ) × T (has a (x ∷ l)) × T (named (f a) u v)
-    at (inl s) rec = (x, has-head x l, s)
-    at (inr s) rec = let i = rec s in (i .0, has-tail (i .0) x l (i .1), i .2)
+gather-sound f (x ∷ l) u v t = ⊎-elim
+    (λ s. (x, has-head _ _, s))
+    (λ s. let i = gather-sound f l u v s in (i .0, has-tail _ _ _ (i .1), i .2))
+    (or-e (named (f x) u v) (named (gather f l) u v) (subst T (named-append (f x) _ _ _) t))
 
 gather-complete : (f : ℕ → List (ℕ × ℕ)) (l : List ℕ) (a u v : ℕ) → T (has a l) → T (named (f a) u v) → T (named (gather f l) u v)
 unfolding gather
-gather-complete f [] a u v h t = absurd (none-in a h)
-gather-complete f (x ∷ l) a u v h t =
-    subst T (sym (named-append (f x) (gather f l) u v)) (at (of-cons a x l h) (λ r. gather-complete f l a u v r t))
-  where
-    at : (a ≡ x) ⊎ T (has a l) → (T (has a l) → T (named (gather f l) u v)) → T (named (f x) u v || named (gather f l) u v)
-    at (inl e) rec = or-l (named (f x) u v) (named (gather f l) u v) (subst (λ (k : ℕ). T (named (f k) u v)) e t)
-    at (inr r) rec = or-r (named (f x) u v) (named (gather f l) u v) (rec r)
+gather-complete f [] a u v h t = absurd (none-in _ h)
+gather-complete f (x ∷ l) a u v h t = subst T (sym (named-append _ _ _ _)) (⊎-elim
+    (λ e. or-l (named (f x) u v) _ (rw e at t))
+    (λ r. or-r (named (f x) u v) _ (gather-complete f l a u v r t))
+    (of-cons _ _ _ h))
 
 -- every pair u < v that is named comes before (a, k)
 AllLess : List (ℕ × ℕ) → ℕ → ℕ → Type 0
@@ -305,7 +274,7 @@ unfolding row AllLess named
 row-fresh n a k [] done ks ha asc b less next =
     next done (λ u v t h. inl (⊎-elim (λ x. omega arith) (λ x. omega (arith, x .0)) (less u v t h)))
 row-fresh n a k (y ∷ l) done ks ha asc b less next =
-    let c = b y (has-head y l) in (
+    let c = b y (has-head _ _) in (
       record {
         below-a = ha;
         below-b = c .1;
@@ -317,27 +286,14 @@ row-fresh n a k (y ∷ l) done ks ha asc b less next =
     )
   where
     up : (u v : ℕ) → T (named ((a, y) ∷ done) u v) → u < v → (u < a) ⊎ ((u ≡ a) × (v < suc y))
-    up u v t h = at (or-e (X || Y) (named done u v) t)
-      where
-        X : Bool
-        X = eqb a u && eqb y v
-
-        Y : Bool
-        Y = eqb a v && eqb y u
-
-        c : (a < y) × (y < n) × (k ≤ y)
-        c = b y (has-head y l)
-
-        ends : (i j : ℕ) → T (eqb a i && eqb y j) → (a ≡ i) × (y ≡ j)
-        ends i j s = (eqb→eq a i (and-l (eqb a i) (eqb y j) s), eqb→eq y j (and-r (eqb a i) (eqb y j) s))
-
-        at : T (X || Y) ⊎ T (named done u v) → (u < a) ⊎ ((u ≡ a) × (v < suc y))
-        at (inl s) =
-            ⊎-elim
-            (λ x. let e = ends u v x in inr (sym (e .0), omega (arith, e .1)))
-            (λ x. let e = ends v u x in absurd (omega (arith, e .0, e .1, c .0)))
-            (or-e X Y s)
-        at (inr s) = ⊎-elim (λ x. inl x) (λ x. inr (x .0, omega (arith, x .1, c .2))) (less u v s h)
+    up u v t h =
+        let c = b y (has-head _ _) in
+        ⊎-elim
+        (λ e. inr (sym (e .0), omega (arith, e .1)))
+        (⊎-elim
+        (λ e. absurd (omega (arith, e .0, e .1, c .0)))
+        (λ s. ⊎-elim inl (λ x. inr (x .0, omega (arith, x .1, c .2))) (less u v s h)))
+        (named-cases (a, y) done u v t)
 
 rows-fresh : (n : ℕ) (G : Graph) (k a : ℕ) (done : List (ℕ × ℕ)) → a + k ≡ n → ((v : ℕ) → v < n → T (ascending (G v)))
     → ((v x : ℕ) → v < n → T (has x (G v)) → x < n)
@@ -345,9 +301,8 @@ rows-fresh : (n : ℕ) (G : Graph) (k a : ℕ) (done : List (ℕ × ℕ)) → a 
 unfolding from gather
 rows-fresh n G zero a done e asc b less = tt
 rows-fresh n G (suc k) a done e asc b less =
-    row-fresh n a 0 (keep (λ b. ltb a b) (G a)) done (gather (λ a. row a (keep (λ b. ltb a b) (G a))) (from (suc a) k)) (omega arith)
-    (keep-of-ascending (λ b. ltb a b) (G a) (asc a (omega arith)))
-    (λ x m. let i = of-keep (λ b. ltb a b) (G a) x m in (ltb→lt a x (i .1), b a x (omega arith) (i .0), zero-le)) less
+    row-fresh n a 0 _ done _ (omega arith) (keep-of-ascending _ _ (asc a (omega arith)))
+    (λ x m. let i = of-keep _ _ _ m in (ltb→lt _ _ (i .1), b a x (omega arith) (i .0), zero-le)) less
     (λ done′ less′. rows-fresh n G k (suc a) done′ (omega arith) asc b less′)
 
 -- ---- a survey written and read again
@@ -367,25 +322,23 @@ module _ (n : ℕ) (starts′ neighbours′ : List ℕ) (acc : Accepted n starts
   ordered-has : (v x : ℕ) → v < n → T (named ls v x) → T (has x (neighboursOf starts′ neighbours′ v))
   unfolding ls ordered row
   ordered-has v x hv t =
-      let i = gather-sound (λ a. row a (keep (λ b. ltb a b) (G a))) (upTo n) v x t in
+      let i = gather-sound _ _ _ _ t in
       let a = i .0 in
-      let ha = of-upTo n a (i .1) in
+      let ha = of-upTo _ _ (i .1) in
       ⊎-elim
-      (λ r. subst (λ (k : ℕ). T (has x (G k))) (sym (r .0)) (of-keep (λ b. ltb a b) (G a) x (r .1) .0))
-      (λ r. subst (λ (k : ℕ). T (has k (G v))) (sym (r .0))
-      (acc .lists .graph .symmetric a v ha (of-keep (λ b. ltb a b) (G a) v (r .1) .0)))
-      (row-sound a (keep (λ b. ltb a b) (G a)) v x (i .2))
+      (λ r. subst (λ (k : ℕ). T (has x (G k))) (sym (r .0)) (of-keep (λ b. ltb a b) _ _ (r .1) .0))
+      (λ r. rw (r .0) (acc .lists .graph .symmetric a v ha (of-keep (λ b. ltb a b) _ _ (r .1) .0)))
+      (row-sound _ _ _ _ (i .2))
 
   up-named : (v x : ℕ) → v < n → v < x → T (has x (neighboursOf starts′ neighbours′ v)) → T (named ls v x)
   unfolding ls ordered row
   up-named v x hv l m =
-      gather-complete (λ a. row a (keep (λ b. ltb a b) (G a))) (upTo n) v v x (has-upTo n v hv)
-      (row-complete v (keep (λ b. ltb v b) (G v)) x (has-keep (λ b. ltb v b) (G v) x m (lt→ltb v x l)))
+      gather-complete _ (upTo n) v v x (has-upTo _ _ hv) (row-complete _ _ _ (has-keep _ _ _ m (lt→ltb _ _ l)))
 
   has-ordered : (v x : ℕ) → v < n → T (has x (neighboursOf starts′ neighbours′ v)) → T (named ls v x)
   has-ordered v x hv m =
       ⊎-elim
-      (λ l. up-named v x hv l m)
+      (λ l. up-named _ _ hv l m)
       (λ l.
       let d : x ≡ v → ⊥ = acc .lists .loopless v x hv m in
       subst T (named-sym ls x v) (up-named x v (acc .lists .graph .below v x hv m) (omega arith) (acc .lists .graph .symmetric v x hv m)))
@@ -394,16 +347,16 @@ module _ (n : ℕ) (starts′ neighbours′ : List ℕ) (acc : Accepted n starts
   graph-back : (v : ℕ) → v < n → graphOf n ls v ≡ neighboursOf starts′ neighbours′ v
   unfolding graphOf
   graph-back v hv =
-      keep-same (named ls v) (λ x. has x (G v)) (upTo n) (λ x m t. ordered-has v x hv t) (λ x m t. has-ordered v x hv t)
-      ∙ ascending-keep (G v) n (acc .lists .sorted v hv) (λ x m. acc .lists .graph .below v x hv m)
+      keep-same _ _ _ (λ x m t. ordered-has _ _ hv t) (λ x m t. has-ordered _ _ hv t)
+      ∙ ascending-keep _ _ (acc .lists .sorted v hv) (λ x m. acc .lists .graph .below v x hv m)
 
   -- there are half as many links as neighbours
   pub ordered-count : 2 * length (ordered n (neighboursOf starts′ neighbours′)) ≡ getD starts′ n 0
   unfolding ls total
   ordered-count =
-      sym (links-total n ls all-fresh)
-      ∙ ap length (gather-below n (graphOf n ls) G graph-back n (omega arith))
-      ∙ own-total n starts′ neighbours′ (acc .lists) n (omega arith)
+      sym (links-total _ _ all-fresh)
+      ∙ ap length (gather-below _ _ _ graph-back n (omega arith))
+      ∙ own-total (acc .lists) n (omega arith)
 
   pub half-count : getD starts′ n 0 / 2 ≡ length (ordered n (neighboursOf starts′ neighbours′))
   half-count = omega (arith, ordered-count)
@@ -413,8 +366,7 @@ module _ (n : ℕ) (starts′ neighbours′ : List ℕ) (acc : Accepted n starts
   unfolding asRead reading readingOf textOf ls
   read-back p q hp hq =
       let x : Parsed = record { nodes = n; links = ls } in
-      let m = length ls in
-      let r = parse-complete 1024 16384 p q (omega arith) (omega arith) x (surveyText n (getD starts′ n 0 / 2) ls) (record {
+      let r = parse-complete _ 16384 p q (omega arith) (omega arith) x (surveyText n (getD starts′ n 0 / 2) ls) (record {
         within = record {
           some-node = acc .some-node;
           size = acc .size;
@@ -422,16 +374,15 @@ module _ (n : ℕ) (starts′ neighbours′ : List ℕ) (acc : Accepted n starts
           room = hp;
           list-room = omega (arith, ordered-count);
         };
-        is-text = ap (λ (k : ℕ). surveyText n k ls) half-count;
+        is-text = rw half-count;
         fresh = all-fresh;
       }) in
       ap (readingOf p q) r ∙ (λ i. record {
         answer = answered (record { nodes = n; links = sym half-count i });
         starts =
-            over ((starts-same n (graphOf n ls) G graph-back ∙ own-starts n starts′ neighbours′ (acc .lists) (acc .room)) i)
-            (replicate p 0);
+            over ((starts-same _ _ _ graph-back ∙ own-starts (acc .lists) (acc .room)) i) (replicate p 0);
         neighbours =
-            over ((neighbours-same n (graphOf n ls) G graph-back ∙ own-neighbours n starts′ neighbours′ (acc .lists)) i) (replicate q 0);
+            over ((neighbours-same _ _ _ graph-back ∙ own-neighbours (acc .lists)) i) (replicate q 0);
       })
 
   -- a survey's text, in a buffer that is long enough
@@ -441,7 +392,7 @@ module _ (n : ℕ) (starts′ neighbours′ : List ℕ) (acc : Accepted n starts
         buffer = over (textOf n starts′ neighbours′) buffer;
       }
   unfolding writing
-  writing-answers buffer h = rw (accepting-answers n starts′ neighbours′ acc) (write-whole (textOf n starts′ neighbours′) buffer h)
+  writing-answers buffer h = rw (accepting-answers n starts′ neighbours′ acc) (write-whole _ _ h)
 
   pub written-text : (buffer : List ℕ) (k : ℕ) → writing n starts′ neighbours′ buffer .answer ≡ answered k
       → take k (writing n starts′ neighbours′ buffer .buffer) ≡ textOf n starts′ neighbours′
@@ -449,10 +400,8 @@ module _ (n : ℕ) (starts′ neighbours′ : List ℕ) (acc : Accepted n starts
   written-text buffer k =
       let text : List ℕ = textOf n starts′ neighbours′ in
       let P : AfterWriting → Type 0 = λ r. r .answer ≡ answered k → take k (r .buffer) ≡ text in
-      subst (λ (o : Outcome (Unit {0})). P (writingOf o text buffer)) (sym (accepting-answers n starts′ neighbours′ acc))
-      (picked P (ltb (length buffer) (length text)) _ _ (λ _ e. never e) (λ _ e.
-      let j : length text ≡ k = cc in
-      take-at text (drop (length text) buffer) k j))
+      rw (accepting-answers _ _ _ acc) (picked P (ltb (length buffer) (length text)) _ _ (λ _ e. never e)
+      (λ _ e. let j : length text ≡ k = cc in take-at _ _ _ j))
 
 -- written and read again it is the same survey
 pub writing-right : (n : ℕ) (starts neighbours buffer : List ℕ) → WriteRight n starts neighbours (writing n starts neighbours buffer)
@@ -463,5 +412,5 @@ writing-right n starts neighbours buffer k e p q hp hq = at (accepting n starts 
         → reading (take k (writing n starts neighbours buffer .buffer)) p q ≡ asRead n starts neighbours p q
     at (refused j) i f = never f
     at (answered x) i f =
-        let acc = accepting-facts n starts neighbours x i in
-        ap (λ (t : List ℕ). reading t p q) (written-text n starts neighbours acc buffer k e) ∙ read-back n starts neighbours acc p q hp hq
+        let acc = accepting-facts _ _ _ _ i in
+        rw (written-text _ _ _ acc _ k e) (read-back _ _ _ acc _ _ hp hq)

@@ -2,7 +2,7 @@
 -- Assumes nothing.
 use mathlib.Core.Path.{_≡_, refl, sym, ap, _∙_, subst}
 use mathlib.Core.Logic.{_⊎_, inl, inr, ⊎-elim}
-use mathlib.Core.Bool.{Bool, true, false, not, _||_}
+use mathlib.Core.Bool.{Bool, false, not, _||_}
 use mathlib.Core.List.{List, [], _∷_, _++_, tail, reverse}
 use mathlib.Core.Option.{Option, none as missing, some}
 use Prim.Native.Nat.{ℕ, zero, suc, _+_, _*_, _/_, _≤_, _<_}
@@ -20,7 +20,7 @@ use Rattle.model.specs.Survey.{Graph, neighboursOf, outside, badSize, is
 use Rattle.model.specs.Graph.{linked}
 use Rattle.model.specs.Hubs.{isLow}
 use Rattle.model.specs.Tables.{entryAt, shortTables, AreBuilt}
-use Rattle.model.specs.Pair.{taken, attaining, pairBy, pair}
+use Rattle.model.specs.Pair.{pairBy, pair}
 use Rattle.model.specs.Walk.{steps, byLow, toHub, join, walkNodes}
 use Rattle.model.specs.Threshold.{threshold}
 use Rattle.model.specs.Reading.{named, linkOf, readOn, onLinks, readLinks, countsOf, parsed, parseLinks, Parsed, parse, readingOf, reading}
@@ -29,7 +29,7 @@ use Rattle.model.specs.Asking.{asking}
 use Rattle.model.specs.Walking.{AfterWalking, refuseWalk, fit, walkOf, walking}
 use Rattle.model.specs.Demand.{AllowedAnswer}
 use Rattle.model.proofs.Tests.{picked, true-T, false-no, or-false, of-or-false, not-not, eq-or, lt-or}
-use Rattle.model.proofs.Outcomes.{never, numberIn}
+use Rattle.model.proofs.Outcomes.{never, no-value, numberIn}
 use Rattle.model.proofs.Acceptance.{of-in-range, survey-facts}
 use Rattle.model.proofs.Numbers.{length-le}
 use Rattle.model.proofs.Lines.{length-line}
@@ -70,7 +70,7 @@ module _ (n : ℕ) (starts neighbours : List ℕ) (acc : Accepted n starts neigh
   text-few =
       let G : Graph = neighboursOf starts neighbours in
       let m = length (ordered n G) in
-      let h = half-count n starts neighbours acc in
+      let h = half-count _ _ _ acc in
       let e = ap (λ (k : ℕ). length (lineOf 83 n k)) h in
       omega (
         arith,
@@ -86,7 +86,7 @@ module _ (n : ℕ) (starts neighbours : List ℕ) (acc : Accepted n starts neigh
   -- a buffer of so many bytes is never refused 12
   pub writing-enough : (buffer : List ℕ) → mostText ≤ length buffer
       → writing n starts neighbours buffer .answer ≡ answered (length (textOf n starts neighbours))
-  writing-enough buffer h = ap (λ (r : AfterWriting). r .answer) (writing-answers n starts neighbours acc buffer (omega (arith, text-few)))
+  writing-enough buffer h = ap (λ (r : AfterWriting). r .answer) (writing-answers _ _ _ acc _ (omega (arith, text-few)))
 
 -- ---- the lists that reading fills
 
@@ -95,7 +95,7 @@ unfolding readLinks linkOf readOn onLinks
 links-not-eight n zero done [] e = never (sym e)
 links-not-eight n zero done (c ∷ text) e = omega (arith, same-number 7 8 e)
 links-not-eight n (suc m) done [] e = omega (arith, same-number 7 8 e)
-links-not-eight n (suc m) done (c ∷ text) e = at (line 76 (c ∷ text)) (λ l. links-not-eight n m ((l .0, l .1) ∷ done) (l .2)) e
+links-not-eight n (suc m) done (c ∷ text) e = at (line 76 (c ∷ text)) (λ l. links-not-eight n m _ _) e
   where
     next : ℕ → ℕ → List ℕ → Outcome (List (ℕ × ℕ))
     next a b rest = readLinks n m ((a, b) ∷ done) rest
@@ -104,7 +104,7 @@ links-not-eight n (suc m) done (c ∷ text) e = at (line 76 (c ∷ text)) (λ l.
     P o = readOn next o ≡ refused 8 → ⊥
 
     more : (l : ℕ × ℕ × List ℕ) (o : Outcome (List (ℕ × ℕ))) → (o ≡ refused 8 → ⊥) → onLinks (l .0, l .1) o ≡ refused 8 → ⊥
-    more l (refused k) f e = f (ap refused (same-number k 8 e))
+    more l (refused k) f e = f (ap refused (same-number _ _ e))
     more l (answered x) f e = never (sym e)
 
     at : (o : Option (ℕ × ℕ × List ℕ)) → ((l : ℕ × ℕ × List ℕ) → next (l .0) (l .1) (l .2) ≡ refused 8 → ⊥)
@@ -122,11 +122,11 @@ unfolding reading parse parseLinks countsOf parsed readingOf
 reading-enough text p q hp hq = at (line 83 text)
   where
     of-parse : (o : Outcome Parsed) → (o ≡ refused 8 → ⊥) → readingOf p q o .answer ≡ refused 8 → ⊥
-    of-parse (refused k) f e = f (ap refused (same-number k 8 e))
+    of-parse (refused k) f e = f (ap refused (same-number _ _ e))
     of-parse (answered x) f e = never (sym e)
 
     of-links : (n : ℕ) (o : Outcome (List (ℕ × ℕ))) → (o ≡ refused 8 → ⊥) → parsed n o ≡ refused 8 → ⊥
-    of-links n (refused k) f e = f (ap refused (same-number k 8 e))
+    of-links n (refused k) f e = f (ap refused (same-number _ _ e))
     of-links n (answered x) f e = never (sym e)
 
     P : Outcome (ℕ × ℕ × List ℕ) → Type 0
@@ -137,10 +137,10 @@ reading-enough text p q hp hq = at (line 83 text)
     at (some f) =
         picked P (outside 1024 (f .0)) _ _ (λ _ e. omega (arith, same-number 2 8 e)) (λ size.
         picked P (ltb 16384 (f .1)) _ _ (λ _ e. omega (arith, same-number 3 8 e)) (λ few.
-        let room : (ltb p (f .0 + 1) || ltb q (2 * f .1)) ≡ false = or-false (ltb p (f .0 + 1)) (ltb q (2 * f .1))
-        (le-ltb p (f .0 + 1) (omega (arith, of-in-range 1024 (f .0) size .1)))
-        (le-ltb q (2 * f .1) (omega (arith, ltb-false 16384 (f .1) few))) in
-        rw room (of-parse _ (of-links (f .0) _ (links-not-eight (f .0) (f .1) [] (f .2))))))
+        let room : (ltb p (f .0 + 1) || ltb q (2 * f .1)) ≡ false = or-false (ltb p (f .0 + 1)) _
+        (le-ltb _ (f .0 + 1) (omega (arith, of-in-range 1024 (f .0) size .1)))
+        (le-ltb _ (2 * f .1) (omega (arith, ltb-false 16384 (f .1) few))) in
+        rw room (of-parse _ (of-links (f .0) _ (links-not-eight _ _ _ _)))))
 
 -- ---- a walk, whatever the tables hold
 
@@ -155,18 +155,17 @@ module _ (n s : ℕ) (G : Graph) (g : IsGraph n G) where
       let c = subst (λ (o : Option (List ℕ)). Sound (linked n G) (left v) v goal o) e (steps-sound n G g may left goal (left v) v h) .1 in
       ⊎-elim
       (λ k. omega (arith, c, k))
-      (λ k. absurd (let f = sym e ∙ too-long n G g may left goal (left v) v h (omega arith) k in
-      let z : _≡_ {A = ℕ} 0 1 = cc in omega arith))
+      (λ k. no-value (sym (too-long n G g may left goal (left v) v h (omega arith) k) ∙ e))
       (lt-or (left v) n)
 
   join-few : (p q : Option (List ℕ)) → ((l : List ℕ) → p ≡ some l → length l ≤ n) → ((l : List ℕ) → q ≡ some l → length l ≤ n)
       → (l : List ℕ) → join p q ≡ some l → length l ≤ 2 * n
   unfolding join
-  join-few missing q f h l e = let z : _≡_ {A = ℕ} 0 1 = cc in absurd (omega arith)
-  join-few (some p) missing f h l e = let z : _≡_ {A = ℕ} 0 1 = cc in absurd (omega arith)
+  join-few missing q f h l e = no-value e
+  join-few (some p) missing f h l e = no-value e
   join-few (some p) (some q) f h l e =
       let k : p ++ tail (reverse q) ≡ l = cc in
-      omega (arith, sym (ap length k) ∙ length-append p (tail (reverse q)), tail-few (reverse q), length-reverse q, f p refl, h q refl)
+      omega (arith, sym (ap length k) ∙ length-append p _, tail-few (reverse q), length-reverse q, f p refl, h q refl)
 
   -- the nodes of a walk are at most 2 n
   nodes-few : (full low : List ℕ) (a b : ℕ) → a < n → b < n → (t : Route) (l : List ℕ) → walkNodes n s G full low a b t ≡ some l
@@ -175,8 +174,7 @@ module _ (n s : ℕ) (G : Graph) (g : IsGraph n G) where
   nodes-few full low a b ha hb Itself l e = let k : a ∷ [] ≡ l = cc in omega (arith, ap length k)
   nodes-few full low a b ha hb Low l e = omega (arith, part-few (isLow s G) (λ x. entryAt n low x b) b a ha l e)
   nodes-few full low a b ha hb (Through h) l e =
-      join-few (toHub n G full h a) (toHub n G full h b)
-      (part-few (λ x. true) (λ x. entryAt n full h x) h a ha) (part-few (λ x. true) (λ x. entryAt n full h x) h b hb) l e
+      join-few _ _ (part-few _ _ _ _ ha) (part-few _ _ _ _ hb) _ e
   nodes-few full low a b ha hb NoRoute l e = let k : [] ≡ l = cc in omega (arith, ap length k)
 
 -- with a walk list of 2 n entries or more, a walk is refused 8 only for `starts` or a table
@@ -186,13 +184,12 @@ pub walking-enough : (n : ℕ) (starts neighbours full low report : List ℕ) (a
 unfolding walking refuseWalk pair pairBy walkOf fit
 walking-enough n starts neighbours full low report a b w h =
     picked P (badSize n) _ _ (λ _ e. absurd (omega (arith, same-number 2 8 e))) (λ _.
-    picked P short _ _ (λ t e. true-T short t) (λ _.
+    picked P short _ _ (λ t e. true-T _ t) (λ _.
     picked P (not (isSurvey n starts neighbours)) _ _ (λ _ e. absurd (omega (arith, same-number 9 8 e))) (λ lists.
     picked P (leb n a || leb n b) _ _ (λ _ e. absurd (omega (arith, same-number 10 8 e))) (λ below.
-    let i = of-or-false (leb n a) (leb n b) below in
-    let g = survey-facts n starts neighbours (not-not (isSurvey n starts neighbours) lists) .graph in
-    answers g (leb-false n a (i .0)) (leb-false n b (i .1))
-    (chosen a b r (entryAt n low a b) (attaining (taken n full a b) n full a b r))))))
+    let i = of-or-false _ _ below in
+    let g = survey-facts _ _ _ (not-not (isSurvey n starts neighbours) lists) .graph in
+    answers g (leb-false _ _ (i .0)) (leb-false _ _ (i .1)) (chosen a b r _ _)))))
   where
     G : Graph
     G = neighboursOf starts neighbours
@@ -208,11 +205,11 @@ walking-enough n starts neighbours full low report a b w h =
 
     fitted : (x : Answer) (o : Option (List ℕ)) → ((l : List ℕ) → o ≡ some l → length l ≤ 2 * n) → P (fit w x o)
     fitted x missing f e = absurd (omega (arith, same-number 11 8 e))
-    fitted x (some l) f e = never (sym e ∙ ap (λ (y : AfterWalking). y .answer) (fit-long w x l (omega (arith, f l refl))))
+    fitted x (some l) f e = never (sym e ∙ ap (λ (y : AfterWalking). y .answer) (fit-long _ _ l (omega (arith, f l refl))))
 
     walk : IsGraph n G → a < n → b < n → (x : Answer) → P (fit w x (walkNodes n (threshold n) G full low a b (x .route)))
     walk g ha hb x =
-        fitted x (walkNodes n (threshold n) G full low a b (x .route)) (nodes-few n (threshold n) G g full low a b ha hb (x .route))
+        fitted x (walkNodes n (threshold n) G full low a b (x .route)) (nodes-few n _ G g full low a b ha hb (x .route))
 
     answers : IsGraph n G → a < n → b < n → {l k : ℕ} {q : Outcome Answer} → Chosen a b r l k q
         → P (walkOf w n (threshold n) G full low a b q)
@@ -241,15 +238,6 @@ built-enough n starts neighbours acc full low report own a b ha hb w h =
     G : Graph
     G = neighboursOf starts neighbours
 
-    hf : n * n ≤ length full
-    hf = full-room n s G full low report own
-
-    hl : n * n ≤ length low
-    hl = low-room n s G full low report own
-
-    hr : n * n ≤ length report
-    hr = report-room n s G full low report own
-
     asked : AllowedAnswer (linked n G) a b (asking n full low report a b)
     asked = walking-right n starts neighbours full low report a b w acc own ha hb .0
 
@@ -260,20 +248,20 @@ built-enough n starts neighbours acc full low report own a b ha hb w h =
     answers v room = walking-right n starts neighbours full low report a b v acc own ha hb .1 x (asked .given) room
 
     short : (ltb (length starts) (n + 1) || shortTables n (length full) (length low) (length report)) ≡ false
-    short = or-false (ltb (length starts) (n + 1)) (shortTables n (length full) (length low) (length report))
-        (le-ltb (length starts) (n + 1) (acc .room)) (long-tables n (length full) (length low) (length report) hf hl hr)
+    short = or-false (ltb (length starts) (n + 1)) _
+        (le-ltb (length starts) _ (acc .room)) (long-tables _ (length full) _ _ (full-room own) (low-room own) (report-room own))
 
     -- a report of w or more would have a walk of more than 2 n nodes
     found : (x .report ≡ none → ⊥) → w ≤ x .report → (o : Option (List ℕ)) → walkNodes n s G full low a b (x .route) ≡ o → ⊥
     found m l missing f =
         let v = suc (x .report) in
-        let given = sym (asks n starts neighbours acc full low report hf hl hr a b ha hb) ∙ asked .given in
+        let given = sym (asks acc full low report (full-room own) (low-room own) (report-room own) ha hb) ∙ asked .given in
         never (
         sym (ap (λ (y : AfterWalking). y .answer) (
-        walks n starts neighbours acc full low report hf hl hr a b ha hb v ∙ ap (walkOf v n s G full low a b) given ∙ ap (fit v x) f
+        walks acc full low report (full-room own) (low-room own) (report-room own) ha hb v ∙ ap (walkOf v n s G full low a b) given ∙ ap (fit v x) f
         ))
         ∙ answers v (inr (omega arith))
         )
     found m l (some p) f =
-        false-no _ short (walking-enough n starts neighbours full low report a b w h
-        (walking-short n starts neighbours acc full low report a b x (asked .given) p f w .1 (m, omega arith)))
+        false-no _ short (walking-enough _ starts _ full low report _ _ _ h
+        (walking-short acc full low report a b (asked .given) f w .1 (m, omega arith)))

@@ -4,7 +4,7 @@
 use mathlib.Core.Path.{_≡_, refl, sym, ap, ap₂, _∙_, subst}
 use mathlib.Core.Bool.{Bool, not}
 use mathlib.Core.List.{List, [], _∷_, _++_, map, append-assoc}
-use Prim.Native.Nat.{ℕ, zero, suc, _+_, _-_, _/_, _%_, _≤_, _<_, min}
+use Prim.Native.Nat.{ℕ, zero, suc, _+_, _-_, _≤_, _<_, min}
 use native.Mathlib.Nat.{add-zero}
 use native.Mathlib.Numerals.{add-one}
 use native.Mathlib.Omega.{arith}
@@ -13,7 +13,7 @@ use lib.ListN.{length, getD, take, drop, length-append, length-take, List·getD-
 use lib.Seq.{take-nil, take-at, drop-at, take-take, take-add, getD-take, ext-getD}
 use Rattle.model.specs.Answers.{refused, answered}
 use Rattle.model.specs.Basics.{if_then_else_, from, upTo, has, gather}
-use Rattle.model.specs.Survey.{Graph, neighboursOf, ascending, isSurvey, badSize, accepting, IsSurvey, Accepted}
+use Rattle.model.specs.Survey.{Graph, neighboursOf, isSurvey, badSize, accepting, IsSurvey, Accepted}
 use Rattle.model.specs.Graph.{linked}
 use Rattle.model.specs.Reading.{startsOf, neighboursFrom}
 use Rattle.model.proofs.Tests.{same-test}
@@ -31,11 +31,11 @@ total-zero G = refl
 
 pub total-suc : (G : Graph) (v : ℕ) → total G (suc v) ≡ total G v + length (G v)
 unfolding total
-total-suc G v = ap length (gather-suc G v) ∙ length-append (gather G (upTo v)) (G v)
+total-suc G v = ap length (gather-suc _ _) ∙ length-append (gather G (upTo v)) _
 
 pub starts-length : (n : ℕ) (G : Graph) → length (startsOf n G) ≡ n + 1
 unfolding startsOf
-starts-length n G = length-row (λ v. length (gather G (upTo v))) (n + 1)
+starts-length n G = length-row _ _
 
 pub neighbours-length : (n : ℕ) (G : Graph) → length (neighboursFrom n G) ≡ total G n
 unfolding neighboursFrom total
@@ -49,7 +49,7 @@ module _ (n : ℕ) (G : Graph) (more others : List ℕ) where
   start-at v h =
       let row = map (λ v. length (gather G (upTo v))) (upTo (n + 1)) in
       List·getD-append row more 0 v (omega (arith, starts-length n G, h))
-      ∙ getD-row (λ v. length (gather G (upTo v))) (n + 1) v 0 (omega arith)
+      ∙ getD-row _ _ _ _ (omega arith)
 
   pub own-at : (v : ℕ) → v < n → neighboursOf (startsOf n G ++ more) (neighboursFrom n G ++ others) v ≡ G v
   unfolding neighboursOf neighboursFrom total gather
@@ -57,7 +57,7 @@ module _ (n : ℕ) (G : Graph) (more others : List ℕ) where
       let k = n - suc v in
       let split : gather G (upTo n) ++ others ≡ gather G (upTo v) ++ (G v ++ (gather G (from (suc v) k) ++ others)) =
       ap (λ (l : List ℕ). gather G l ++ others) (from-split v k n (omega arith))
-      ∙ ap (λ (l : List ℕ). l ++ others) (gather-append G (upTo v) (v ∷ from (suc v) k))
+      ∙ ap (λ (l : List ℕ). l ++ others) (gather-append _ (upTo v) (v ∷ from (suc v) k))
       ∙ simp append-assoc in
       let first = start-at v (omega arith) in
       let second = start-at (v + 1) (omega arith) ∙ ap (total G) (add-one v) ∙ total-suc G v in
@@ -71,25 +71,24 @@ module _ (n : ℕ) (G : Graph) (more others : List ℕ) where
 
 module _ (n : ℕ) (G H : Graph) (same : (v : ℕ) → v < n → G v ≡ H v) where
   pub gather-below : (v : ℕ) → v ≤ n → gather G (upTo v) ≡ gather H (upTo v)
-  gather-below v h = gather-same G H (upTo v) (λ x m. same x (let l = of-upTo v x m in omega arith))
+  gather-below v h = gather-same _ _ _ (λ x m. same x (let l = of-upTo _ _ m in omega arith))
 
   pub neighbours-same : neighboursFrom n G ≡ neighboursFrom n H
   unfolding neighboursFrom
-  neighbours-same = gather-below n (omega arith)
+  neighbours-same = gather-below _ (omega arith)
 
   pub starts-same : startsOf n G ≡ startsOf n H
   unfolding startsOf
   starts-same =
       let f : ℕ → ℕ = λ v. length (gather G (upTo v)) in
-      let g : ℕ → ℕ = λ v. length (gather H (upTo v)) in
-      ext-getD 0 (map f (upTo (n + 1))) (map g (upTo (n + 1))) (length-row f (n + 1) ∙ sym (length-row g (n + 1))) (λ i h.
+      ext-getD 0 _ _ (length-row _ _ ∙ sym (length-row _ _)) (λ i h.
       let b : i < n + 1 = omega (arith, length-row f (n + 1)) in
-      getD-row f (n + 1) i 0 b ∙ ap length (gather-below i (omega arith)) ∙ sym (getD-row g (n + 1) i 0 b))
+      getD-row _ _ _ _ b ∙ ap length (gather-below _ (omega arith)) ∙ sym (getD-row _ _ _ _ b))
 
 -- where no start is less than the one before, none is above the last
 module _ (n : ℕ) (starts : List ℕ) (rising : (v : ℕ) → v < n → getD starts v 0 ≤ getD starts (v + 1) 0) where
   rises : (k v : ℕ) → v + k ≡ n → getD starts v 0 ≤ getD starts n 0
-  rises zero v e = subst (λ (x : ℕ). getD starts v 0 ≤ getD starts x 0) (sym (add-zero v) ∙ e) (omega arith)
+  rises zero v e = subst (λ (x : ℕ). getD starts v 0 ≤ getD starts x 0) (sym (add-zero _) ∙ e) (omega arith)
   rises (suc k) v e = omega (arith, rises k (v + 1) (omega arith), rising v (omega arith))
 
   pub start-last : (v : ℕ) → v ≤ n → getD starts v 0 ≤ getD starts n 0
@@ -97,10 +96,7 @@ module _ (n : ℕ) (starts : List ℕ) (rising : (v : ℕ) → v < n → getD st
 
 -- ---- a survey's lists are those of its graph
 
-module _ (n : ℕ) (starts neighbours : List ℕ) (s : IsSurvey n starts neighbours) where
-  abbrev G : Graph
-  G = neighboursOf starts neighbours
-
+module _ {n : ℕ} {starts neighbours : List ℕ} (s : IsSurvey n starts neighbours) where
   -- the neighbours of the nodes below v are the entries up to v's start
   pub front : (v : ℕ) → v ≤ n → gather (neighboursOf starts neighbours) (upTo v) ≡ take (getD starts v 0) neighbours
   unfolding upTo from gather neighboursOf
@@ -113,25 +109,25 @@ module _ (n : ℕ) (starts neighbours : List ℕ) (s : IsSurvey n starts neighbo
       let e : a + (b - a) ≡ b = omega arith in
       gather-suc (neighboursOf starts neighbours) v
       ∙ ap (λ (x : List ℕ). x ++ own) (front v (omega arith))
-      ∙ sym (take-add a (b - a) neighbours)
-      ∙ ap (λ (k : ℕ). take k neighbours) (e ∙ ap (λ (k : ℕ). getD starts k 0) (add-one v))
+      ∙ sym (take-add a _ _)
+      ∙ ap (λ (k : ℕ). take k neighbours) (e ∙ ap (λ (k : ℕ). getD starts k 0) (add-one _))
 
   pub own-total : (v : ℕ) → v ≤ n → total (neighboursOf starts neighbours) v ≡ getD starts v 0
   unfolding total
   own-total v h =
-      ap length (front v h) ∙ length-take (getD starts v 0) neighbours ∙ omega (arith, start-last n starts (s .rising) v h, s .within)
+      ap length (front _ h) ∙ length-take (getD starts v 0) neighbours ∙ omega (arith, start-last n starts (s .rising) v h, s .within)
 
   pub own-neighbours : neighboursFrom n (neighboursOf starts neighbours) ≡ take (getD starts n 0) neighbours
   unfolding neighboursFrom
-  own-neighbours = front n (omega arith)
+  own-neighbours = front _ (omega arith)
 
   pub own-starts : n + 1 ≤ length starts → startsOf n (neighboursOf starts neighbours) ≡ take (n + 1) starts
   unfolding startsOf total
   own-starts room =
       let f : ℕ → ℕ = λ v. length (gather (neighboursOf starts neighbours) (upTo v)) in
-      ext-getD 0 (map f (upTo (n + 1))) (take (n + 1) starts) (length-row f (n + 1) ∙ omega (arith, length-take (n + 1) starts)) (λ i h.
+      ext-getD _ _ _ (length-row _ _ ∙ omega (arith, length-take (n + 1) starts)) (λ i h.
       let b : i < n + 1 = omega (arith, length-row f (n + 1)) in
-      getD-row f (n + 1) i 0 b ∙ own-total i (omega arith) ∙ sym (getD-take (n + 1) starts i 0 b))
+      getD-row _ _ _ _ b ∙ own-total _ (omega arith) ∙ sym (getD-take _ _ _ _ b))
 
 -- ---- what stands past the entries used makes no difference
 
@@ -147,17 +143,17 @@ pub record Agree (n : ℕ) (starts neighbours starts′ neighbours′ : List ℕ
   pub starts-used : take (n + 1) starts ≡ take (n + 1) starts′
   pub neighbours-used : take (getD starts n 0) neighbours ≡ take (getD starts n 0) neighbours′
 
-module _ (n : ℕ) (starts neighbours starts′ neighbours′ : List ℕ) (e : Agree n starts neighbours starts′ neighbours′) where
+module _ {n : ℕ} {starts neighbours starts′ neighbours′ : List ℕ} (e : Agree n starts neighbours starts′ neighbours′) where
   same-start : (v : ℕ) → v ≤ n → getD starts v 0 ≡ getD starts′ v 0
   same-start v h =
-      sym (getD-take (n + 1) starts v 0 (omega arith)) ∙ ap (λ (l : List ℕ). getD l v 0) (e .starts-used)
+      sym (getD-take (n + 1) starts v 0 (omega arith)) ∙ (rw (e .starts-used))
       ∙ getD-take (n + 1) starts′ v 0 (omega arith)
 
   -- the same with the two pairs exchanged
   agree-sym : Agree n starts′ neighbours′ starts neighbours
   agree-sym = record {
     starts-used = sym (e .starts-used);
-    neighbours-used = subst (λ (k : ℕ). take k neighbours′ ≡ take k neighbours) (same-start n (omega arith)) (sym (e .neighbours-used));
+    neighbours-used = subst (λ (k : ℕ). take k neighbours′ ≡ take k neighbours) (same-start _ (omega arith)) (sym (e .neighbours-used));
   }
 
   -- a survey's nodes have the same neighbours in both
@@ -168,10 +164,10 @@ module _ (n : ℕ) (starts neighbours starts′ neighbours′ : List ℕ) (e : A
       let b = getD starts (v + 1) 0 in
       let m = getD starts n 0 in
       let u = s .rising v h in
-      let r = start-last n starts (s .rising) (v + 1) (omega arith) in
+      let r = start-last _ starts (s .rising) (v + 1) (omega arith) in
       let w : a + (b - a) ≤ m = omega arith in
       sym (part-front a (b - a) m neighbours w)
-      ∙ ap (λ (l : List ℕ). take (b - a) (drop a l)) (e .neighbours-used)
+      ∙ (rw (e .neighbours-used))
       ∙ part-front a (b - a) m neighbours′ w
       ∙ ap₂ (λ (i j : ℕ). take (j - i) (drop i neighbours′)) (same-start v (omega arith)) (same-start (v + 1) (omega arith))
 
@@ -179,12 +175,12 @@ module _ (n : ℕ) (starts neighbours starts′ neighbours′ : List ℕ) (e : A
   survey-past s =
       let last = same-start n (omega arith) in
       let there : (v x : ℕ) → v < n → T (has x (neighboursOf starts′ neighbours′ v)) → T (has x (neighboursOf starts neighbours v)) =
-      λ v x h m. subst (λ (l : List ℕ). T (has x l)) (sym (past-own′ s v h)) m in
+      λ v x h m. rw (past-own′ s v h) m in
       record {
         first = sym (same-start 0 (omega arith)) ∙ s .first;
         rising = λ v h. let u = s .rising v h in omega (arith, same-start v (omega arith), same-start (v + 1) (omega arith));
-        even = subst (λ (k : ℕ). k % 2 ≡ 0) last (s .even);
-        few-links = subst (λ (k : ℕ). k / 2 ≤ 16384) last (s .few-links);
+        even = rw last at (s .even);
+        few-links = rw last at (s .few-links);
         within = omega (
           arith,
           last,
@@ -193,12 +189,12 @@ module _ (n : ℕ) (starts neighbours starts′ neighbours′ : List ℕ) (e : A
           length-take (getD starts n 0) neighbours′,
           ap length (e .neighbours-used),
         );
-        sorted = λ v h. subst (λ (l : List ℕ). T (ascending l)) (past-own′ s v h) (s .sorted v h);
+        sorted = λ v h. rw (past-own′ s v h) at (s .sorted v h);
         loopless = λ v x h m. s .loopless v x h (there v x h m);
         graph = record {
           below = λ v x h m. s .graph .below v x h (there v x h m);
           symmetric = λ v x h m. let t = there v x h m in
-              subst (λ (l : List ℕ). T (has v l)) (past-own′ s x (s .graph .below v x h t)) (s .graph .symmetric v x h t);
+              rw (past-own′ s x (s .graph .below v x h t)) at (s .graph .symmetric v x h t);
         };
       }
 
@@ -210,28 +206,25 @@ module _ (n : ℕ) (starts neighbours starts′ neighbours′ : List ℕ) (e : A
       ap₂ (λ (p q : Bool). if badSize n then refused 2 else if p then refused 8 else if not q then refused 9 else answered tt) short lists
     where
       size : min (n + 1) (length starts) ≡ min (n + 1) (length starts′)
-      size = sym (length-take (n + 1) starts) ∙ ap length (e .starts-used) ∙ length-take (n + 1) starts′
+      size = sym (length-take _ _) ∙ ap length (e .starts-used) ∙ length-take _ _
 
       short : ltb (length starts) (n + 1) ≡ ltb (length starts′) (n + 1)
-      short = same-test (ltb (length starts) (n + 1)) (ltb (length starts′) (n + 1))
-          (λ t. lt→ltb (length starts′) (n + 1) (omega (arith, size, ltb→lt (length starts) (n + 1) t)))
-          (λ t. lt→ltb (length starts) (n + 1) (omega (arith, size, ltb→lt (length starts′) (n + 1) t)))
+      short = same-test _ _
+          (λ t. lt→ltb _ (n + 1) (omega (arith, size, ltb→lt (length starts) (n + 1) t)))
+          (λ t. lt→ltb _ (n + 1) (omega (arith, size, ltb→lt (length starts′) (n + 1) t)))
 
       lists : isSurvey n starts neighbours ≡ isSurvey n starts′ neighbours′
-      lists = same-test (isSurvey n starts neighbours) (isSurvey n starts′ neighbours′)
-          (λ t. survey-test n starts′ neighbours′
-          (survey-past n starts neighbours starts′ neighbours′ e (survey-facts n starts neighbours t)))
-          (λ t. survey-test n starts neighbours
-          (survey-past n starts′ neighbours′ starts neighbours (agree-sym n starts neighbours starts′ neighbours′ e)
-          (survey-facts n starts′ neighbours′ t)))
+      lists = same-test _ _
+          (λ t. survey-test _ _ _ (survey-past e (survey-facts _ _ _ t)))
+          (λ t. survey-test _ _ _ (survey-past (agree-sym e) (survey-facts _ _ _ t)))
 
   -- and where they are accepted, the nodes have the same neighbours and the same links
   module _ (acc : Accepted n starts neighbours) where
     pub past-own : (v : ℕ) → v < n → neighboursOf starts neighbours v ≡ neighboursOf starts′ neighbours′ v
-    past-own = past-own′ n starts neighbours starts′ neighbours′ e (acc .lists)
+    past-own = past-own′ e (acc .lists)
 
     pub past-linked : (a b : ℕ) → linked n (neighboursOf starts neighbours) a b ≡ linked n (neighboursOf starts′ neighbours′) a b
-    past-linked a b = same-test (linked n G a b) (linked n H a b) (on G H past-own) (on H G (λ v h. sym (past-own v h)))
+    past-linked a b = same-test _ _ (on G H past-own) (on H G (λ v h. sym (past-own _ h)))
       where
         G : Graph
         G = neighboursOf starts neighbours
@@ -241,10 +234,10 @@ module _ (n : ℕ) (starts neighbours starts′ neighbours′ : List ℕ) (e : A
 
         on : (I J : Graph) → ((v : ℕ) → v < n → I v ≡ J v) → T (linked n I a b) → T (linked n J a b)
         on I J f t =
-            let l = linked-is n I a b t in
-            is-linked n J a b (record {
+            let l = linked-is _ I _ _ t in
+            is-linked _ _ _ _ (record {
               first = l .first;
               second = l .second;
-              there = subst (λ (k : List ℕ). T (has b k)) (f a (l .first)) (l .there);
-              back = subst (λ (k : List ℕ). T (has a k)) (f b (l .second)) (l .back);
+              there = rw (f a (l .first)) at (l .there);
+              back = rw (f b (l .second)) at (l .back);
             })

@@ -67,7 +67,7 @@ same-test false true f g = absurd (g tt)
 same-test false false f g = refl
 
 pub or-false : (a b : Bool) → a ≡ false → b ≡ false → (a || b) ≡ false
-or-false a b p q = ap (λ (t : Bool). t || b) p ∙ q
+or-false a b p q = rw p q
 
 pub of-or-false : (a b : Bool) → (a || b) ≡ false → (a ≡ false) × (b ≡ false)
 of-or-false true b e = absurd (subst T e tt)
@@ -75,14 +75,14 @@ of-or-false false b e = (refl, e)
 
 -- three tests in another order
 pub or-turned : (a b c : Bool) → (a || (b || c)) ≡ ((b || a) || c)
-or-turned a b c = sym (or-assoc a b c) ∙ ap (λ (t : Bool). t || c) (or-comm a b)
+or-turned a b c = sym (or-assoc a b c) ∙ rw (or-comm a b)
 
 pub not-and : (a b : Bool) → not (a && b) ≡ (not a || not b)
 not-and true b = refl
 not-and false b = refl
 
 pub eq-T : (x y : ℕ) → x ≡ y → T (eqb x y)
-eq-T x y e = subst (λ (z : ℕ). T (eqb x z)) e (eqb-refl x)
+eq-T x y e = rw (← e) (eqb-refl x)
 
 pub eq-or : (x y : ℕ) → (x ≡ y) ⊎ (x ≡ y → ⊥)
 eq-or x y = go (eqb x y) refl
@@ -108,11 +108,10 @@ ltb-next x v d = ltb-same x v x (v + 1) (λ l. omega arith) (λ l. omega arith)
 
 -- x is not at least y exactly where it is less; and the other way round
 pub not-leb : (x y : ℕ) → not (leb y x) ≡ ltb x y
-not-leb x y = at (lt-or x y)
-  where
-    at : (x < y) ⊎ (y ≤ x) → not (leb y x) ≡ ltb x y
-    at (inl h) = rw (lt-leb y x h, lt-ltb x y h) refl
-    at (inr h) = rw (le-leb y x h, le-ltb x y h) refl
+not-leb x y = ⊎-elim
+    (λ h. rw (lt-leb y x h, lt-ltb x y h) refl)
+    (λ h. rw (le-leb y x h, le-ltb x y h) refl)
+    (lt-or x y)
 
 pub not-ltb : (x y : ℕ) → not (ltb x y) ≡ leb y x
 not-ltb x y = ap not (sym (not-leb x y)) ∙ Bool·not-not (leb y x)

@@ -9,7 +9,7 @@ use Rattle.model.specs.Threshold.{bitLength, threshold}
 use Rattle.model.proofs.Lists.{First, found, nothing, first-below}
 
 lt-two-pow : (n : ℕ) → n < 2 ^ n
-lt-two-pow zero = le-refl 1
+lt-two-pow zero = le-refl _
 lt-two-pow (suc n) = omega (arith, lt-two-pow n, two-pow-succ n)
 
 -- n is below 2 ^ L, and below no smaller power of two
@@ -19,21 +19,21 @@ pub record BitLength (n l : ℕ) : Type 0 where
 
 pub bitLength-is : (n : ℕ) → BitLength n (bitLength n)
 unfolding bitLength
-bitLength-is n = at (first-below (λ k. ltb n (2 ^ k)) none (n + 1))
+bitLength-is n = at (first-below _ _ _)
   where
     at : {r : ℕ} → First (λ k. ltb n (2 ^ k)) none 0 (n + 1) r → BitLength n r
     at {r} (found lo hi t f) = record {
-      fits = ltb→lt n (2 ^ r) t;
-      least = λ k h. le-of k (λ b. f k zero-le b (lt→ltb n (2 ^ k) h));
+      fits = ltb→lt _ _ t;
+      least = λ k h. le-of k (λ b. f k zero-le b (lt→ltb n _ h));
     }
       where
         le-of : (k : ℕ) → (k < r → ⊥) → r ≤ k
         le-of k g = omega arith
-    at (nothing e f) = absurd (f n zero-le (omega arith) (lt→ltb n (2 ^ n) (lt-two-pow n)))
+    at (nothing e f) = absurd (f n zero-le (omega arith) (lt→ltb n _ (lt-two-pow _)))
 
 square-le : (w : ℕ) → w ≤ w * w
 square-le zero = zero-le
-square-le (suc w) = le-mul-of-pos-right (suc w) (zero-lt-suc w)
+square-le (suc w) = le-mul-of-pos-right _ (zero-lt-suc _)
 
 pub record Threshold (n s : ℕ) : Type 0 where
   pub enough : n * bitLength n ≤ s * s
@@ -41,16 +41,16 @@ pub record Threshold (n s : ℕ) : Type 0 where
 
 pub threshold-is : (n : ℕ) → Threshold n (threshold n)
 unfolding threshold
-threshold-is n = at (first-below (λ s. leb (n * bitLength n) (s * s)) none (n * bitLength n + 1))
+threshold-is n = at (first-below _ _ _)
   where
     at : {r : ℕ} → First (λ s. leb (n * bitLength n) (s * s)) none 0 (n * bitLength n + 1) r → Threshold n r
     at {r} (found lo hi t f) = record {
-      enough = leb→le (n * bitLength n) (r * r) t;
-      least = λ k h. le-of k (λ b. f k zero-le b (le→leb (n * bitLength n) (k * k) h));
+      enough = leb→le _ _ t;
+      least = λ k h. le-of k (λ b. f k zero-le b (le→leb (n * bitLength n) _ h));
     }
       where
         le-of : (k : ℕ) → (k < r → ⊥) → r ≤ k
         le-of k g = omega arith
     at (nothing e f) =
         let w = n * bitLength n in
-        absurd (f w zero-le (omega arith) (le→leb w (w * w) (square-le w)))
+        absurd (f w zero-le (omega arith) (le→leb w _ (square-le _)))

@@ -1,7 +1,7 @@
 -- All nodes together have two neighbours for each link.
 -- Assumes nothing.
 use mathlib.Core.Path.{_≡_, refl, sym, ap, ap₂, _∙_, subst, fun-ext}
-use mathlib.Core.Logic.{⊎-elim}
+use mathlib.Core.Logic.{_⊎_, inl, inr, ⊎-elim}
 use mathlib.Core.Bool.{Bool, true, false, _&&_, _||_, and-comm, or-comm, or-false}
 use mathlib.Core.List.{List, [], _∷_}
 use Prim.Native.Nat.{ℕ, zero, suc, _+_, _*_, _≤_, _<_, zero-le}
@@ -29,7 +29,7 @@ sumOver f (x ∷ xs) = f x + sumOver f xs
 gather-sum : (f : ℕ → List ℕ) (l : List ℕ) → length (gather f l) ≡ sumOver (λ x. length (f x)) l
 unfolding gather sumOver
 gather-sum f [] = refl
-gather-sum f (x ∷ l) = length-append (f x) (gather f l) ∙ ap (λ (k : ℕ). length (f x) + k) (gather-sum f l)
+gather-sum f (x ∷ l) = length-append (f x) _ ∙ rw (gather-sum f l)
 
 keep-sum : (p : ℕ → Bool) (l : List ℕ) → length (keep p l) ≡ sumOver (λ x. bit (p x)) l
 unfolding keep sumOver bit
@@ -42,7 +42,7 @@ keep-sum p (x ∷ l) = at (p x) (keep-sum p l)
     at false e = omega (arith, e)
 
 sum-same : (f g : ℕ → ℕ) (l : List ℕ) → ((x : ℕ) → f x ≡ g x) → sumOver f l ≡ sumOver g l
-sum-same f g l e = ap (λ (h : ℕ → ℕ). sumOver h l) (fun-ext e)
+sum-same f g l e = rw (fun-ext e)
 
 sum-add : (f g : ℕ → ℕ) (l : List ℕ) → sumOver (λ x. f x + g x) l ≡ sumOver f l + sumOver g l
 unfolding sumOver
@@ -66,13 +66,13 @@ once-from a k (suc m) = at (once-from a (suc k) m) (eqb a k) refl
 
     at : ((a < suc k) → R ≡ 0) × (suc k ≤ a → a < suc k + m → R ≡ 1) → (b : Bool) → eqb a k ≡ b
         → ((a < k) → bit b + R ≡ 0) × (k ≤ a → a < k + suc m → bit b + R ≡ 1)
-    at i true e = (λ h. let q = eqb-true a k e in absurd (omega arith), λ h l. let q = eqb-true a k e in omega (arith, i .0 (omega arith)))
+    at i true e = (λ h. let q = eqb-true _ k e in absurd (omega arith), λ h l. let q = eqb-true a k e in omega (arith, i .0 (omega arith)))
     at i false e =
-        (λ h. omega (arith, i .0 (omega arith)), λ h l. let q = eqb-false a k e in omega (arith, i .1 (omega arith) (omega arith)))
+        (λ h. omega (arith, i .0 (omega arith)), λ h l. let q = eqb-false _ k e in omega (arith, i .1 (omega arith) (omega arith)))
 
 once : (a n : ℕ) → a < n → sumOver (λ x. bit (eqb a x)) (upTo n) ≡ 1
 unfolding upTo
-once a n h = once-from a 0 n .1 zero-le (omega arith)
+once a n h = once-from _ _ _ .1 zero-le (omega arith)
 
 -- ---- how many ordered pairs of nodes below n are linked
 
@@ -81,26 +81,26 @@ count E n = sumOver (λ u. sumOver (λ v. bit (E u v)) (upTo n)) (upTo n)
 
 count-same : (E F : ℕ → ℕ → Bool) (n : ℕ) → ((u v : ℕ) → E u v ≡ F u v) → count E n ≡ count F n
 unfolding count
-count-same E F n e = sum-same _ _ (upTo n) (λ u. sum-same _ _ (upTo n) (λ v. ap bit (e u v)))
+count-same E F n e = sum-same _ _ _ (λ u. sum-same _ _ _ (λ v. ap bit (e u v)))
 
 count-add : (E F H : ℕ → ℕ → Bool) (n : ℕ) → ((u v : ℕ) → bit (H u v) ≡ bit (E u v) + bit (F u v)) → count H n ≡ count E n + count F n
 unfolding count
 count-add E F H n e =
-    sum-same _ _ (upTo n) (λ u. sum-same _ _ (upTo n) (λ v. e u v) ∙ sum-add (λ v. bit (E u v)) (λ v. bit (F u v)) (upTo n))
-    ∙ sum-add (λ u. sumOver (λ v. bit (E u v)) (upTo n)) (λ u. sumOver (λ v. bit (F u v)) (upTo n)) (upTo n)
+    sum-same _ _ _ (λ u. sum-same _ _ _ (λ v. e u v) ∙ sum-add _ _ _)
+    ∙ sum-add _ _ _
 
 count-none : (n : ℕ) → count (λ u v. false) n ≡ 0
 unfolding count bit
-count-none n = sum-same _ _ (upTo n) (λ u. sum-zero (upTo n)) ∙ sum-zero (upTo n)
+count-none n = sum-same _ _ _ (λ u. sum-zero _) ∙ sum-zero _
 
 -- one pair counts once
 count-one : (a b n : ℕ) → a < n → b < n → count (λ u v. eqb a u && eqb b v) n ≡ 1
 unfolding count bit
-count-one a b n ha hb = sum-same _ _ (upTo n) (λ u. row u (eqb a u)) ∙ once a n ha
+count-one a b n ha hb = sum-same _ _ _ (λ u. row u (eqb a u)) ∙ once _ _ ha
   where
     row : (u : ℕ) (t : Bool) → sumOver (λ v. bit (t && eqb b v)) (upTo n) ≡ bit t
-    row u true = once b n hb
-    row u false = sum-zero (upTo n)
+    row u true = once _ _ hb
+    row u false = sum-zero _
 
 -- ---- the links named
 
@@ -108,13 +108,29 @@ pub named-sym : (ls : List (ℕ × ℕ)) (a b : ℕ) → named ls a b ≡ named 
 unfolding named
 named-sym [] a b = refl
 named-sym (l ∷ ls) a b =
-    ap₂ (λ (s t : Bool). s || t) (or-comm (eqb (l .0) a && eqb (l .1) b) (eqb (l .0) b && eqb (l .1) a)) (named-sym ls a b)
+    ap₂ (λ (s t : Bool). s || t) (or-comm (eqb (l .0) a && eqb (l .1) b) _) (named-sym ls a b)
+
+-- one test of two equations
+both-equal : (x y u v : ℕ) → T (eqb x u && eqb y v) → (x ≡ u) × (y ≡ v)
+both-equal x y u v t = (eqb→eq x u (and-l (eqb x u) (eqb y v) t), eqb→eq y v (and-r (eqb x u) (eqb y v) t))
+
+-- a pair that is named is the first link, this way or the other, or is named by a later one
+pub named-cases : (l : ℕ × ℕ) (ls : List (ℕ × ℕ)) (a b : ℕ) → T (named (l ∷ ls) a b)
+    → ((l .0 ≡ a) × (l .1 ≡ b)) ⊎ (((l .0 ≡ b) × (l .1 ≡ a)) ⊎ T (named ls a b))
+unfolding named
+named-cases l ls a b t =
+    let X = eqb (l .0) a && eqb (l .1) b in
+    let Y = eqb (l .0) b && eqb (l .1) a in
+    ⊎-elim
+    (λ s. ⊎-elim (λ x. inl (both-equal (l .0) (l .1) a b x)) (λ y. inr (inl (both-equal (l .0) (l .1) b a y))) (or-e X Y s))
+    (λ s. inr (inr s))
+    (or-e (X || Y) (named ls a b) t)
 
 either : (x y : Bool) → (T x → T y → ⊥) → bit (x || y) ≡ bit x + bit y
 unfolding bit
 either true true f = absurd (f tt tt)
 either true false f = refl
-either false y f = sym (zero-add (bit y))
+either false y f = sym (zero-add _)
 
 module _ (n : ℕ) (done : List (ℕ × ℕ)) (l : ℕ × ℕ) (f : Fresh n (named done) (l .0) (l .1)) where
   there : ℕ → ℕ → Bool
@@ -125,25 +141,25 @@ module _ (n : ℕ) (done : List (ℕ × ℕ)) (l : ℕ × ℕ) (f : Fresh n (nam
 
   ends : (u v : ℕ) → T (there u v) → (l .0 ≡ u) × (l .1 ≡ v)
   unfolding there
-  ends u v t = (eqb→eq (l .0) u (and-l (eqb (l .0) u) (eqb (l .1) v) t), eqb→eq (l .1) v (and-r (eqb (l .0) u) (eqb (l .1) v) t))
+  ends = both-equal (l .0) (l .1)
 
   no-there : (u v : ℕ) → T (there u v) → T (named done u v) → ⊥
   no-there u v t s =
-      let e = ends u v t in false-no (named done (l .0) (l .1)) (f .new) (subst T (ap₂ (named done) (sym (e .0)) (sym (e .1))) s)
+      let e = ends _ _ t in false-no _ (f .new) (subst T (ap₂ (named done) (sym (e .0)) (sym (e .1))) s)
 
   no-back : (u v : ℕ) → T (back u v) → T (named done u v) → ⊥
   unfolding there back
-  no-back u v t s = no-there v u t (subst T (named-sym done u v) s)
+  no-back u v t s = no-there _ _ t (subst T (named-sym _ _ _) s)
 
   not-both : (u v : ℕ) → T (there u v) → T (back u v) → ⊥
   unfolding there back
-  not-both u v s t = let e = ends u v s in let g = ends v u t in f .different (e .0 ∙ sym (g .1))
+  not-both u v s t = let e = ends _ _ s in let g = ends _ _ t in f .different (e .0 ∙ sym (g .1))
 
   -- a new link adds two pairs
   count-more : count (named (l ∷ done)) n ≡ count (named done) n + 2
   unfolding named there back
   count-more =
-      let one = count-add (λ u v. there u v || back u v) (named done) (named (l ∷ done)) n (λ u v.
+      let one = count-add _ _ _ n (λ u v.
       either (there u v || back u v) (named done u v)
       (λ s t. ⊎-elim (λ x. no-there u v x t) (λ x. no-back u v x t) (or-e (there u v) (back u v) s))) in
       let two = count-add there back (λ u v. there u v || back u v) n (λ u v. either (there u v) (back u v) (not-both u v)) in
@@ -158,16 +174,16 @@ count-all : (n : ℕ) (ls done : List (ℕ × ℕ)) → AllFresh n done ls
 unfolding named
 count-all n [] done f = omega arith
 count-all n (l ∷ ls) done f =
-    count-same (λ u v. named (l ∷ ls) u v || named done u v) (λ u v. named ls u v || named (l ∷ done) u v) n (λ u v.
-    sym (or-turned (named ls u v) ((eqb (l .0) u && eqb (l .1) v) || (eqb (l .0) v && eqb (l .1) u)) (named done u v)))
+    count-same _ _ _ (λ u v.
+    sym (or-turned _ ((eqb (l .0) u && eqb (l .1) v) || (eqb (l .0) v && eqb (l .1) u)) (named done u v)))
     ∙ omega (arith, count-all n ls (l ∷ done) (f .1), count-more n done l (f .0))
 
 -- links that are all new give two neighbours each
 pub links-total : (n : ℕ) (ls : List (ℕ × ℕ)) → AllFresh n [] ls → total (graphOf n ls) n ≡ 2 * length ls
 unfolding total graphOf count named
 links-total n ls f =
-    gather-sum (λ v. keep (named ls v) (upTo n)) (upTo n)
-    ∙ sum-same _ _ (upTo n) (λ u. keep-sum (named ls u) (upTo n))
-    ∙ count-same (named ls) (λ u v. named ls u v || named [] u v) n (λ u v. sym (or-false (named ls u v)))
-    ∙ count-all n ls [] f
+    gather-sum _ _
+    ∙ sum-same _ _ _ (λ u. keep-sum _ _)
+    ∙ count-same _ _ _ (λ u v. sym (or-false _))
+    ∙ count-all _ ls [] f
     ∙ omega (arith, count-none n)

@@ -1,7 +1,7 @@
 -- What the verdicts of the two-or-four test mean, and its count of searches. Holds for every threshold s.
 -- Assumes nothing.
-use mathlib.Core.Path.{_≡_, refl, sym, ap, _∙_, subst}
-use mathlib.Core.Logic.{_⊎_, inl, inr}
+use mathlib.Core.Path.{_≡_, refl, sym, ap, subst}
+use mathlib.Core.Logic.{_⊎_, inl, inr, ⊎-elim}
 use mathlib.Core.Bool.{Bool, true, false, not}
 use mathlib.Core.List.{List}
 use Prim.Native.Nat.{ℕ, suc, _+_, _≤_, _<_, zero-le, suc-le-suc}
@@ -19,11 +19,17 @@ use Rattle.model.specs.Survey.{Graph, neighboursOf, IsGraph, Accepted}
 use Rattle.model.specs.Hubs.{isHigh, isLow, closed, hubs}
 use Rattle.model.specs.TwoOrFour.{sources, verdictOf, testResult}
 use Rattle.model.specs.Demand.{VerdictRight}
-use Rattle.model.proofs.Tests.{lt-or}
+use Rattle.model.proofs.Tests.{lt-or, no-false, false-no}
 use Rattle.model.proofs.Lists.{has-head, has-tail, of-cons, any-of, of-any, has-upTo, of-upTo, First, found, nothing, first-below}
 use Rattle.model.proofs.Chains.{append, turn, split-first, fewest-is, fewest-none}
 use Rattle.model.proofs.Acceptance.{linked-has, linked-sym, linked-ends}
 use Rattle.model.proofs.Covering.{hubs-cover, high-linked, hubs-below, distinct, ascending-distinct, hubs-distinct}
+
+-- no two verdicts have the same number
+abbrev code : Verdict → ℕ
+code Parted = 0
+code Long = 1
+code Short = 2
 
 -- what the searches show of a graph of n nodes
 data Means (n : ℕ) (E : Edges) : Verdict → Type 0 where
@@ -43,8 +49,8 @@ module _ (n s : ℕ) (G : Graph) (g : IsGraph n G) (size : n ≤ 1024) where
     where
       pick : {r : ℕ} → (r ≡ none → Sources (hubs n s G)) → ((r ≡ none → ⊥) → Sources (closed G r)) → (c : Bool) → eqb r none ≡ c
           → Sources (if c then hubs n s G else closed G r)
-      pick {r} f h true e = f (eqb→eq r none (subst T (sym e) tt))
-      pick {r} f h false e = h (eqb-false r none e)
+      pick {r} f h true e = f (eqb→eq _ _ (subst T (sym e) tt))
+      pick {r} f h false e = h (eqb-false _ _ e)
 
       high : (b : Bool) → (T (not b) → ⊥) → T b
       high true f = tt
@@ -58,47 +64,33 @@ module _ (n s : ℕ) (G : Graph) (g : IsGraph n G) (size : n ≤ 1024) where
 
   pub source-below : {hs : List ℕ} → Sources hs → (h : ℕ) → T (has h hs) → h < n
   unfolding closed
-  source-below (round v b t l) h m = at (of-cons h v (G v) m)
-    where
-      at : (h ≡ v) ⊎ T (has h (G v)) → h < n
-      at (inl e) = subst (λ (z : ℕ). z < n) (sym e) b
-      at (inr t) = g .below v h b t
-  source-below (covers f) h m = hubs-below n G s h m
+  source-below (round v b t l) h m = ⊎-elim (λ e. rw e b) (g .below v h b) (of-cons _ _ _ m)
+  source-below (covers f) h m = hubs-below _ _ _ _ m
 
   -- where every source reaches every node within two links, every two nodes are within three
   within : {hs : List ℕ} → Sources hs → ((h v : ℕ) → T (has h hs) → v < n → (j : ℕ) × (j ≤ 2) × Chain (linked n G) j h v)
       → (u v : ℕ) → u < n → v < n → (j : ℕ) × (j ≤ 3) × Chain (linked n G) j u v
   unfolding closed
-  within (round c b t l) near u v hu hv = at (near c u (has-head c (G c)) hu)
-    where
-      three : (i j : ℕ) → suc i ≤ 2 → j ≤ 2 → i + j ≤ 3
-      three i j p q = omega arith
-
-      at : ((j : ℕ) × (j ≤ 2) × Chain (linked n G) j c u) → (j : ℕ) × (j ≤ 3) × Chain (linked n G) j u v
-      at q = split (split-first (q .2))
-        where
-          split : (c ≡ u) ⊎ ((i x : ℕ) × (q .0 ≡ suc i) × T (linked n G c x) × Chain (linked n G) i x u)
-              → (j : ℕ) × (j ≤ 3) × Chain (linked n G) j u v
-          split (inl e) =
-              let r = near c v (has-head c (G c)) hv in
-              (r .0, le-trans (r .1) (omega arith), subst (λ (z : ℕ). Chain (linked n G) (r .0) z v) e (r .2))
-          split (inr p) =
-              let r = near (p .1) v (has-tail (p .1) c (G c) (linked-has n G c (p .1) (p .3))) hv in (
-                p .0 + r .0,
-                three (p .0) (r .0) (subst (λ (k : ℕ). k ≤ 2) (p .2) (q .1)) (r .1),
-                append (turn (linked-sym n G) (p .4)) (r .2),
-              )
-  within (covers f) near u v hu hv = at (high-linked n s G g u hu (f u hu))
-    where
-      at : T (has u (hubs n s G)) ⊎ ((h : ℕ) × T (has h (hubs n s G)) × T (linked n G u h)) → (j : ℕ) × (j ≤ 3) × Chain (linked n G) j u v
-      at (inl m) = let r = near u v m hv in (r .0, le-trans (r .1) (omega arith), r .2)
-      at (inr c) = let r = near (c .0) v (c .1) hv in (suc (r .0), suc-le-suc (r .1), link (c .2) (r .2))
+  within (round c b t l) near u v hu hv =
+      let q = near c u (has-head _ _) hu in
+      ⊎-elim
+      (λ e.
+      let r = near c v (has-head _ _) hv in
+      (r .0, le-trans (r .1) (omega arith), rw (← e) (r .2)))
+      (λ p.
+      let r = near (p .1) v (has-tail _ _ _ (linked-has _ _ _ _ (p .3))) hv in
+      (p .0 + r .0, omega (arith, p .2, q .1, r .1), append (turn (linked-sym n G) (p .4)) (r .2)))
+      (split-first (q .2))
+  within (covers f) near u v hu hv = ⊎-elim
+      (λ m. let r = near u v m hv in (r .0, le-trans (r .1) (omega arith), r .2))
+      (λ c. let r = near (c .0) v (c .1) hv in (suc (r .0), suc-le-suc (r .1), link (c .2) (r .2)))
+      (high-linked n s G g u hu (f u hu))
 
   -- some node is searched from, if there is a node
   some-source : {hs : List ℕ} → Sources hs → (u : ℕ) → u < n → (h : ℕ) × T (has h hs)
   unfolding closed
-  some-source (round c b t l) u hu = (c, has-head c (G c))
-  some-source (covers f) u hu = let c = hubs-cover n G s u hu (f u hu) in (c .0, c .2)
+  some-source (round c b t l) u hu = (c, has-head _ _)
+  some-source (covers f) u hu = let c = hubs-cover _ _ _ _ hu (f u hu) in (c .0, c .2)
 
   verdict-means : Means n (linked n G) (verdictOf n G (sources n s G))
   unfolding verdictOf
@@ -117,80 +109,60 @@ module _ (n s : ℕ) (G : Graph) (g : IsGraph n G) (size : n ≤ 1024) where
       deep h = any (λ v. ltb 2 (distance h v)) (upTo n)
 
       fails : (p : ℕ → Bool) (l : List ℕ) → any p l ≡ false → (x : ℕ) → T (has x l) → p x ≡ false
-      fails p l e x m = at (p x) refl
-        where
-          at : (c : Bool) → p x ≡ c → p x ≡ false
-          at true q = absurd (subst T e (any-of p l x m (subst T (sym q) tt)))
-          at false q = q
+      fails p l e x m = no-false _ (λ t. false-no (any p l) e (any-of _ _ _ m t))
 
       two : ((h : ℕ) → T (has h hs) → (v : ℕ) → v < n → distance h v ≡ none → ⊥) → (c : Bool) → any deep hs ≡ c
           → Means n (linked n G) (if c then Long else Short)
       two f true e =
-          let i = of-any deep hs (subst T (sym e) tt) in
-          let j = of-any (λ v. ltb 2 (distance (i .0) v)) (upTo n) (i .2) in
-          let hv = of-upTo n (j .0) (j .1) in
-          let hh = source-below source-cases (i .0) (i .1) in
+          let i = of-any _ _ (subst T (sym e) tt) in
+          let j = of-any (λ v. ltb 2 (distance (i .0) v)) _ (i .2) in
+          let hv = of-upTo _ _ (j .1) in
+          let hh = source-below source-cases _ (i .1) in
           is-long (i .0) (j .0) (distance (i .0) (j .0)) hh hv
-          (fewest-is (linked n G) n (i .0) (linked-ends n G) hh (j .0) (f (i .0) (i .1) (j .0) hv))
-          (ltb→lt 2 (distance (i .0) (j .0)) (j .2))
+          (fewest-is _ _ _ (linked-ends _ _) hh _ (f (i .0) (i .1) (j .0) hv))
+          (ltb→lt _ _ (j .2))
           (λ a b ha hb.
-          let q = some-source source-cases a ha in
-          let hq = source-below source-cases (q .0) (q .1) in
+          let q = some-source source-cases _ ha in
+          let hq = source-below source-cases _ (q .1) in
           let way : (v : ℕ) → v < n → Chain (linked n G) (distance (q .0) v) (q .0) v =
-          λ v h. fewest-is (linked n G) n (q .0) (linked-ends n G) hq v (f (q .0) (q .1) v h) .0 in
-          (distance (q .0) a + distance (q .0) b, append (turn (linked-sym n G) (way a ha)) (way b hb)))
+          λ v h. fewest-is _ _ _ (linked-ends _ _) hq _ (f (q .0) (q .1) v h) .0 in
+          (distance (q .0) a + distance (q .0) b, append (turn (linked-sym _ _) (way a ha)) (way b hb)))
       two f false e = is-short (within source-cases (λ h v m hv. (
         distance h v,
-        ltb-false 2 (distance h v) (fails (λ v. ltb 2 (distance h v)) (upTo n) (fails deep hs e h m) v (has-upTo n v hv)),
-        fewest-is (linked n G) n h (linked-ends n G) (source-below source-cases h m) v (f h m v hv) .0,
+        ltb-false _ _ (fails (λ v. ltb 2 (distance h v)) (upTo n) (fails deep hs e h m) v (has-upTo _ _ hv)),
+        fewest-is _ _ _ (linked-ends _ _) (source-below source-cases _ m) _ (f h m v hv) .0,
       )))
 
       one : (c : Bool) → any missed hs ≡ c
           → Means n (linked n G) (if c then Parted else if any deep hs then Long else Short)
       one true e =
-          let i = of-any missed hs (subst T (sym e) tt) in
-          let j = of-any (λ v. eqb (distance (i .0) v) none) (upTo n) (i .2) in
-          let hh = source-below source-cases (i .0) (i .1) in
-          is-parted (i .0) (j .0) hh (of-upTo n (j .0) (j .1))
-          (fewest-none (linked n G) n (i .0) (linked-ends n G) hh (omega arith) (j .0) (eqb→eq (distance (i .0) (j .0)) none (j .2)))
-      one false e = two (λ h m v hv. eqb-false (distance h v) none
-          (fails (λ v. eqb (distance h v) none) (upTo n) (fails missed hs e h m) v (has-upTo n v hv))) (any deep hs) refl
+          let i = of-any _ _ (subst T (sym e) tt) in
+          let j = of-any (λ v. eqb (distance (i .0) v) none) _ (i .2) in
+          let hh = source-below source-cases _ (i .1) in
+          is-parted (i .0) (j .0) hh (of-upTo _ _ (j .1))
+          (fewest-none _ _ _ (linked-ends _ _) hh (omega arith) (j .0) (eqb→eq (distance (i .0) (j .0)) _ (j .2)))
+      one false e = two (λ h m v hv. eqb-false _ _
+          (fails (λ v. eqb (distance h v) none) (upTo n) (fails missed hs e h m) v (has-upTo _ _ hv))) (any deep hs) refl
 
   -- what a verdict shows is what demand 3 asks of it
   means-right : {v : Verdict} → Means n (linked n G) v → VerdictRight n (linked n G) v
   means-right (is-parted u v hu hv f) = record {
     parted = (λ e. (u, v, hu, hv, f), λ p. refl);
-    not-short = λ a b d ha hb m l e. clash e;
-    not-long = λ all e. clash′ e;
+    not-short = λ a b d ha hb m l e. omega (arith, ap code e);
+    not-long = λ all e. omega (arith, ap code e);
   }
-    where
-      clash : Parted ≡ Short → ⊥
-      clash e = let z : _≡_ {A = ℕ} 0 1 = cc in omega arith
-
-      clash′ : Parted ≡ Long → ⊥
-      clash′ e = let z : _≡_ {A = ℕ} 0 1 = cc in omega arith
   means-right (is-long u v d hu hv m l joined) = record {
-    parted = (λ e. absurd (clash e), λ p. let c = joined (p .0) (p .1) (p .2) (p .3) in absurd (p .4 (c .0) (c .1)));
-    not-short = λ a b k ha hb q h e. clash′ e;
+    parted =
+        (λ e. absurd (omega (arith, ap code e)), λ p. let c = joined (p .0) (p .1) (p .2) (p .3) in absurd (p .4 (c .0) (c .1)));
+    not-short = λ a b k ha hb q h e. omega (arith, ap code e);
     not-long = λ all e. let x = all u v hu hv in let y = m .1 (x .0) (x .2 .0) in omega (arith, x .1);
   }
-    where
-      clash : Long ≡ Parted → ⊥
-      clash e = let z : _≡_ {A = ℕ} 0 1 = cc in omega arith
-
-      clash′ : Long ≡ Short → ⊥
-      clash′ e = let z : _≡_ {A = ℕ} 0 1 = cc in omega arith
   means-right (is-short near) = record {
-    parted = (λ e. absurd (clash e), λ p. let c = near (p .0) (p .1) (p .2) (p .3) in absurd (p .4 (c .0) (c .2)));
+    parted =
+        (λ e. absurd (omega (arith, ap code e)), λ p. let c = near (p .0) (p .1) (p .2) (p .3) in absurd (p .4 (c .0) (c .2)));
     not-short = λ a b d ha hb m l e. let c = near a b ha hb in let k = m .1 (c .0) (c .2) in omega (arith, c .1);
-    not-long = λ all e. clash′ e;
+    not-long = λ all e. omega (arith, ap code e);
   }
-    where
-      clash : Short ≡ Parted → ⊥
-      clash e = let z : _≡_ {A = ℕ} 0 1 = cc in omega arith
-
-      clash′ : Short ≡ Long → ⊥
-      clash′ e = let z : _≡_ {A = ℕ} 0 1 = cc in omega arith
 
   pub verdict-right : VerdictRight n (linked n G) (testResult n s G .verdict)
   unfolding testResult
@@ -206,7 +178,7 @@ module _ (n s : ℕ) (G : Graph) (g : IsGraph n G) (size : n ≤ 1024) where
     where
       low : (v : ℕ) → v < n → T (isLow s G v) → ((u : ℕ) → u < v → T (isHigh s G u)) → {hs : List ℕ} → Sources hs
           → length hs ≡ length (G v) + 1
-      low v b t l (round u c q m) = ap (λ (x : ℕ). suc (length (G x))) (smallest (lt-or u v) (lt-or v u)) ∙ sym (add-one (length (G v)))
+      low v b t l (round u c q m) = rw (smallest (lt-or u v) (lt-or v u)) (sym (add-one _))
         where
           smallest : (u < v) ⊎ (v ≤ u) → (v < u) ⊎ (u ≤ v) → u ≡ v
           smallest (inl h) k = absurd (T-not (isHigh s G u) q (l u h))
@@ -227,4 +199,4 @@ sources-distinct n s starts neighbours acc = at (source-cases n s (neighboursOf 
     at : {hs : List ℕ} → Sources n s (neighboursOf starts neighbours) (acc .lists .graph) (acc .size) hs → distinct hs
     at (round v b t l) =
         (λ m. acc .lists .loopless v v b m refl, ascending-distinct (neighboursOf starts neighbours v) (acc .lists .sorted v b))
-    at (covers f) = hubs-distinct n (neighboursOf starts neighbours) s
+    at (covers f) = hubs-distinct _ _ _

@@ -15,7 +15,7 @@ use lib.ListN.{length, replicate, length-append, length-reverse}
 use Rattle.model.specs.declared.Route.the-variants.{Itself, Low, Through, NoRoute}
 use Rattle.model.specs.declared.Answer.{Answer}
 use Rattle.model.specs.Answers.{Outcome, refused, answered}
-use Rattle.model.specs.Basics.{none, if_then_else_, has, keep, upTo, firstOf}
+use Rattle.model.specs.Basics.{none, if_then_else_, has, keep, upTo}
 use Rattle.model.specs.Graph.{Edges, Walked, stop, go, linked}
 use Rattle.model.specs.Survey.{Graph, IsGraph}
 use Rattle.model.specs.Hubs.{isLow}
@@ -23,7 +23,7 @@ use Rattle.model.specs.Tables.{entryAt, via}
 use Rattle.model.specs.Pair.{withRoute, attaining, choose, pairBy}
 use Rattle.model.specs.Walk.{before, next, steps, byLow, toHub, join, walkNodes}
 use Rattle.model.specs.Walking.{AfterWalking, refuseWalk, fit, walkOf}
-use Rattle.model.proofs.Tests.{and-l, and-r, and-i, eq-T, eq-or, lt-or}
+use Rattle.model.proofs.Tests.{and-l, and-r, and-i, eq-T, eq-or, lt-or, picked}
 use Rattle.model.proofs.Lists.{has-upTo, first-in, first-below, first-same, First, found, nothing, keep-grows, keep-length, length-upTo}
 use Rattle.model.proofs.Acceptance.{linked-of, linked-sym}
 use Rattle.model.proofs.Allowance.{Sum, whole, part, sum-is}
@@ -40,36 +40,38 @@ pub data Chosen (a b r l h : ℕ) : Outcome Answer → Type 0 where
 
 pub chosen : (a b r l h : ℕ) → Chosen a b r l h (choose a b r l h)
 unfolding choose
-chosen a b r l h = one (eqb a b) refl
+chosen a b r l h =
+    picked P (eqb a b) _ _
+    (λ x. picked P (eqb r 0) _ _
+    (λ y. to-itself (eqb-true _ _ x) (eqb-true _ _ y)) (λ y. bad-itself (eqb-true _ _ x) (eqb-false _ _ y)))
+    (λ x. picked P (eqb r none) _ _
+    (λ y. to-none (eqb-false _ _ x) (eqb-true _ _ y))
+    (λ y. picked P (eqb l r) _ _
+    (λ z. to-low (eqb-false _ _ x) (eqb-false _ _ y) (eqb-true _ _ z))
+    (λ z. picked P (eqb h none) _ _
+    (λ w. bad-hub (eqb-false _ _ x) (eqb-false _ _ y) (eqb-false _ _ z) (eqb-true _ _ w))
+    (λ w. to-hub (eqb-false _ _ x) (eqb-false _ _ y) (eqb-false _ _ z) (eqb-false _ _ w)))))
   where
-    four : (a ≡ b → ⊥) → (r ≡ none → ⊥) → (l ≡ r → ⊥) → (t : Bool) → eqb h none ≡ t
-        → Chosen a b r l h (if t then refused 11 else answered (withRoute r (Through h)))
-    four x y z true e = bad-hub x y z (eqb-true h none e)
-    four x y z false e = to-hub x y z (eqb-false h none e)
-
-    three : (a ≡ b → ⊥) → (r ≡ none → ⊥) → (t : Bool) → eqb l r ≡ t
-        → Chosen a b r l h (if t then answered (withRoute r Low) else if eqb h none then refused 11 else answered (withRoute r (Through h)))
-    three x y true e = to-low x y (eqb-true l r e)
-    three x y false e = four x y (eqb-false l r e) (eqb h none) refl
-
-    two : (a ≡ b → ⊥) → (t : Bool) → eqb r none ≡ t
-        → Chosen a b r l h (if t then answered (withRoute none NoRoute) else if eqb l r then answered (withRoute r Low)
-        else if eqb h none then refused 11 else answered (withRoute r (Through h)))
-    two x true e = to-none x (eqb-true r none e)
-    two x false e = three x (eqb-false r none e) (eqb l r) refl
-
-    zeroed : a ≡ b → (t : Bool) → eqb r 0 ≡ t → Chosen a b r l h (if t then answered (withRoute 0 Itself) else refused 11)
-    zeroed x true e = to-itself x (eqb-true r 0 e)
-    zeroed x false e = bad-itself x (eqb-false r 0 e)
-
-    one : (t : Bool) → eqb a b ≡ t
-        → Chosen a b r l h (if t then (if eqb r 0 then answered (withRoute 0 Itself) else refused 11)
-        else if eqb r none then answered (withRoute none NoRoute) else if eqb l r then answered (withRoute r Low)
-        else if eqb h none then refused 11 else answered (withRoute r (Through h)))
-    one true e = zeroed (eqb-true a b e) (eqb r 0) refl
-    one false e = two (eqb-false a b e) (eqb r none) refl
+    P : Outcome Answer → Type 0
+    P = Chosen a b r l h
 
 -- ---- one part of a walk
+
+-- a step from v leads to x, a neighbour that is allowed and has d links left; or it ends, with x none, where there is no such neighbour
+data Next (G : Graph) (may : ℕ → Bool) (left : ℕ → ℕ) (d v x : ℕ) : Type 0 where
+  leads : T (has x (G v)) → T (may x) → left x ≡ d → Next G may left d v x
+  ends : x ≡ none → ((y : ℕ) → T (has y (G v)) → T (may y) → left y ≡ d → ⊥) → Next G may left d v x
+
+next-cases : (G : Graph) (may : ℕ → Bool) (left : ℕ → ℕ) (d v : ℕ) → Next G may left d v (next G may left d v)
+unfolding next
+next-cases G may left d v = at (first-in p none (G v))
+  where
+    p : ℕ → Bool
+    p x = may x && eqb (left x) d
+
+    at : {x : ℕ} → (T (has x (G v)) × T (p x)) ⊎ ((x ≡ none) × ((y : ℕ) → T (has y (G v)) → T (p y) → ⊥)) → Next G may left d v x
+    at {x} (inl r) = leads (r .0) (and-l (may x) _ (r .1)) (eqb→eq _ _ (and-r (may x) (eqb (left x) d) (r .1)))
+    at (inr r) = ends (r .0) (λ y m t e. r .1 y m (and-i (may y) _ t (eq-T (left y) _ e)))
 
 -- where there are nodes, they are a chain of d links from v to goal
 abbrev pub Sound : Edges → ℕ → ℕ → ℕ → Option (List ℕ) → Type 0
@@ -78,47 +80,40 @@ Sound E d v goal (some l) = Walked E l v goal × (length l ≡ suc d)
 
 module _ (n : ℕ) (G : Graph) (g : IsGraph n G) (may : ℕ → Bool) (left : ℕ → ℕ) (goal : ℕ) where
   pub steps-sound : (d v : ℕ) → v < n → Sound (linked n G) d v goal (steps G may left goal d v)
-  unfolding steps next before
+  unfolding steps before
   steps-sound zero v h = at (eqb v goal) refl
     where
       at : (t : Bool) → eqb v goal ≡ t → Sound (linked n G) 0 v goal (if t then some (v ∷ []) else missing)
-      at true e = (subst (λ (z : ℕ). Walked (linked n G) (v ∷ []) v z) (eqb-true v goal e) stop, refl)
+      at true e = (subst (λ (z : ℕ). Walked (linked n G) (v ∷ []) v z) (eqb-true _ _ e) stop, refl)
       at false e = tt
-  steps-sound (suc d) v h = at (eqb x none) refl (first-in p none (G v)) (λ b. steps-sound d x b)
+  steps-sound (suc d) v h = at (eqb x none) refl (next-cases G may left d v) (λ b. steps-sound d x b)
     where
-      p : ℕ → Bool
-      p x = may x && eqb (left x) d
-
       x : ℕ
-      x = firstOf p none (G v)
+      x = next G may left d v
 
       add : (o : Option (List ℕ)) → T (linked n G v x) → Sound (linked n G) d x goal o → Sound (linked n G) (suc d) v goal (before v o)
       add missing t s = tt
       add (some l) t s = (go t (s .0), ap suc (s .1))
 
-      at : (t : Bool) → eqb x none ≡ t → (T (has x (G v)) × T (p x)) ⊎ ((x ≡ none) × ((y : ℕ) → T (has y (G v)) → T (p y) → ⊥))
-          → (x < n → Sound (linked n G) d x goal (steps G may left goal d x))
+      at : (t : Bool) → eqb x none ≡ t → Next G may left d v x → (x < n → Sound (linked n G) d x goal (steps G may left goal d x))
           → Sound (linked n G) (suc d) v goal (if t then missing else before v (steps G may left goal d x))
-      at true e r rec = tt
-      at false e (inl r) rec = add (steps G may left goal d x) (linked-of n G g v x h (r .0)) (rec (g .below v x h (r .0)))
-      at false e (inr r) rec = absurd (eqb-false x none e (r .0))
+      at true e c rec = tt
+      at false e (leads m t l) rec = add (steps G may left goal d x) (linked-of _ _ g _ _ h m) (rec (g .below v x h m))
+      at false e (ends q f) rec = absurd (eqb-false _ _ e q)
 
   -- where each node has a next one, one link nearer, the steps lead to the goal
   pub steps-given : n ≤ none → ((v d : ℕ) → v < n → suc d < none → left v ≡ suc d → (u : ℕ) × T (has u (G v)) × T (may u) × (left u ≡ d))
       → ((v : ℕ) → v < n → left v ≡ 0 → v ≡ goal) → (d v : ℕ) → v < n → d < none → left v ≡ d → IsSome (steps G may left goal d v)
-  unfolding steps next before
-  steps-given size next end zero v h z q = at (eqb v goal) (eq-T v goal (end v h q))
+  unfolding steps before
+  steps-given size nearer end zero v h z q = at (eqb v goal) (eq-T _ _ (end v h q))
     where
       at : (t : Bool) → T t → IsSome (if t then some (v ∷ []) else missing)
       at true t = tt
       at false t = t
-  steps-given size next end (suc d) v h z q = at (first-in p none (G v)) (λ b e. steps-given size next end d x b (omega arith) e)
+  steps-given size nearer end (suc d) v h z q = at (next-cases G may left d v) (λ b e. steps-given size nearer end d _ b (omega arith) e)
     where
-      p : ℕ → Bool
-      p x = may x && eqb (left x) d
-
       x : ℕ
-      x = firstOf p none (G v)
+      x = next G may left d v
 
       add : (o : Option (List ℕ)) → IsSome o → IsSome (before v o)
       add missing t = t
@@ -126,47 +121,36 @@ module _ (n : ℕ) (G : Graph) (g : IsGraph n G) (may : ℕ → Bool) (left : �
 
       away : (t : Bool) → eqb x none ≡ t → x < n → IsSome (steps G may left goal d x)
           → IsSome (if t then missing else before v (steps G may left goal d x))
-      away true e b s = let w : x ≡ none = eqb-true x none e in absurd (omega arith)
+      away true e b s = let w : x ≡ none = eqb-true _ _ e in absurd (omega arith)
       away false e b s = add (steps G may left goal d x) s
 
-      at : (T (has x (G v)) × T (p x)) ⊎ ((x ≡ none) × ((y : ℕ) → T (has y (G v)) → T (p y) → ⊥))
-          → (x < n → left x ≡ d → IsSome (steps G may left goal d x))
+      at : Next G may left d v x → (x < n → left x ≡ d → IsSome (steps G may left goal d x))
           → IsSome (if eqb x none then missing else before v (steps G may left goal d x))
-      at (inl r) rec =
-          let b = g .below v x h (r .0) in
-          away (eqb x none) refl b (rec b (eqb→eq (left x) d (and-r (may x) (eqb (left x) d) (r .1))))
-      at (inr r) rec =
-          let u = next v d h z q in
-          absurd (r .1 (u .0) (u .1) (and-i (may (u .0)) (eqb (left (u .0)) d) (u .2) (eq-T (left (u .0)) d (u .3))))
+      at (leads m t l) rec = let b = g .below v x h m in away (eqb x none) refl b (rec b l)
+      at (ends e f) rec = let u = nearer v d h z q in absurd (f (u .0) (u .1) (u .2) (u .3))
 
 -- the next node, if there is one, is below n
 pub next-below : (n : ℕ) (G : Graph) → IsGraph n G → (may : ℕ → Bool) (left : ℕ → ℕ) (d v : ℕ) → v < n → (next G may left d v ≡ none → ⊥)
     → next G may left d v < n
-unfolding next
-next-below n G g may left d v h f = at (first-in p none (G v))
+next-below n G g may left d v h = at (next-cases G may left d v)
   where
-    p : ℕ → Bool
-    p x = may x && eqb (left x) d
-
-    at : (T (has (firstOf p none (G v)) (G v)) × T (p (firstOf p none (G v))))
-        ⊎ ((firstOf p none (G v) ≡ none) × ((y : ℕ) → T (has y (G v)) → T (p y) → ⊥))
-        → firstOf p none (G v) < n
-    at (inl r) = g .below v (firstOf p none (G v)) h (r .0)
-    at (inr r) = absurd (f (r .0))
+    at : {x : ℕ} → Next G may left d v x → (x ≡ none → ⊥) → x < n
+    at {x} (leads m t l) f = g .below v x h m
+    at (ends e miss) f = absurd (f e)
 
 -- steps depend only on nodes below n
 module _ (n : ℕ) (G : Graph) (g : IsGraph n G) (may may′ : ℕ → Bool) (left left′ : ℕ → ℕ) (goal : ℕ)
     (same-may : (x : ℕ) → x < n → may x ≡ may′ x) (same-left : (x : ℕ) → x < n → left x ≡ left′ x) where
   next-same : (d v : ℕ) → v < n → next G may left d v ≡ next G may′ left′ d v
   unfolding next
-  next-same d v h = first-same (λ x. may x && eqb (left x) d) (λ x. may′ x && eqb (left′ x) d) none (G v) (λ x m.
+  next-same d v h = first-same _ _ _ _ (λ x m.
       let b = g .below v x h m in
       ap₂ (λ (t : Bool) (k : ℕ). t && eqb k d) (same-may x b) (same-left x b))
 
   pub steps-same : (d v : ℕ) → v < n → steps G may left goal d v ≡ steps G may′ left′ goal d v
   unfolding steps
   steps-same zero v h = refl
-  steps-same (suc d) v h = at (eqb x none) refl (λ b. steps-same d x b) ∙ ap on (next-same d v h)
+  steps-same (suc d) v h = at (eqb x none) refl (λ b. steps-same d x b) ∙ ap on (next-same _ _ h)
     where
       x : ℕ
       x = next G may left d v
@@ -177,7 +161,7 @@ module _ (n : ℕ) (G : Graph) (g : IsGraph n G) (may may′ : ℕ → Bool) (le
       at : (t : Bool) → eqb x none ≡ t → (x < n → steps G may left goal d x ≡ steps G may′ left′ goal d x)
           → (if t then missing else before v (steps G may left goal d x)) ≡ (if t then missing else before v (steps G may′ left′ goal d x))
       at true e rec = refl
-      at false e rec = ap (before v) (rec (next-below n G g may left d v h (eqb-false x none e)))
+      at false e rec = ap (before v) (rec (next-below _ _ g _ _ _ _ h (eqb-false _ _ e)))
 
 -- ---- two parts joined
 
@@ -191,13 +175,13 @@ module _ {E : Edges} where
   walked-snoc (go s r) t = go s (walked-snoc r t)
 
   walked-append : {p q : List ℕ} {a b c : ℕ} → Walked E p a b → Walked E q b c → Walked E (p ++ tail q) a c
-  walked-append {a = a} {c = c} stop w = subst (λ (x : List ℕ). Walked E x a c) (walked-head w) w
+  walked-append stop w = rw (walked-head w) at w
   walked-append (go t r) w = go t (walked-append r w)
 
   walked-turn : ((u v : ℕ) → T (E u v) → T (E v u)) → {l : List ℕ} {a b : ℕ} → Walked E l a b → Walked E (reverse l) b a
   walked-turn f stop = stop
-  walked-turn f {a = a} {b = c} (go {l = l} t r) =
-      subst (λ (x : List ℕ). Walked E x c a) (sym (reverse-cons a l)) (walked-snoc (walked-turn f r) (f _ _ t))
+  walked-turn f {a = a} (go {l = l} t r) =
+      rw (reverse-cons a l) (walked-snoc (walked-turn f r) (f _ _ t))
 
 pub join-sound : (E : Edges) → ((u v : ℕ) → T (E u v) → T (E v u)) → (i j a b h : ℕ) (p q : Option (List ℕ))
     → Sound E i a h p → Sound E j b h q → Sound E (i + j) a b (join p q)
@@ -232,37 +216,25 @@ module _ (n : ℕ) (G : Graph) (g : IsGraph n G) (may : ℕ → Bool) (left : �
   under d = length (keep (λ x. ltb (left x) d) (upTo n))
 
   depth-under : (d v : ℕ) → v < n → depth G may left d v ≤ under d
-  unfolding depth next under
+  unfolding depth under
   depth-under zero v h = zero-le
-  depth-under (suc d) v h = at (eqb x none) refl (first-in p none (G v)) (λ b. depth-under d x b)
+  depth-under (suc d) v h = at (eqb x none) refl (next-cases G may left d v) (λ b. depth-under d x b)
     where
-      p : ℕ → Bool
-      p x = may x && eqb (left x) d
-
       x : ℕ
-      x = firstOf p none (G v)
+      x = next G may left d v
 
       more : x < n → left x ≡ d → under d < under (suc d)
-      more b e = side (keep-grows (λ y. ltb (left y) d) (λ y. ltb (left y) (suc d)) (upTo n)
-          (λ y m t. lt→ltb (left y) (suc d) (later y (ltb→lt (left y) d t))))
-        where
-          later : (y : ℕ) → left y < d → left y < suc d
-          later y l = omega arith
+      more b e = ⊎-elim
+          (λ f. absurd (omega (arith, ltb→lt (left x) d (f x (has-upTo n x b) (lt→ltb (left x) (suc d) (omega arith))))))
+          (λ l. l)
+          (keep-grows (λ y. ltb (left y) d) (λ y. ltb (left y) (suc d)) (upTo n)
+          (λ y m t. lt→ltb (left y) (suc d) (omega (arith, ltb→lt (left y) d t))))
 
-          side : ((y : ℕ) → T (has y (upTo n)) → T (ltb (left y) (suc d)) → T (ltb (left y) d)) ⊎ (under d < under (suc d))
-              → under d < under (suc d)
-          side (inl f) = absurd (let l = ltb→lt (left x) d (f x (has-upTo n x b) (lt→ltb (left x) (suc d) (omega arith))) in omega arith)
-          side (inr l) = l
-
-      at : (t : Bool) → eqb x none ≡ t → (T (has x (G v)) × T (p x)) ⊎ ((x ≡ none) × ((y : ℕ) → T (has y (G v)) → T (p y) → ⊥))
-          → (x < n → depth G may left d x ≤ under d) → (if t then 0 else suc (depth G may left d x)) ≤ under (suc d)
-      at true e r rec = zero-le
-      at false e (inl r) rec =
-          let b = g .below v x h (r .0) in
-          let l = rec b in
-          let m = more b (eqb→eq (left x) d (and-r (may x) (eqb (left x) d) (r .1))) in
-          omega arith
-      at false e (inr r) rec = absurd (eqb-false x none e (r .0))
+      at : (t : Bool) → eqb x none ≡ t → Next G may left d v x → (x < n → depth G may left d x ≤ under d)
+          → (if t then 0 else suc (depth G may left d x)) ≤ under (suc d)
+      at true e c rec = zero-le
+      at false e (leads m t l) rec = let b = g .below v x h m in omega (arith, rec b, more b l)
+      at false e (ends q f) rec = absurd (eqb-false _ _ e q)
 
   pub depth-bounded : (d v : ℕ) → v < n → depth G may left d v ≤ n
   unfolding under
@@ -288,20 +260,17 @@ module _ (n : ℕ) (G : Graph) (g : IsGraph n G) (may : ℕ → Bool) (left : �
 
   under-all : (d v : ℕ) → v < n → d ≤ left v → under d < n
   unfolding under
-  under-all d v h l = at (keep-grows (λ x. ltb (left x) d) (λ x. true) (upTo n) (λ x m t. tt))
-    where
-      at : ((x : ℕ) → T (has x (upTo n)) → T true → T (ltb (left x) d))
-          ⊎ (length (keep (λ x. ltb (left x) d) (upTo n)) < length (keep (λ x. true) (upTo n)))
-          → length (keep (λ x. ltb (left x) d) (upTo n)) < n
-      at (inl f) = absurd (omega (arith, ltb→lt (left v) d (f v (has-upTo n v h) tt)))
-      at (inr k) = omega (arith, keep-length (λ x. true) (upTo n), length-upTo n)
+  under-all d v h l = ⊎-elim
+      (λ f. absurd (omega (arith, ltb→lt (left v) d (f v (has-upTo n v h) tt))))
+      (λ k. omega (arith, keep-length (λ x. true) (upTo n), length-upTo n))
+      (keep-grows (λ x. ltb (left x) d) (λ x. true) (upTo n) (λ x m t. tt))
 
   pub too-long : (goal d v : ℕ) → v < n → d ≤ left v → n ≤ d → steps G may left goal d v ≡ missing
   too-long goal d v h l k = at (steps G may left goal d v) refl
     where
       at : (o : Option (List ℕ)) → steps G may left goal d v ≡ o → o ≡ missing
       at missing e = refl
-      at (some p) e = absurd (omega (arith, depth-all goal d v (subst IsSome (sym e) tt), depth-under d v h, under-all d v h l))
+      at (some p) e = absurd (omega (arith, depth-all _ _ _ (subst IsSome (sym e) tt), depth-under d v h, under-all d _ h l))
 
 -- ---- the whole walk, whatever the tables hold
 
@@ -326,16 +295,26 @@ fit-outcome : (E : Edges) (a b w : ℕ) (x : Answer) (o : Option (List ℕ)) →
 unfolding fit refuseWalk
 fit-outcome E a b w x missing s = refusal 11
 fit-outcome E a b w x (some l) s = ⊎-elim
-    (λ h. subst (λ (r : AfterWalking). Given-out E a b w r) (sym (fit-short w x l h)) (refusal 8))
-    (λ h. subst (λ (r : AfterWalking). Given-out E a b w r) (sym (fit-long w x l h)) (walked x l (s .0) (s .1) h))
+    (λ h. rw (fit-short _ x l h) (refusal 8))
+    (λ h. rw (fit-long _ _ l h) (walked x l (s .0) (s .1) h))
     (lt-or w (length l))
 
 fit-none : (E : Edges) (a b w : ℕ) → Given-out E a b w (fit w (withRoute none NoRoute) (some []))
 fit-none E a b w =
     subst (λ (r : AfterWalking). Given-out E a b w r)
-    (sym (fit-long w (withRoute none NoRoute) [] (omega arith)
+    (sym (fit-long _ _ _ (omega arith)
     ∙ ap (λ (k : ℕ). record { answer = answered (withRoute none NoRoute); walk = replicate k none }) (sub-zero w)))
     no-way
+
+-- where a sum of two entries is not none, neither entry is, and it is their sum
+pub via-sum : (n : ℕ) (full : List ℕ) (a b h : ℕ) {z : ℕ} → via n full a b h ≡ z → (z ≡ none → ⊥)
+    → (entryAt n full h a ≡ none → ⊥) × (entryAt n full h b ≡ none → ⊥) × (entryAt n full h a + entryAt n full h b ≡ z)
+unfolding via
+via-sum n full a b h {z} e f = at (sum-is (entryAt n full h a) (entryAt n full h b)) e
+  where
+    at : {x y u : ℕ} → Sum x y u → u ≡ z → (x ≡ none → ⊥) × (y ≡ none → ⊥) × (x + y ≡ z)
+    at (whole p q s) e = (p, q, sym s ∙ e)
+    at (part s p) e = absurd (f (sym e ∙ s))
 
 module _ (isHub : ℕ → Bool) (n : ℕ) (full : List ℕ) (a b : ℕ) where
   -- the hub found for a report is below n, counts as a hub, and its two entries add up to the report
@@ -350,33 +329,22 @@ module _ (isHub : ℕ → Bool) (n : ℕ) (full : List ℕ) (a b : ℕ) where
       at : {x : ℕ} → First p none 0 n x → (x ≡ none → ⊥) → (x < n) × T (isHub x) × (via n full a b x ≡ r)
       at {x} (found lo hi t least) d = (
         omega arith,
-        and-l (isHub x) (eqb (via n full a b x) r) t,
-        eqb→eq (via n full a b x) r (and-r (isHub x) (eqb (via n full a b x) r) t),
+        and-l (isHub x) _ t,
+        eqb→eq _ _ (and-r (isHub x) (eqb (via n full a b x) r) t),
       )
       at (nothing e miss) d = absurd (d e)
 
-  -- where a sum of two entries is not none, neither entry is, and it is their sum
-  pub via-sum : (h z : ℕ) → via n full a b h ≡ z → (z ≡ none → ⊥)
-      → (entryAt n full h a ≡ none → ⊥) × (entryAt n full h b ≡ none → ⊥) × (entryAt n full h a + entryAt n full h b ≡ z)
-  unfolding via
-  via-sum h z e f = at (sum-is (entryAt n full h a) (entryAt n full h b)) e
-    where
-      at : {y : ℕ} → Sum (entryAt n full h a) (entryAt n full h b) y → y ≡ z
-          → (entryAt n full h a ≡ none → ⊥) × (entryAt n full h b ≡ none → ⊥) × (entryAt n full h a + entryAt n full h b ≡ z)
-      at (whole p q s) e = (p, q, sym s ∙ e)
-      at (part s p) e = absurd (f (sym e ∙ s))
-
-module _ (n s : ℕ) (G : Graph) (g : IsGraph n G) (full low : List ℕ) (a b : ℕ) (ha : a < n) (hb : b < n) where
+module _ {n : ℕ} (s : ℕ) {G : Graph} (g : IsGraph n G) (full low : List ℕ) {a b : ℕ} (ha : a < n) (hb : b < n) where
   low-sound : Sound (linked n G) (entryAt n low a b) a b (byLow n s G low a b)
   unfolding byLow
-  low-sound = steps-sound n G g (isLow s G) (λ x. entryAt n low x b) b (entryAt n low a b) a ha
+  low-sound = steps-sound _ _ g (isLow s G) (λ x. entryAt n low x b) b (entryAt n low a b) a ha
 
   hub-sound : (h : ℕ) → Sound (linked n G) (entryAt n full h a + entryAt n full h b) a b (join (toHub n G full h a) (toHub n G full h b))
   unfolding toHub
   hub-sound h =
-      join-sound (linked n G) (linked-sym n G) (entryAt n full h a) (entryAt n full h b) a b h (toHub n G full h a) (toHub n G full h b)
-      (steps-sound n G g (λ x. true) (λ x. entryAt n full h x) h (entryAt n full h a) a ha)
-      (steps-sound n G g (λ x. true) (λ x. entryAt n full h x) h (entryAt n full h b) b hb)
+      join-sound _ (linked-sym _ _) (entryAt n full h a) (entryAt n full h b) a b h (toHub n G full h a) (toHub n G full h b)
+      (steps-sound _ _ g (λ x. true) (λ x. entryAt n full h x) h (entryAt n full h a) a ha)
+      (steps-sound _ _ g (λ x. true) (λ x. entryAt n full h x) h (entryAt n full h b) b hb)
 
   -- the hubs that count, and the table of reports
   module _ (isHub : ℕ → Bool) (report : List ℕ) where
@@ -387,14 +355,14 @@ module _ (n s : ℕ) (G : Graph) (g : IsGraph n G) (full low : List ℕ) (a b : 
     pub route-sound : (x : Answer) → Chosen-here (answered x) → (x .report ≡ none → ⊥)
         → Sound (linked n G) (x .report) a b (walkNodes n s G full low a b (x .route))
     unfolding walkNodes
-    route-sound x (to-itself e z) m = (subst (λ (y : ℕ). Walked (linked n G) (a ∷ []) a y) e stop, refl)
+    route-sound x (to-itself e z) m = (rw (← e) stop, refl)
     route-sound x (to-none f e) m = absurd (m refl)
-    route-sound x (to-low f g e) m = subst (λ (d : ℕ). Sound (linked n G) d a b (byLow n s G low a b)) e low-sound
+    route-sound x (to-low f g e) m = rw e at low-sound
     route-sound x (to-hub f g y z) m =
         let hub = attaining isHub n full a b (entryAt n report a b) in
         let i = attains isHub n full a b (entryAt n report a b) z in
-        let e = via-sum isHub n full a b hub (entryAt n report a b) (i .2) g in
-        subst (λ (d : ℕ). Sound (linked n G) d a b (join (toHub n G full hub a) (toHub n G full hub b))) (e .2) (hub-sound hub)
+        let e = via-sum n full a b hub (i .2) g in
+        subst (λ (d : ℕ). Sound (linked n G) d a b (join (toHub n G full hub a) (toHub n G full hub b))) (e .2) (hub-sound _)
 
     -- with no route there are no nodes
     none-found : (x : Answer) → Chosen-here (answered x) → (l : List ℕ) → walkNodes n s G full low a b (x .route) ≡ some l
@@ -408,13 +376,12 @@ module _ (n s : ℕ) (G : Graph) (g : IsGraph n G) (full low : List ℕ) (a b : 
     -- a list of w entries is too short for the nodes found exactly where there is a route and w is less than report + 1
     pub found-longer : (x : Answer) → Chosen-here (answered x) → (l : List ℕ) → walkNodes n s G full low a b (x .route) ≡ some l
         → (w : ℕ) → (w < length l) ↔ ((x .report ≡ none → ⊥) × (w < x .report + 1))
-    found-longer x c l e w = at (eq-or (x .report) none)
-      where
-        at : (x .report ≡ none) ⊎ (x .report ≡ none → ⊥) → (w < length l) ↔ ((x .report ≡ none → ⊥) × (w < x .report + 1))
-        at (inl z) = (λ h. absurd (omega (arith, none-found x c l e z)), λ h. absurd (h .0 z))
-        at (inr m) =
-            let k = subst (λ (o : Option (List ℕ)). Sound (linked n G) (x .report) a b o) e (route-sound x c m) .1 in
-            (λ h. (m, omega (arith, k)), λ h. omega (arith, k, h .1))
+    found-longer x c l e w = ⊎-elim
+        (λ z. (λ h. absurd (omega (arith, none-found x c l e z)), λ h. absurd (h .0 z)))
+        (λ m.
+        let k = subst (λ (o : Option (List ℕ)). Sound (linked n G) (x .report) a b o) e (route-sound x c m) .1 in
+        (λ h. (m, omega (arith, k)), λ h. omega (arith, k, h .1)))
+        (eq-or (x .report) none)
 
     -- whatever hubs are taken and whatever the tables hold, a walk given out is a chain of as many links as reported
     pub walk-given-out : (w : ℕ) → Given-out (linked n G) a b w (walkOf w n s G full low a b (pairBy isHub n full low report a b))
@@ -430,7 +397,7 @@ module _ (n s : ℕ) (G : Graph) (g : IsGraph n G) (full low : List ℕ) (a b : 
 
         at : {q : Outcome Answer} → Chosen-here q → Given-out (linked n G) a b w (walkOf w n s G full low a b q)
         at (to-itself e z) = fitted _ (to-itself e z) some-zero
-        at (to-none x e) = fit-none (linked n G) a b w
+        at (to-none x e) = fit-none _ _ _ _
         at (to-low x f e) = fitted _ (to-low x f e) f
         at (to-hub x f y z) = fitted _ (to-hub x f y z) f
         at (bad-itself e f) = refusal 11

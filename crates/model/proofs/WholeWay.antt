@@ -1,19 +1,18 @@
 -- The whole way, from a text to reports and walks, over the links that the text's lines name.
 -- Assumes nothing.
-use mathlib.Core.Path.{_≡_, ap, subst, fun-ext}
+use mathlib.Core.Path.{_≡_, ap, fun-ext}
 use mathlib.Core.List.{List}
 use Prim.Native.Nat.{ℕ, _*_, _≤_, _<_}
 use lib.ListN.{length}
 use Rattle.model.specs.declared.Size.{Size}
 use Rattle.model.specs.Answers.{answered}
-use Rattle.model.specs.Graph.{Edges, linked}
+use Rattle.model.specs.Graph.{linked}
 use Rattle.model.specs.Survey.{Graph, neighboursOf}
 use Rattle.model.specs.Threshold.{threshold}
 use Rattle.model.specs.Hubs.{hubs}
 use Rattle.model.specs.Reading.{named, reading}
 use Rattle.model.specs.Building.{AfterBuilding, built, building}
-use Rattle.model.specs.Walking.{walking}
-use Rattle.model.specs.Demand.{Allowed, WalkSound, WholeWay}
+use Rattle.model.specs.Demand.{WholeWay}
 use Rattle.model.proofs.Demand.{building-answers, building-right, walking-sound, walking-right}
 use Rattle.model.proofs.ReadBack.{reading-right}
 
@@ -31,9 +30,9 @@ whole-way text p q x e full low report list hf hl hr hh a b ha hb =
     let neighbours = reading text p q .neighbours in
     let G : Graph = neighboursOf starts neighbours in
     let t = building n starts neighbours full low report list in
-    let f = reading-right text p q x e in
-    let done = ap (λ (r : AfterBuilding). r .answer) (building-answers n starts neighbours (f .survey) full low report list hf hl hr hh) in
-    let own = building-right n starts neighbours full low report list (length (hubs n (threshold n) G)) done .tables .tables in
+    let f = reading-right _ _ _ _ e in
+    let done = ap (λ (r : AfterBuilding). r .answer) (building-answers _ _ _ (f .survey) _ _ _ _ hf hl hr hh) in
+    let own = building-right n starts neighbours full low report list _ done .tables .tables in
     let same : linked n G ≡ named (f .links) = fun-ext (λ u. fun-ext (λ v. f .exactly u v)) in
     let right : (w : ℕ) → _ = λ w. walking-right n starts neighbours (t .full) (t .low) (t .report) a b w (f .survey) own ha hb in
     let asked = right 0 .0 in
@@ -45,10 +44,9 @@ whole-way text p q x e full low report list hf hl hr hh a b ha hb =
       builds = done;
       value = asked .value;
       asked = asked .given;
-      allowed = subst (λ (E : Edges). Allowed E a b (asked .value .report)) same (asked .allowed);
+      allowed = rw same at (asked .allowed);
       walked = λ w room.
           let i = right w .1 (asked .value) (asked .given) room in
-          let sound = subst (λ (E : Edges). WalkSound E a b (walking n starts neighbours (t .full) (t .low) (t .report) a b w)) same
-          (walking-sound n starts neighbours (t .full) (t .low) (t .report) a b w) in
+          let sound = rw same at (walking-sound n starts neighbours (t .full) (t .low) (t .report) a b w) in
           (i, sound (asked .value) i);
     }
