@@ -22,13 +22,13 @@ smallest c =
     let start = low-nodes .before .before .before .before .before in
     smallest-low _ _ (start .pre .0 .size) (low-nodes .low-nodes .ensures) (c .smallest .ensures) (omega arith)
 
--- there is room for it and its neighbours in the list
-room : (c : tie.After-own)
-    → (let start = c .before .before .before .before .before .before .before .before .before .before in
-    1 + length (c .own .result .now) ≤ length (start .args .list .now))
-room c =
-    let start = c .before .before .before .before .before .before .before .before .before .before in
-    omega (arith, ap length (c .own .ensures), few-neighbours _ _ _ (start .pre .0) _ (c .before .if1 .left))
+module _ (c : tie.After-own) where
+  abbrev start : tie.Start
+  start = c .before .before .before .before .before .before .before .before .before .before
+
+  -- there is room for it and its neighbours in the list
+  room : 1 + length (c .own .result .now) ≤ length (start .args .list .now)
+  room = omega (arith, ap length (c .own .ensures), few-neighbours _ _ _ (start .pre .0) _ (c .before .if1 .left))
 
 slice-aggregate-low-nodes : tie.Need-slice-aggregate-low-nodes
 slice-aggregate-low-nodes c = search needs
@@ -78,9 +78,8 @@ returns-2 c =
     let call = c .before .before in
     let own = call .before .before in
     let low = own .before in
-    let start = low .before .before .before .before .before .before .before .before .before in
     rw (sources-low (smallest (low .before)) (low .if1 .left), ← own .own .ensures)
-    (omega arith, two-written (start .args .list .now) _ (room own) (call .copy16 .ensures))
+    (omega arith, two-written (start own .args .list .now) _ (room own) (call .copy16 .ensures))
 
 pub find-sources-spec : {M : Type 1} → statement M
 find-sources-spec =

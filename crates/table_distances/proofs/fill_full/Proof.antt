@@ -20,9 +20,16 @@ Inv-loop n starts neighbours hubs full₀ all size i₀ full i = FullTo n (neigh
 abbrev μ-loop : tie.MeasureT-loop
 μ-loop n starts neighbours hubs full₀ all size i₀ full i = length hubs - i
 
--- the function's entry, from the loop
-abbrev start : tie.At-loop Inv-loop μ-loop → tie.Start Inv-loop μ-loop
-start c = c .before .before .before .before .before .before .before .before .before .before .before .before
+-- from the loop: where the table was filled with none, where all nodes were allowed, and the function's entry
+module _ (c : tie.At-loop Inv-loop μ-loop) where
+  abbrev filled : tie.After-fill16 Inv-loop μ-loop
+  filled = c .before .before .before
+
+  abbrev allowed : tie.After-insert-below Inv-loop μ-loop
+  allowed = filled .before .before .before
+
+  abbrev start : tie.Start Inv-loop μ-loop
+  start = allowed .before .before .before .before .before .before
 
 -- in a turn of the loop
 module _ (c : tie.In-loop Inv-loop μ-loop) where
@@ -72,7 +79,7 @@ cast-search-row c = omega (arith, c .shared-slice-known4 .given (c .before .befo
 search-row-requires : tie.Need-search-row-requires Inv-loop μ-loop
 search-row-requires c κs =
     let turn = c .before .before .before in
-    let all = turn .before .before .before .before .before .before .before .insert-below in (
+    let all = allowed (turn .before) .insert-below in (
       (start (turn .before) .pre .0 .0, all .kept .0),
       (below turn, rw (all .ensures) (lt→ltb _ _ (below turn)), omega arith),
     )
@@ -87,18 +94,15 @@ loop-again : tie.Need-loop-again Inv-loop μ-loop
 loop-again c =
     let search-row = c .before .before .search-row in
     let turn = c .before .before .before .before .before .before in
-    let all = turn .before .before .before .before .before .before .before .insert-below in
-    full-next (turn .before .loop .inv) (turn .loop-test .taken) (below turn) (all .ensures) (search-row .ensures)
+    full-next (turn .before .loop .inv) (turn .loop-test .taken) (below turn) (allowed (turn .before) .insert-below .ensures)
+    (search-row .ensures)
 
 same-length : tie.Need-same-length Inv-loop μ-loop
-same-length c =
-    let fill16 = c .before .before .before .before .fill16 in
-    c .before .loop .inv .same ∙ filled-length _ _ (start (c .before) .pre .0 .1) (fill16 .ensures)
+same-length c = c .before .loop .inv .same ∙ filled-length _ _ (start (c .before) .pre .0 .1) (filled (c .before) .fill16 .ensures)
 
 returns : tie.Need-returns Inv-loop μ-loop
 returns c =
-    let fill16 = c .before .before .before .before .fill16 in
-    full-done _ _ (start (c .before) .pre .0 .1) (fill16 .ensures) (c .before .loop .inv) (c .loop-test .left)
+    full-done _ _ (start (c .before) .pre .0 .1) (filled (c .before) .fill16 .ensures) (c .before .loop .inv) (c .loop-test .left)
 
 pub fill-full-spec : {M : Type 1} → statement M
 fill-full-spec =
