@@ -61,8 +61,8 @@ extern "C" {
  * crates/model/proofs/Fronts.antt. */
 #define PUXERDAU_FRONT_LENGTH (24 * (PUXERDAU_MAX_LINKS + 1) + 1)
 
-/* Stack that is enough for any call but puxerdau_list, and for that: measured on the archive that the kit `rattle-kit-5b-plain` (`rt
- * version`) makes. The most were 168,384 bytes, by puxerdau_walk, and 388,072. */
+/* Stack that is enough for any call but puxerdau_list, and for puxerdau_list: measured on the archive that the kit `rattle-kit-5b-plain`
+ * (`rt version`) makes. The most were 168,384 bytes, by puxerdau_walk, and 388,072. */
 #define PUXERDAU_STACK_BYTES 262144
 #define PUXERDAU_LIST_STACK_BYTES 524288
 
@@ -102,21 +102,21 @@ static inline unsigned puxerdau_searches(uint64_t answer) { return (unsigned)(an
 /* The least degree of a high node among n nodes. Refused 2. */
 uint64_t puxerdau_threshold(size_t n);
 
-/* Reads a survey's text. `starts` wants n + 1 entries and `neighbours` 2m. Refused 1 to 8, both lists are all zero; else they are zero past
- * the used entries. Answers nodes and links. */
+/* Reads a survey's text. `starts` wants n + 1 entries and `neighbours` 2m. If refused (1 to 8), both lists are all zero; else they are zero
+ * past the used entries. Answers nodes and links. */
 uint64_t puxerdau_read(const uint8_t *text, size_t text_length, uint32_t *starts, size_t starts_length, uint16_t *neighbours,
                        size_t neighbours_length);
 
-/* Writes a survey's text. Refused 2, 8, 9 or 12, the buffer is as it was; else it is as it was past the text. Answers the text's length
- * as its count. */
+/* Writes a survey's text. If refused (2, 8, 9 or 12), the buffer is as it was; else it is as it was past the text. Answers the
+ * text's length as its count. */
 uint64_t puxerdau_write(size_t n, const uint32_t *starts, size_t starts_length, const uint16_t *neighbours, size_t neighbours_length,
                         uint8_t *buffer, size_t buffer_length);
 
 /* Whether the two lists are a survey's. Refused 2, 8 or 9. */
 uint64_t puxerdau_accept(size_t n, const uint32_t *starts, size_t starts_length, const uint16_t *neighbours, size_t neighbours_length);
 
-/* Builds the tables: n * n entries each, row by row, and n entries of `hubs` (the hubs in the order chosen, then none). Refused 2, 8
- * or 9, nothing is altered; else the lists are as they were past those entries. Answers the count of hubs. */
+/* Builds the tables: n * n entries each, row by row, and n entries of `hubs` (the hubs in the order chosen, then none). If refused
+ * (2, 8 or 9), nothing is altered; else the lists are as they were past those entries. Answers the count of hubs. */
 uint64_t puxerdau_build(size_t n, const uint32_t *starts, size_t starts_length, const uint16_t *neighbours, size_t neighbours_length,
                         uint16_t *full, size_t full_length, uint16_t *low, size_t low_length, uint16_t *report, size_t report_length,
                         uint16_t *hubs, size_t hubs_length);
@@ -125,8 +125,8 @@ uint64_t puxerdau_build(size_t n, const uint32_t *starts, size_t starts_length, 
 uint64_t puxerdau_ask(size_t n, const uint16_t *full, size_t full_length, const uint16_t *low, size_t low_length,
                       const uint16_t *report, size_t report_length, size_t a, size_t b);
 
-/* Writes the walk of a and b: report + 1 nodes, then none. Refused 2, 8 to 11, or with no route, every entry is none. Answers as asking
- * does. */
+/* Writes the walk of a and b: report + 1 nodes, then none. If refused (2, 8 to 11), or with no route, every entry is none. Answers
+ * as asking does. */
 uint64_t puxerdau_walk(size_t n, const uint32_t *starts, size_t starts_length, const uint16_t *neighbours, size_t neighbours_length,
                        const uint16_t *full, size_t full_length, const uint16_t *low, size_t low_length, const uint16_t *report,
                        size_t report_length, size_t a, size_t b, uint16_t *walk, size_t walk_length);

@@ -1,5 +1,6 @@
 //! The same method as the proved library's, written in Rust for speed: a bit matrix when reading, one cursor for each node when
-//! accepting, bit sets for hubs, breadth-first searches without a branch for each link, which end when no node is left. It is only measured against.
+//! accepting, bit sets for hubs, breadth-first searches without a branch for each link, which end when no node is left. It serves only to
+//! compare speeds.
 
 use reference::{Answer, Route, Tested, Verdict, NONE};
 

@@ -1,4 +1,4 @@
--- What a reader has to believe: the rules of docs/RULES.md as definitions. Each definition names the rule that it states. A rule that has
+-- What a reader has to believe: the rules of docs/RULES.md as definitions. Each definition but those of Basics names the rule that it states. A rule that has
 -- no definition says in docs/RULES.md where it shows. The order is that of the rules, with two exceptions: chains (Graph) come before the
 -- tables, which count their links, and what the answers mean (Demand) comes after the calls.
 

@@ -58,7 +58,7 @@ accepted n starts neighbours = isAnswered (accepting n starts neighbours)
 
 -- ---- the same as facts (`accepted-facts` and `facts-accepted` of proofs/Acceptance.antt)
 
--- rule 3.2: neighbours lie below n, and b stands at a exactly when a stands at b
+-- rule 3.2: neighbours lie below n, and b is among a's exactly when a is among b's
 pub record IsGraph (n : ℕ) (G : Graph) : Type 0 where
   pub below : (v x : ℕ) → v < n → T (has x (G v)) → x < n
   pub symmetric : (v x : ℕ) → v < n → T (has x (G v)) → T (has v (G x))

@@ -1,4 +1,4 @@
-// Breadth-first search by bit sets: a node's neighbours are 16 words of a matrix, and a layer of the search is a set of nodes.
+// Breadth-first search by bit sets: a node's neighbours are 16 words of a matrix, and the nodes at one distance are a set.
 use model::NONE;
 ghost use mathlib.Core.Path.{_≡_};
 ghost use mathlib.Core.Bool.{_||_};

@@ -1,5 +1,5 @@
--- What the proofs by hand of `lines_from`, `next_line` and `line_at` share: names for what a text and a reader own, and steps of the walk
--- of a function's MIR that two of them take.
+-- What the proofs by hand of `lines_from`, `next_line` and `line_at` share: names for what a text and a reader own, and steps
+-- through the compiler's intermediate form (MIR) that two of them take.
 -- Assumes nothing; the steps are for any `Given` (types.Kit).
 use mathlib.Core.Path.{_≡_, refl}
 use mathlib.Core.List.{List, [], _∷_}

@@ -1,4 +1,4 @@
--- What the reader of a number and of a line tests gives the model's line: a number is found at a place exactly where the bytes there
+-- The tests that reading a number and a line makes agree with the model's line: a number is found at a place exactly where the bytes there
 -- begin with its decimal text and no digit follows, and a line exactly where the bytes there begin with its text.
 -- Assumes nothing.
 use mathlib.Core.Path.{_≡_, refl, sym, ap, _∙_}

@@ -109,7 +109,7 @@ fn parse_line(text: &[u8], at: usize, letter: u8) -> Line
     Line::Pair(a, b, j + 1)
 }
 
-// The same for any letter: none is found by a letter that is not above the comma.
+// The same for any letter: no line is found for a letter that is not above the comma.
 pub fn scan_line(text: &[u8], at: usize, letter: u8) -> Line
     ensures { λ r. ⌜ found (now (text .entry)) r ≡ lineBy letter (drop at (now (text .entry))) ⌝ }
 {
@@ -139,7 +139,7 @@ pub fn next_line<'a>(r: LineReader<'a>, letter: u8) -> Line
     scan_line(r.text, r.at, letter)
 }
 
-// The line at a place, through the reader: plain parameters, so that a caller's proof is covered.
+// The line at a place, through the reader: plain parameters, so that callers need no proof by hand.
 pub fn line_at(text: &[u8], at: usize, letter: u8) -> Line
     ensures { λ r. ⌜ found (now (text .entry)) r ≡ lineBy letter (drop at (now (text .entry))) ⌝ }
 {

@@ -1,7 +1,7 @@
 //! Compares every call of the proved library with the second implementation: `compare CASES SEED`.
 //!
 //! A case is one call of both on the same input. Answers are compared, as numbers and as the header reads them, and every lent list
-//! whole, between guard words. Many cases also have to meet every refusal that a call can give.
+//! whole, between guard words. A run of many cases also has to meet every refusal that a call can give.
 
 mod calls;
 mod lent;
@@ -15,7 +15,7 @@ use comparison::{codes, graphs, header};
 use std::process::ExitCode;
 use std::time::{Duration, Instant};
 
-/// So many cases have to meet every refusal.
+/// A run of this many cases has to meet every refusal.
 const MANY: u64 = 50_000;
 
 /// How often there was an answer (place 0) or a refusal with a number.

@@ -1,4 +1,4 @@
--- `test_surveys::run` ends: each turn leaves one fewer.
+-- `test_surveys::run` ends: each turn leaves one turn fewer.
 -- Assumes nothing.
 use borrow.Author.Needs.{needs}
 use Rattle.test_surveys.proofs.run.Statement.{statement}

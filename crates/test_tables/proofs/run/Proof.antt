@@ -1,4 +1,4 @@
--- `test_tables::run` ends: each turn leaves one fewer.
+-- `test_tables::run` ends: each turn leaves one turn fewer.
 -- Assumes nothing.
 use borrow.Author.Needs.{needs}
 use Rattle.test_tables.proofs.run.Statement.{statement}

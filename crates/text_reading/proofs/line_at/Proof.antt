@@ -1,4 +1,4 @@
--- `text_reading::line_at` meets its contract: a walk of its MIR, by hand. The `LineReader` that `lines_from` returns is held in a local and
+-- `text_reading::line_at` meets its contract, shown by hand, step by step in its MIR. The `LineReader` that `lines_from` returns is held in a local and
 -- passed to `next_line`; the proof uses of the two only that each meets its contract.
 -- In a local MIR erases the lifetime of the struct's type, so the value is shown to have the type at `erased`: what the struct owns does
 -- not depend on the lifetime's name.

@@ -1,4 +1,4 @@
--- `text_reading::lines_from` meets its contract: a walk of its MIR, by hand. A `LineReader` is made of the slice and the number passed, in
+-- `text_reading::lines_from` meets its contract, shown by hand, step by step in its MIR. A `LineReader` is made of the slice and the number passed, in
 -- the result's local.
 -- A `&[u8]` is Copy, so what it owns is available twice: once for text at exit, and once inside the result, beside the facts of at.
 -- Assumes nothing.

@@ -1,4 +1,4 @@
--- `text_reading::next_line` meets its contract: a walk of its MIR, by hand. The struct is taken apart, and `scan_line` is called on the
+-- `text_reading::next_line` meets its contract, shown by hand, step by step in its MIR. The struct is taken apart, and `scan_line` is called on the
 -- slice, the number and the letter; the proof uses of it only that it meets its contract.
 -- The struct is Copy: what it owns is available twice: one copy is kept whole for the exit, and of the other what text owns goes to the callee,
 -- beside the lifetime's token, which comes back.

@@ -1,4 +1,4 @@
--- `text_reading::parse_line` meets its contract: at each `return` the tests that led there decide which case of `lineAt` holds.
+-- `text_reading::parse_line` meets its contract: at each `return` the tests that led there decide which case of `line` holds.
 -- Assumes nothing.
 use mathlib.Core.Path.{_≡_, sym, _∙_}
 use mathlib.Core.Bool.{Bool, true, false, not}
