@@ -6,7 +6,9 @@ use std::process::Command;
 
 fn main() {
     let here = PathBuf::from(env::var("CARGO_MANIFEST_DIR").expect("cargo sets it"));
-    let folder = here.join("../target/staticlib");
+    // comparison/before links another archive
+    println!("cargo:rerun-if-env-changed=ARCHIVE_FOLDER");
+    let folder = env::var("ARCHIVE_FOLDER").map_or(here.join("../target/staticlib"), PathBuf::from);
     println!(
         "cargo:rerun-if-changed={}",
         folder.join("libpuxerdau.a").display()

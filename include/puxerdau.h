@@ -62,8 +62,8 @@ extern "C" {
 #define PUXERDAU_FRONT_LENGTH (24 * (PUXERDAU_MAX_LINKS + 1) + 1)
 
 /* Stack that is enough for any call but puxerdau_list, and for puxerdau_list: measured on the archive that the kit `rattle-kit-5b-plain`
- * (`rt version`) makes. The most were 168,384 bytes, by puxerdau_walk, and 388,072. */
-#define PUXERDAU_STACK_BYTES 262144
+ * (`rt version`) makes. The most were 168,384 bytes, by puxerdau_walk, and 385,128. */
+#define PUXERDAU_STACK_BYTES 196608
 #define PUXERDAU_LIST_STACK_BYTES 524288
 
 /* A table entry, or an entry of a list of nodes, that means none. */

@@ -1,14 +1,22 @@
 //! The same method as the proved library's, written in Rust for speed: a bit matrix when reading, one cursor for each node when
-//! accepting, bit sets for hubs, breadth-first searches without a branch for each link, which end when no node is left. It serves only to
-//! compare speeds.
+//! accepting, bit sets for hubs, breadth-first searches without a branch for each link, which end when no node is left, and for Low
+//! searches from many sources at once. It serves only to compare speeds.
 
 use reference::{Answer, Route, Tested, Verdict, NONE};
 
 const MOST_NODES: usize = 1024;
 const MOST_LINKS: usize = 16384;
 const WORDS: usize = MOST_NODES / 64;
+const LANES: usize = 16;
+const GROUP: usize = 16 * LANES;
 
 type Set = [u64; WORDS];
+
+/// Sources of a group: source j is bit j / 16 of lane j % 16.
+type Lanes = [u16; LANES];
+
+/// The lanes four to a word: of words the compiler makes a fast union.
+type Packed = [u64; LANES / 4];
 
 fn contains(set: &Set, v: usize) -> bool {
     set[v / 64] >> (v % 64) & 1 == 1
@@ -176,7 +184,7 @@ fn is_survey(n: usize, starts: &[u32], neighbours: &[u16]) -> bool {
     if starts[0] != 0 || starts.windows(2).any(|pair| pair[1] < pair[0]) {
         return false;
     }
-    if last % 2 != 0 || last / 2 > MOST_LINKS || neighbours.len() < last {
+    if !last.is_multiple_of(2) || last / 2 > MOST_LINKS || neighbours.len() < last {
         return false;
     }
     let neighbours = &neighbours[..last];
@@ -212,6 +220,8 @@ fn is_survey(n: usize, starts: &[u32], neighbours: &[u16]) -> bool {
 
 /// Breadth-first search into a row in which allowed nodes are none and the others 0, until all `count` allowed nodes are found.
 fn search(starts: &[u32], neighbours: &[u16], count: usize, source: usize, row: &mut [u16]) {
+    // along chains a branch is foreseen, and the next node need not wait for the queue's end
+    let thin = starts[row.len()] as usize <= 2 * row.len();
     // one place more: the place behind the queue's end is written before it is known whether a node joins
     let mut queue = [0u16; MOST_NODES + 1];
     row[source] = 0;
@@ -222,6 +232,9 @@ fn search(starts: &[u32], neighbours: &[u16], count: usize, source: usize, row: 
         let d = row[v] + 1;
         for &w in neighbours_of(starts, neighbours, v) {
             let entry = &mut row[w as usize];
+            if thin && *entry != NONE {
+                continue;
+            }
             queue[tail] = w;
             tail += usize::from(*entry == NONE);
             *entry = (*entry).min(d);
@@ -331,47 +344,114 @@ pub fn build(
     Ok(chosen.len())
 }
 
-/// Searches from each low node among low nodes, by bit sets: a node's low neighbours are one set.
+/// Low from many sources at once, or where that goes deep from one low node after the other.
 fn fill_low(n: usize, s: usize, starts: &[u32], neighbours: &[u16], low: &mut [u16]) {
-    let is_low = |v: usize| ((starts[v + 1] - starts[v]) as usize) < s;
-    let mut links: Vec<Set> = vec![[0; 16]; n];
-    for v in (0..n).filter(|&v| is_low(v)) {
-        for &w in neighbours_of(starts, neighbours, v) {
-            if is_low(w as usize) {
-                insert(&mut links[v], w as usize);
-            }
-        }
+    let mut low_nodes: Set = [0; WORDS];
+    for v in (0..n).filter(|&v| ((starts[v + 1] - starts[v]) as usize) < s) {
+        insert(&mut low_nodes, v);
     }
-    let mut all: Set = [0; 16];
-    (0..n).for_each(|v| insert(&mut all, v));
     low.fill(NONE);
-    for a in (0..n).filter(|&a| is_low(a)) {
-        search_by_bit_sets(&links, &all, a, &mut low[a * n..(a + 1) * n]);
+    if (0..n)
+        .step_by(GROUP)
+        .all(|base| search_group(n, starts, neighbours, &low_nodes, base, low))
+    {
+        return;
+    }
+    let is_low = |v: usize| contains(&low_nodes, v);
+    let blank: Vec<u16> = (0..n).map(|v| if is_low(v) { NONE } else { 0 }).collect();
+    let count = (0..n).filter(|&v| is_low(v)).count();
+    for (a, row) in low.chunks_exact_mut(n).enumerate() {
+        if is_low(a) {
+            row.copy_from_slice(&blank);
+            search(starts, neighbours, count, a, row);
+            row.iter_mut()
+                .zip(&blank)
+                .for_each(|(x, &b)| *x |= NONE - b);
+        } else {
+            row.fill(NONE);
+        }
     }
 }
 
-/// Breadth-first search, layer by layer, into a row that is all none.
-fn search_by_bit_sets(links: &[Set], all: &Set, source: usize, row: &mut [u16]) {
-    let mut layer: Set = [0; 16];
-    insert(&mut layer, source);
-    let mut unvisited = *all;
-    let mut found: Set = [0; 16];
-    let mut distance = 0;
-    while layer != [0; 16] {
-        for (index, &word) in layer.iter().enumerate() {
-            let mut left = word;
-            while left != 0 {
-                let v = 64 * index + left.trailing_zeros() as usize;
-                row[v] = distance;
-                found.iter_mut().zip(&links[v]).for_each(|(x, y)| *x |= y);
-                left &= left - 1;
-            }
+/// Searches from the low nodes of a group, level by level: for each node the sources that have reached it. Gives up where that goes deep.
+fn search_group(
+    n: usize,
+    starts: &[u32],
+    neighbours: &[u16],
+    low_nodes: &Set,
+    base: usize,
+    low: &mut [u16],
+) -> bool {
+    let (mut near, mut far) = (
+        &mut [[0; LANES / 4]; MOST_NODES],
+        &mut [[0; LANES / 4]; MOST_NODES],
+    );
+    for v in (base..n.min(base + GROUP)).filter(|&v| contains(low_nodes, v)) {
+        let j = v - base;
+        near[v][j % LANES / 4] = 1 << (16 * (j % 4) + j / LANES);
+        low[v * n + v] = 0;
+    }
+    for distance in 1..=GROUP as u16 {
+        if !level(
+            n, starts, neighbours, low_nodes, base, distance, near, far, low,
+        ) {
+            return true;
         }
-        for i in 0..16 {
-            unvisited[i] &= !layer[i];
-            layer[i] = unvisited[i] & found[i];
+        std::mem::swap(&mut near, &mut far);
+    }
+    n <= GROUP
+}
+
+#[allow(clippy::too_many_arguments)]
+fn level(
+    n: usize,
+    starts: &[u32],
+    neighbours: &[u16],
+    low_nodes: &Set,
+    base: usize,
+    distance: u16,
+    near: &[Packed; MOST_NODES],
+    far: &mut [Packed; MOST_NODES],
+    low: &mut [u16],
+) -> bool {
+    let mut more = false;
+    for v in (0..n).filter(|&v| contains(low_nodes, v)) {
+        let mut sum = near[v];
+        for &w in neighbours_of(starts, neighbours, v) {
+            sum.iter_mut()
+                .zip(&near[w as usize])
+                .for_each(|(x, y)| *x |= y);
         }
-        distance += 1;
+        far[v] = sum;
+        sum.iter_mut().zip(&near[v]).for_each(|(x, y)| *x &= !y);
+        if sum != [0; LANES / 4] {
+            let end = n.min(base + GROUP);
+            let new = std::array::from_fn(|i| (sum[i / 4] >> (16 * (i % 4))) as u16);
+            mark(&new, distance, &mut low[v * n + base..v * n + end]);
+            more = true;
+        }
+    }
+    more
+}
+
+/// Gives new sources their distance, 16 of them at a time.
+fn mark(new: &Lanes, distance: u16, row: &mut [u16]) {
+    let mut left = new.iter().fold(0, |all, x| all | x);
+    while left != 0 {
+        let bit = left.trailing_zeros();
+        let start = LANES * bit as usize;
+        if start + LANES <= row.len() {
+            mark_block(new, bit, distance, &mut row[start..start + LANES]);
+        } else {
+            mark_block(new, bit, distance, &mut row[start..]);
+        }
+        left &= left - 1;
+    }
+}
+
+fn mark_block(new: &Lanes, bit: u32, distance: u16, part: &mut [u16]) {
+    for (x, lane) in part.iter_mut().zip(new) {
+        *x &= distance | (lane >> bit & 1).wrapping_sub(1);
     }
 }
 

@@ -1,6 +1,6 @@
 //! Surveys with a wanted count of nodes, links and high nodes.
 
-use crate::common::{Random, Sample};
+use crate::common::{self, Random, Sample};
 
 struct Growing<'a> {
     random: &'a mut Random,
@@ -87,4 +87,57 @@ pub fn with_links(random: &mut Random, n: usize, links: usize) -> Sample {
         }
     }
     sample
+}
+
+/// Rows of `width` nodes, each node linked to the next of its row and of its column.
+pub fn grid(n: usize, width: usize) -> Sample {
+    let mut sample = Sample::new("grid", n);
+    for v in 0..n {
+        if v % width + 1 < width && v + 1 < n {
+            sample.link(v, v + 1);
+        }
+        if v + width < n {
+            sample.link(v, v + width);
+        }
+    }
+    sample
+}
+
+/// A random survey: sparse (two links a node) or as many links as fit, with no, some or many high nodes.
+pub fn random_survey(n: usize, dense: bool, share: usize) -> Sample {
+    let s = reference::threshold(n).expect("1 to 1,024 nodes");
+    let links = if dense { 16384 } else { 2 * n };
+    let many = match (dense, n) {
+        (false, _) => 2 * n / s,
+        (true, 1024) => 120,
+        (true, _) => n / 2,
+    };
+    let high = [0, many / 4, many][share];
+    with_high(&mut Random::new(n as u64 + links as u64), n, links, high)
+}
+
+/// The six random surveys of n nodes that speeds are measured on.
+pub fn random_surveys(n: usize) -> Vec<Sample> {
+    let kinds = [false, true].map(|dense| [0, 1, 2].map(|share| (dense, share)));
+    let each = kinds.into_iter().flatten();
+    each.map(|(dense, share)| random_survey(n, dense, share))
+        .collect()
+}
+
+/// Node 0 alone, and a path of all others.
+fn parted(n: usize) -> Sample {
+    let links: Vec<_> = (2..n).map(|v| (v - 1, v)).collect();
+    common::from_links("parted", n, &links)
+}
+
+/// All surveys of 1,024 nodes that speeds are measured on.
+pub fn largest_surveys() -> Vec<Sample> {
+    let mut samples = random_surveys(1024);
+    samples.extend([
+        common::path(1024),
+        parted(1024),
+        grid(1024, 32),
+        common::star(1024, 0),
+    ]);
+    samples
 }

@@ -5,31 +5,30 @@ use model::TestResult;
 use model::Testing;
 use model::Verdict;
 ghost use mathlib.Core.Path.{_≡_};
-ghost use Prim.Native.Nat.{_≤_};
-ghost use lib.ListN.{length, take};
+ghost use Prim.Native.Nat.{_<_};
 ghost use Rattle.model.specs.Answers.{testAnswer};
+ghost use Rattle.model.specs.Basics.{none, upTo, firstOf};
+ghost use Rattle.model.specs.Hubs.{isLow, hubs, closed};
 ghost use Rattle.model.specs.Survey.{neighboursOf, Accepted};
-ghost use Rattle.model.specs.TwoOrFour.{sources, testResult};
+ghost use Rattle.model.specs.TwoOrFour.{testResult};
 ghost use Rattle.model.specs.Testing.{testing};
 ghost use Rattle.model.specs.Demand.{TestRight};
-ghost use Rattle.answer_two_or_four.specs.DepthVerdict.{ofDepth};
+ghost use Rattle.answer_two_or_four.specs.DepthVerdict.{ofDepth, ofSearches};
 
-// The nodes to search from, in the front of the list, and their count: the smallest low node and its neighbours, or else the hubs.
-fn find_sources(n: usize, s: usize, starts: &[u32], neighbours: &[u16], list: &mut [u16]) -> usize
-    requires { ⌜ Accepted n (now starts) (now neighbours) × (n ≤ length (now list)) ⌝ }
-    ensures { λ r. ⌜ r ≡ length (sources n s (neighboursOf (now (starts .entry)) (now (neighbours .entry)))) ⌝ }
-    ensures { λ r. ⌜ take r (now (list .exit)) ≡ sources n s (neighboursOf (now (starts .entry)) (now (neighbours .entry))) ⌝ }
+// The smallest low node, or none.
+fn smallest_low(n: usize, s: usize, starts: &[u32], neighbours: &[u16]) -> usize
+    requires { ⌜ Accepted n (now starts) (now neighbours) ⌝ }
+    ensures { λ r. ⌜ r ≡ firstOf (isLow s (neighboursOf (now (starts .entry)) (now (neighbours .entry)))) none (upTo n) ⌝ }
 {
-    let mut low = [0u64; 16];
-    table_degree_split::low_nodes(n, s, starts, neighbours, &mut low);
-    let v = base_nodeset::smallest(&low);
-    if n <= v {
-        return table_hubs::choose_hubs(n, s, starts, neighbours, list);
+    let mut v = 0;
+    while v < n {
+        let own = survey_neighbours::own(n, starts, neighbours, v);
+        if own.len() < s {
+            return v;
+        }
+        v += 1;
     }
-    list[0] = v as u16;
-    let row = survey_neighbours::own(n, starts, neighbours, v);
-    base_lists::copy16(row, list, 1);
-    1 + row.len()
+    NONE as usize
 }
 
 // The verdict on the greatest depth of the searches.
@@ -45,18 +44,44 @@ fn verdict_on(depth: u16) -> Verdict
     Verdict::Short
 }
 
-// The test for threshold s.
+// Searches from a node, and from its neighbours where they stand in the list.
+fn test_from(n: usize, starts: &[u32], neighbours: &[u16], v: usize) -> TestResult
+    requires { ⌜ Accepted n (now starts) (now neighbours) × (v < n) ⌝ }
+    ensures { λ r. ⌜ r ≡ ofSearches n (neighboursOf (now (starts .entry)) (now (neighbours .entry)))
+        (closed (neighboursOf (now (starts .entry)) (now (neighbours .entry))) v) ⌝ }
+{
+    let own = survey_neighbours::own(n, starts, neighbours, v);
+    let first = search_depths::depth_from(n, starts, neighbours, v);
+    let depth = search_depths::greatest_depth(n, starts, neighbours, first, own);
+    TestResult {
+        verdict: verdict_on(depth),
+        searches: 1 + own.len(),
+    }
+}
+
+// Searches from every hub.
+fn test_hubs(n: usize, s: usize, starts: &[u32], neighbours: &[u16]) -> TestResult
+    requires { ⌜ Accepted n (now starts) (now neighbours) ⌝ }
+    ensures { λ r. ⌜ r ≡ ofSearches n (neighboursOf (now (starts .entry)) (now (neighbours .entry)))
+        (hubs n s (neighboursOf (now (starts .entry)) (now (neighbours .entry)))) ⌝ }
+{
+    let mut list = [0u16; 1024];
+    let searches = table_hubs::choose_hubs(n, s, starts, neighbours, &mut list);
+    let depth = search_depths::greatest_depth(n, starts, neighbours, 0, &list[..searches]);
+    let verdict = verdict_on(depth);
+    TestResult { verdict, searches }
+}
+
+// The test for threshold s: from the smallest low node and its neighbours, or else from the hubs.
 fn run_test(n: usize, s: usize, starts: &[u32], neighbours: &[u16]) -> TestResult
     requires { ⌜ Accepted n (now starts) (now neighbours) ⌝ }
     ensures { λ r. ⌜ r ≡ testResult n s (neighboursOf (now (starts .entry)) (now (neighbours .entry))) ⌝ }
 {
-    let mut list = [0u16; 1024];
-    let searches = find_sources(n, s, starts, neighbours, &mut list);
-    let depth = search_depths::search_depth(n, starts, neighbours, &list[..searches]);
-    TestResult {
-        verdict: verdict_on(depth),
-        searches,
+    let v = smallest_low(n, s, starts, neighbours);
+    if v == NONE as usize {
+        return test_hubs(n, s, starts, neighbours);
     }
+    test_from(n, starts, neighbours, v)
 }
 
 // The two-or-four test of a survey. For every accepted survey it is not refused, and the verdict is right.

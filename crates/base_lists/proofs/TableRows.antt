@@ -52,7 +52,7 @@ pub none-row : (n v : ℕ) → replicate n v ≡ map (λ b. v) (upTo n)
 none-row n v = is-row _ _ _ (length-replicate _ _) (λ i k. getD-replicate n i v 0 k)
 
 -- a table in front of a list
-over-table : (n : ℕ) (f : ℕ → ℕ → ℕ) (t : List ℕ) → over (table n f) t ≡ table n f ++ drop (n * n) t
+pub over-table : (n : ℕ) (f : ℕ → ℕ → ℕ) (t : List ℕ) → over (table n f) t ≡ table n f ++ drop (n * n) t
 unfolding over
 over-table n f t = rw (length-table _ _)
 

@@ -2,7 +2,7 @@
 -- Assumes nothing.
 use mathlib.Core.Path.{_≡_, refl, sym, ap, ap₂, _∙_, fun-ext}
 use mathlib.Core.Logic.{⊎-elim}
-use mathlib.Core.Bool.{Bool, true, false, not, _&&_, _||_, or-comm, and-true}
+use mathlib.Core.Bool.{Bool, true, false, not, _&&_, _||_, or-comm}
 use mathlib.Core.List.{List}
 use Prim.Native.Nat.{ℕ, zero, suc, _+_, _-_, _*_, _/_, _%_, _^_, _<_}
 use native.Mathlib.Nat.{mod-lt, div-one, one-mul, pow-suc, le-of-suc-le-suc, not-suc-le-zero, zero-lt-suc}
@@ -16,7 +16,7 @@ use lib.Pow.{shl-exact, shr-shr, pow-pos}
 use lib.Seq.{getD-set-same, getD-set-other}
 use Rattle.model.proofs.Entries.{getD-same}
 use Rattle.model.proofs.Tests.{eq-or}
-use Rattle.base_nodeset.specs.NodeSet.{Nodes, bit, member, emptySet, inserted, difference}
+use Rattle.base_nodeset.specs.NodeSet.{Nodes, bit, member, emptySet, inserted}
 
 -- two tests agree where each passes when the other does
 pub eqb-same : (a b c d : ℕ) → (a ≡ b → c ≡ d) → (c ≡ d → a ≡ b) → eqb a b ≡ eqb c d
@@ -150,14 +150,3 @@ set-with ws v h =
     set-word ws (v / 64) (bitOr (getD ws (v / 64) 0) (1 * 2 ^ (v % 64) % 2 ^ 64)) h
     (λ x e. rw (e, bit-or, own-bit x v e) (or-comm (bit (getD ws (v / 64) 0) (x % 64)) (eqb x v)))
     (λ x d. rw (other-word x v d))
-
--- the word of node v with the node's bit cleared
-pub set-without : (ws : List ℕ) (v : ℕ) → v / 64 < length ws
-    → member (set ws (v / 64) (bitAnd (getD ws (v / 64) 0) ((2 ^ 64 - 1) - 1 * 2 ^ (v % 64) % 2 ^ 64)))
-    ≡ difference (member ws) (λ x. eqb x v)
-unfolding member difference
-set-without ws v h =
-    let one = 1 * 2 ^ (v % 64) % 2 ^ 64 in
-    set-word ws (v / 64) (bitAnd (getD ws (v / 64) 0) ((2 ^ 64 - 1) - one)) h
-    (λ x e. rw (e, bit-and, bit-not 64 one (x % 64) (mod-lt (1 * 2 ^ (v % 64)) (pow-pos 64)) (omega arith), own-bit x v e))
-    (λ x d. rw (other-word x v d) (sym (and-true (member ws x))))

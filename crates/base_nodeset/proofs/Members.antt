@@ -1,13 +1,14 @@
 -- The set bits of a word: by trailing zeros, by a count of ones, and as what a test keeps. Each is proved by one induction on the number of bits.
 -- Assumes nothing.
-use mathlib.Core.Path.{_≡_, refl, sym, ap, _∙_}
+use mathlib.Core.Path.{_≡_, refl, sym, ap, ap₂, _∙_}
 use mathlib.Core.Logic.{_⊎_, inl, inr, ⊎-elim}
 use mathlib.Core.Bool.{Bool}
 use mathlib.Core.List.{List, [], _∷_, _++_}
-use Prim.Native.Nat.{ℕ, zero, suc, _+_, _-_, _*_, _/_, _%_, _^_, _≤_, _<_}
+use Prim.Native.Nat.{ℕ, zero, suc, _+_, _-_, _*_, _/_, _%_, _^_, _≤_, _<_, min}
 use native.Mathlib.Nat.{pow-suc, add-zero, zero-add, add-suc, suc-add}
 use native.Mathlib.Omega.{arith}
 use lib.Arith.{lt-one}
+use lib.Bits.{bitAnd, and-step, and-self}
 use lib.Count.{ones, ones-step, trailingZeros}
 use lib.Dec.{eqb}
 use lib.ListN.{length}
@@ -81,6 +82,33 @@ lowest zero u w p h = absurd (omega arith)
 lowest (suc k) u w p h =
     let twice : 2 ^ suc k ≡ 2 ^ k * 2 = pow-suc _ _ in
     ⊎-elim (lowest-odd p) (λ o. lowest-even o (lowest k (suc u) (w / 2) (omega arith) (omega arith))) (odd-or _)
+
+-- a word and the number before it have all set bits in common but the lowest
+cleared-odd : (k w : ℕ) → w % 2 ≡ 1 → bitAnd w (w - 1) ≡ w - 2 ^ trailingZeros (suc k) w
+cleared-odd k w o =
+    let half : (w - 1) / 2 ≡ w / 2 = omega arith in
+    let least : min (w % 2) ((w - 1) % 2) ≡ 0 = omega arith in
+    and-step w (w - 1)
+    ∙ ap₂ (λ (x y : ℕ). bitAnd (w / 2) x * 2 + y) half least
+    ∙ ap (λ (x : ℕ). x * 2 + 0) (and-self (w / 2))
+    ∙ rw (trailing-odd k w o) (omega arith)
+
+cleared-even : (k w : ℕ) → 0 < w → w % 2 ≡ 0 → bitAnd (w / 2) (w / 2 - 1) ≡ w / 2 - 2 ^ trailingZeros k (w / 2)
+    → bitAnd w (w - 1) ≡ w - 2 ^ trailingZeros (suc k) w
+cleared-even k w p o h =
+    let half : (w - 1) / 2 ≡ w / 2 - 1 = omega arith in
+    let least : min (w % 2) ((w - 1) % 2) ≡ 0 = omega arith in
+    let twice : 2 ^ suc (trailingZeros k (w / 2)) ≡ 2 ^ trailingZeros k (w / 2) * 2 = pow-suc _ _ in
+    and-step w (w - 1)
+    ∙ ap₂ (λ (x y : ℕ). bitAnd (w / 2) x * 2 + y) half least
+    ∙ ap (λ (x : ℕ). x * 2 + 0) h
+    ∙ rw (trailing-even k w o) (omega (arith, twice))
+
+pub lowest-cleared : (k w : ℕ) → 0 < w → w < 2 ^ k → bitAnd w (w - 1) ≡ w - 2 ^ trailingZeros k w
+lowest-cleared zero w p h = absurd (omega arith)
+lowest-cleared (suc k) w p h =
+    let twice : 2 ^ suc k ≡ 2 ^ k * 2 = pow-suc _ _ in
+    ⊎-elim (cleared-odd k w) (λ o. cleared-even k w p o (lowest-cleared k (w / 2) (omega arith) (omega arith))) (odd-or _)
 
 -- the ones of a word of k bits are as many as its set bits
 pub ones-members : (k u w : ℕ) → w < 2 ^ k → length (membersFrom k u w) ≡ ones w

@@ -1,15 +1,15 @@
 -- Loops over the words of sets: counting, removing, finding the smallest member, filling.
 -- Assumes nothing.
-use mathlib.Core.Path.{_≡_, refl, sym, ap, ap₂, _∙_, fun-ext}
+use mathlib.Core.Path.{_≡_, refl, sym, ap, _∙_, fun-ext}
 use mathlib.Core.Logic.{⊎-elim}
-use mathlib.Core.Bool.{Bool, true, false, _&&_}
+use mathlib.Core.Bool.{Bool, true, false}
 use mathlib.Core.List.{List, [], _∷_, _++_}
 use Prim.Native.Nat.{ℕ, zero, suc, _+_, _-_, _*_, _/_, _%_, _^_, _≤_, _<_}
-use native.Mathlib.Nat.{lt-of-le-of-lt, pow-suc}
+use native.Mathlib.Nat.{pow-suc}
 use native.Mathlib.Omega.{arith}
 use borrow.Author.Tests.{lt-ltb, le-ltb, eq-eqb}
-use lib.Bits.{bitAnd, and-le-l}
-use lib.Count.{ones, ones-le, trailingZeros}
+use lib.Bits.{bitAnd}
+use lib.Count.{ones, trailingZeros}
 use lib.Dec.{T, ltb}
 use lib.ListN.{length, getD, set, length-set, length-append, replicate, List·getD-eq-default}
 use lib.Pow.{pow-pos}
@@ -30,47 +30,35 @@ next-word f i w h =
     ap (λ (n : ℕ). keep f (upTo n)) e ∙ row-word _ _ _ h
 
 -- no node past the words is in their set
-member-past : (ws : List ℕ) (x : ℕ) → length ws ≤ x / 64 → member ws x ≡ false
+pub member-past : (ws : List ℕ) (x : ℕ) → length ws ≤ x / 64 → member ws x ≡ false
 unfolding member
 member-past ws x h = rw (List·getD-eq-default ws 0 h, bit-of-zero)
 
--- ---- the size of an intersection
+-- ---- the size of a set
 
-pub record Counted (a b : List ℕ) (total i : ℕ) : Type 0 where
-  pub within : i ≤ length a
-  pub count : total ≡ length (keep (intersection (member a) (member b)) (upTo (64 * i)))
+pub record Total (ws : List ℕ) (total i : ℕ) : Type 0 where
+  pub within : i ≤ length ws
+  pub count : total ≡ length (keep (member ws) (upTo (64 * i)))
 
-pub counted-none : {a b : List ℕ} → Counted a b 0 0
+pub total-none : {ws : List ℕ} → Total ws 0 0
 unfolding upTo from keep
-counted-none = record { within = omega arith; count = refl }
+total-none = record { within = omega arith; count = refl }
 
--- a word of an intersection
-both-small : (x y : ℕ) → x < 2 ^ 64 → bitAnd x y < 2 ^ 64
-both-small x y h = lt-of-le-of-lt (and-le-l x y) h
+module _ {ws : List ℕ} {total i : ℕ} (c : Total ws total i) where
+  pub total-few : total ≤ 64 * i
+  total-few = omega (arith, c .count, keep-length (member ws) (upTo (64 * i)), length-upTo (64 * i))
 
-pub ones-few : (x y : ℕ) → x < 2 ^ 64 → ones (bitAnd x y) ≤ 64
-ones-few x y h = ones-le _ _ (both-small x y h)
-
-module _ {a b : List ℕ} {total i : ℕ} (c : Counted a b total i) where
-  abbrev both : Nodes
-  both = intersection (member a) (member b)
-
-  pub counted-few : total ≤ 64 * i
-  counted-few = omega (arith, c .count, keep-length both (upTo (64 * i)), length-upTo (64 * i))
-
-  pub counted-more : i < length a → getD a i 0 < 2 ^ 64 → Counted a b (total + ones (bitAnd (getD a i 0) (getD b i 0))) (i + 1)
-  unfolding intersection
-  counted-more h l =
-      let w = bitAnd (getD a i 0) (getD b i 0) in
-      let e = next-word _ _ _ (λ k q. ap₂ _&&_ (word-bit _ _ _ q) (word-bit _ _ _ q) ∙ sym (bit-and _ _ _)) in
-      let m = ones-members 64 (64 * i) w (both-small (getD a i 0) (getD b i 0) l) in
+  pub total-more : i < length ws → getD ws i 0 < 2 ^ 64 → Total ws (total + ones (getD ws i 0)) (i + 1)
+  total-more h l =
+      let e = next-word _ _ _ (λ k q. word-bit ws i k q) in
+      let m = ones-members 64 (64 * i) (getD ws i 0) l in
       record {
         within = omega arith;
-        count = omega (arith, c .count, ap length e ∙ length-append (keep both (upTo (64 * i))) (membersFrom 64 (64 * i) w), m);
+        count = omega (arith, c .count, ap length e ∙ length-append (keep (member ws) (upTo (64 * i))) (membersFrom 64 (64 * i) (getD ws i 0)), m);
       }
 
-  pub counted-all : length a ≤ i → total ≡ length (keep both (upTo (64 * length a)))
-  counted-all h = let e : i ≡ length a = omega (arith, c .within) in c .count ∙ rw e
+  pub total-all : length ws ≤ i → total ≡ length (keep (member ws) (upTo (64 * length ws)))
+  total-all h = let e : i ≡ length ws = omega (arith, c .within) in c .count ∙ rw e
 
 -- ---- sets that are written word by word
 

@@ -1,10 +1,10 @@
 // Sets of nodes as 64-bit words: node v is bit v % 64 of word v / 64.
 ghost use mathlib.Core.Path.{_≡_};
-ghost use Prim.Native.Nat.{_*_, _/_, _^_, _<_, _≤_};
-ghost use lib.Dec.{eqb, ltb};
-ghost use lib.ListN.{length, replicate};
-ghost use Rattle.model.specs.Basics.{upTo, keep, firstOf};
-ghost use Rattle.base_nodeset.specs.NodeSet.{member, inserted, intersection, difference};
+ghost use Prim.Native.Nat.{ℕ, _*_, _/_, _^_, _<_, _≤_};
+ghost use lib.Dec.{T, ltb};
+ghost use lib.ListN.{length, getD, replicate};
+ghost use Rattle.model.specs.Basics.{if_then_else_, upTo, has, keep, firstOf};
+ghost use Rattle.base_nodeset.specs.NodeSet.{member, inserted, intersection, difference, membersFrom};
 
 pub fn insert(words: &mut [u64], v: usize)
     requires { ⌜ v / 64 < length (now words) ⌝ }
@@ -13,15 +13,6 @@ pub fn insert(words: &mut [u64], v: usize)
     let i = v / 64;
     let k = v % 64;
     words[i] = words[i] | (1u64 << k);
-}
-
-pub fn remove(words: &mut [u64], v: usize)
-    requires { ⌜ v / 64 < length (now words) ⌝ }
-    ensures { λ _. ⌜ member (now (words .exit)) ≡ difference (member (now (words .entry))) (λ x. eqb x v) ⌝ }
-{
-    let i = v / 64;
-    let k = v % 64;
-    words[i] = words[i] & !(1u64 << k);
 }
 
 pub fn contains(words: &[u64], v: usize) -> bool
@@ -33,16 +24,15 @@ pub fn contains(words: &[u64], v: usize) -> bool
     (words[i] >> k) % 2 == 1
 }
 
-// The size of the intersection of two sets: ones are counted word by word.
-pub fn count_intersection(a: &[u64], b: &[u64]) -> usize
-    requires { ⌜ (length (now a) ≡ length (now b)) × (64 * length (now a) < 2 ^ 32) ⌝ }
-    ensures { λ r. ⌜ r ≡ length (keep (intersection (member (now (a .entry))) (member (now (b .entry))))
-        (upTo (64 * length (now (a .entry))))) ⌝ }
+// How many members a set has: ones are counted word by word.
+pub fn count(words: &[u64]) -> usize
+    requires { ⌜ 64 * length (now words) < 2 ^ 32 ⌝ }
+    ensures { λ r. ⌜ r ≡ length (keep (member (now (words .entry))) (upTo (64 * length (now (words .entry))))) ⌝ }
 {
     let mut total = 0;
     let mut i = 0;
-    while i < a.len() {
-        total += u64::count_ones(a[i] & b[i]) as usize;
+    while i < words.len() {
+        total += u64::count_ones(words[i]) as usize;
         i += 1;
     }
     total
@@ -103,5 +93,33 @@ pub fn insert_below(words: &mut [u64], n: usize)
     }
     if k != 0 {
         words[last] = (1u64 << k) - 1;
+    }
+}
+
+// The entries that the set bits of a word name become the value, where its lowest bit names entry `base`.
+fn write_word(word: u64, base: usize, value: u16, list: &mut [u16])
+    requires { ⌜ ((v : ℕ) → T (has v (membersFrom 64 base word)) → v < length (now list)) ⌝ }
+    ensures { λ _. ⌜ ((x : ℕ) → getD (now (list .exit)) x 0
+        ≡ (if has x (membersFrom 64 base word) then value else getD (now (list .entry)) x 0)) ⌝ }
+{
+    let mut left = word;
+    while left != 0 {
+        let t = u64::trailing_zeros(left);
+        let v = base + t as usize;
+        list[v] = value;
+        left = left - (1u64 << t);
+    }
+}
+
+// The entries of all members become the value.
+pub fn write_members(words: &[u64], value: u16, list: &mut [u16])
+    requires { ⌜ (64 * length (now words) < 2 ^ 32) × ((v : ℕ) → T (member (now words) v) → v < length (now list)) ⌝ }
+    ensures { λ _. ⌜ ((x : ℕ) → getD (now (list .exit)) x 0
+        ≡ (if member (now (words .entry)) x then value else getD (now (list .entry)) x 0)) ⌝ }
+{
+    let mut i = 0;
+    while i < words.len() {
+        write_word(words[i], 64 * i, value, list);
+        i += 1;
     }
 }

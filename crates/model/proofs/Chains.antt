@@ -73,7 +73,7 @@ module _ (E : Edges) (n a : ℕ) where
   Stable j = (v : ℕ) → Reached (suc j) v → Reached j v
 
   -- a node that is reached with k + 1 links is reached with k, or linked from one that is
-  grown : (k v : ℕ) → Reached (suc k) v → (v < n) × (Reached k v ⊎ ((u : ℕ) × Reached k u × T (E u v)))
+  pub grown : (k v : ℕ) → Reached (suc k) v → (v < n) × (Reached k v ⊎ ((u : ℕ) × Reached k u × T (E u v)))
   unfolding reach
   grown k v h =
       let r = reach E n a k in
@@ -146,6 +146,10 @@ module _ (E : Edges) (n a : ℕ) where
     unfolding count
     settled = ⊎-elim (λ s. s)
         (λ c. absurd (omega (arith, keep-length (λ v. has v (reach E n a n)) (upTo n), length-upTo n))) (layers _)
+
+    -- and what is reached at all is reached with fewer than n links
+    pub reached-below : (k v : ℕ) → Reached k v → (j : ℕ) × (j < n) × Reached j v
+    reached-below k v h = let s = settled in (s .0, s .1, stable _ (s .2) _ _ h)
 
     -- what the search for b finds, and what it misses
     pub fewest-cases : (b : ℕ) → ((fewest E n a b < n) × Fewest E a b (fewest E n a b)) ⊎ ((fewest E n a b ≡ none) × Unjoined E a b)

@@ -8,12 +8,12 @@ use native.Mathlib.Nat.{le-antisymm}
 use borrow.Author.Tests.{lt-ltb}
 use lib.Dec.{T, ltb}
 use Rattle.model.specs.Basics.{none, if_then_else_, has}
-use Rattle.model.specs.Graph.{Edges, between, Chain, Fewest, fewest, linked}
+use Rattle.model.specs.Graph.{Edges, between, Chain, here, link, Fewest, fewest, linked}
 use Rattle.model.specs.Survey.{Graph, IsGraph}
 use Rattle.model.specs.Hubs.{isLow, hubs}
 use Rattle.model.specs.Tables.{table, entryAt, fullTable, lowLinks, lowTable}
 use Rattle.model.proofs.Tests.{and-l, and-r, and-i, passes, no-false}
-use Rattle.model.proofs.Chains.{fewest-is, fewest-cases}
+use Rattle.model.proofs.Chains.{fewest-is, fewest-cases, fewest-missing}
 use Rattle.model.proofs.Acceptance.{linked-is, linked-ends}
 use Rattle.model.proofs.Entries.{entry-table}
 
@@ -33,6 +33,18 @@ between-same p q n G e = fun-ext (λ a. fun-ext (λ b. at a b (passes (linked n 
 pub all-allowed : (p : ℕ → Bool) (n : ℕ) (G : Graph) → p ≡ (λ v. ltb v n) → between p (linked n G) ≡ linked n G
 all-allowed p n G e =
     between-same _ _ _ _ (λ v h. ap (λ (f : ℕ → Bool). f v) e ∙ lt-ltb _ _ h)
+
+-- links between allowed nodes: a chain from an allowed node ends at one, so a search from it misses the others
+module _ (p : ℕ → Bool) where
+  pub chain-allowed : (E : Edges) {k a b : ℕ} → Chain (between p E) k a b → T (p a) → T (p b)
+  chain-allowed E here t = t
+  chain-allowed E (link {a = a} {b = b} u r) t = chain-allowed E r (and-r (p a) (p b) (and-l (p a && p b) (E a b) u))
+
+  pub between-ends : (n : ℕ) (G : Graph) (u v : ℕ) → u < n → T (between p (linked n G) u v) → v < n
+  between-ends n G u v h t = linked-ends n G u v h (and-r (p u && p v) (linked n G u v) t)
+
+  pub between-missed : (n : ℕ) (G : Graph) (a b : ℕ) → a < n → T (p a) → (T (p b) → ⊥) → fewest (between p (linked n G)) n a b ≡ none
+  between-missed n G a b h t f = fewest-missing _ n a (between-ends n G) h b (λ k c. f (chain-allowed _ c t))
 
 pub fewest-unique : {E : Edges} {a b d e : ℕ} → Fewest E a b d → Fewest E a b e → d ≡ e
 fewest-unique {d = d} {e = e} p q = le-antisymm (p .1 e (q .0)) (q .1 d (p .0))

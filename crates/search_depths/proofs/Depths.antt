@@ -1,19 +1,15 @@
 -- The greatest of the distances, search by search.
 -- Assumes nothing.
-use mathlib.Core.Path.{_≡_, ap, _∙_}
-use mathlib.Core.Bool.{Bool}
+use mathlib.Core.Path.{_≡_, sym, ap, _∙_}
 use mathlib.Core.List.{List, [], _∷_, _++_, map}
 use Prim.Native.Nat.{ℕ, _+_, _≤_, _<_, max}
 use native.Mathlib.Omega.{arith}
-use lib.Dec.{ltb}
-use lib.ListN.{length, getD, take, drop, drop-of-length-le, length-append, length-drop}
-use lib.Seq.{take-at}
+use lib.ListN.{length, getD, take, drop, replicate, drop-of-length-le, length-replicate, getD-replicate}
+use lib.Seq.{ext-getD, getD-take, length-take-le}
 use Rattle.model.specs.Basics.{none, upTo, gather}
-use Rattle.model.specs.Graph.{Edges, between, fewest, linked}
+use Rattle.model.specs.Graph.{Edges, fewest, linked}
 use Rattle.model.specs.Survey.{Graph}
 use Rattle.model.specs.Tables.{rowsOf}
-use Rattle.model.proofs.Entries.{length-row}
-use Rattle.model.proofs.TableLaws.{all-allowed}
 use Rattle.model.proofs.Lists.{first-most}
 use Rattle.model.proofs.Loops.{drop-next}
 use Rattle.search_depths.specs.Depth.{greatest}
@@ -61,36 +57,40 @@ module _ {row : List ℕ} {i most : ℕ} (m : RowMost row i most) where
 abbrev rows : ℕ → Graph → List ℕ → List ℕ
 rows n G hs = rowsOf n (fewest (linked n G) n) hs
 
-pub record SearchMost (n : ℕ) (G : Graph) (hs : List ℕ) (i most : ℕ) : Type 0 where
+-- the first source, and the others
+pub greatest-first : (n : ℕ) (G : Graph) (h : ℕ) (hs : List ℕ)
+    → greatest (rowsOf n (fewest (linked n G) n) (h ∷ hs))
+    ≡ max (greatest (map (fewest (linked n G) n h) (upTo n))) (greatest (rowsOf n (fewest (linked n G) n) hs))
+unfolding rowsOf gather
+greatest-first n G h hs = greatest-append (map (fewest (linked n G) n h) (upTo n)) (rows n G hs)
+
+pub record SearchMost (n : ℕ) (G : Graph) (most₀ : ℕ) (hs : List ℕ) (i most : ℕ) : Type 0 where
   pub within : i ≤ length hs
-  pub all : max most (greatest (rows n G (drop i hs))) ≡ greatest (rows n G hs)
+  pub all : max most (greatest (rows n G (drop i hs))) ≡ max most₀ (greatest (rows n G hs))
 
-module _ {n : ℕ} {G : Graph} {hs : List ℕ} {i most : ℕ} (m : SearchMost n G hs i most) where
+module _ {n : ℕ} {G : Graph} {most₀ : ℕ} {hs : List ℕ} {i most : ℕ} (m : SearchMost n G most₀ hs i most) where
   pub search-turn : i < length hs → {deep most′ : ℕ} → deep ≡ greatest (map (fewest (linked n G) n (getD hs i 0)) (upTo n))
-      → most′ ≡ max most deep → SearchMost n G hs (i + 1) most′
-  unfolding rowsOf gather
+      → most′ ≡ max most deep → SearchMost n G most₀ hs (i + 1) most′
   search-turn h e f =
-      let row : List ℕ = map (fewest (linked n G) n (getD hs i 0)) (upTo n) in
-      let next : rows n G (drop i hs) ≡ row ++ rows n G (drop (i + 1) hs) = ap (rows n G) (drop-next hs i h) in
-      record { within = omega arith; all = omega (arith, ap greatest next ∙ greatest-append row (rows n G (drop (i + 1) hs))) }
+      let next = ap (λ (l : List ℕ). greatest (rows n G l)) (drop-next hs i h) ∙ greatest-first n G (getD hs i 0) (drop (i + 1) hs) in
+      record { within = omega arith; all = omega (arith, next, m .all) }
 
-  pub search-end : length hs ≤ i → most ≡ greatest (rows n G hs)
+  pub search-end : length hs ≤ i → most ≡ max most₀ (greatest (rows n G hs))
   unfolding rowsOf gather greatest
-  search-end h = omega (arith, ap (λ (l : List ℕ). greatest (rows n G l)) (drop-of-length-le hs h))
+  search-end h = omega (arith, ap (λ (l : List ℕ). greatest (rows n G l)) (drop-of-length-le hs h), m .all)
 
   -- once a node is missed, no other search finds a greater distance
-  pub search-none : n ≤ 1024 → most ≡ none → none ≡ greatest (rows n G hs)
+  pub search-none : n ≤ 1024 → most ≡ none → none ≡ max most₀ (greatest (rows n G hs))
   search-none size e =
-      omega (arith, greatest-bounded n (fewest (linked n G) n) (λ a b. fewest-small _ _ _ _ (omega arith)) (drop i hs))
+      omega (arith, greatest-bounded n (fewest (linked n G) n) (λ a b. fewest-small _ _ _ _ (omega arith)) (drop i hs), m .all)
 
--- ---- a search fills the front of the row
+-- ---- a search fills the front of a row of none
 
-pub row-searched : (n : ℕ) (G : Graph) {p : ℕ → Bool} → p ≡ (λ v. ltb v n) → (h : ℕ) (row : List ℕ) {part : List ℕ}
-    → part ≡ map (fewest (between p (linked n G)) n h) (upTo n) → take n (part ++ drop n row) ≡ map (fewest (linked n G) n h) (upTo n)
-row-searched n G {p} e h row {part} q =
-    take-at _ _ _ (ap length q ∙ length-row _ _)
-    ∙ q
-    ∙ ap (λ (E : Edges). map (fewest E n h) (upTo n)) (all-allowed p n G e)
-
-pub row-kept : (n : ℕ) (row part : List ℕ) → n ≤ 1024 → length row ≡ 1024 → length part ≡ n → length (part ++ drop n row) ≡ 1024
-row-kept n row part h l k = length-append part (drop n row) ∙ omega (arith, length-drop n row)
+pub front-none : (n m : ℕ) → n ≤ m → take n (replicate m none) ≡ replicate n none
+front-none n m h =
+    let long : length (take n (replicate m none)) ≡ n = length-take-le n (replicate m none) (rw length-replicate h) in
+    ext-getD 0 _ _ (long ∙ sym (length-replicate n none))
+    (λ i l.
+    getD-take n _ i 0 (omega (arith, long))
+    ∙ getD-replicate m i none 0 (omega (arith, long))
+    ∙ sym (getD-replicate n i none 0 (omega (arith, long))))

@@ -2,23 +2,23 @@
 -- Assumes nothing.
 use mathlib.Core.Path.{_≡_, refl, sym, ap, _∙_, subst, subst₂}
 use mathlib.Core.Logic.{_⊎_, inl, inr, ⊎-elim}
-use mathlib.Core.Bool.{Bool, true, false, _&&_}
+use mathlib.Core.Bool.{Bool, true, false}
 use mathlib.Core.List.{List, [], _∷_, map}
 use Prim.Native.Nat.{ℕ, _+_, _≤_, _<_}
 use native.Mathlib.Nat.{le-refl, le-trans}
 use native.Mathlib.Numerals.{add-one}
 use native.Mathlib.Omega.{arith}
-use borrow.Author.Tests.{eqb-true, eqb-false}
+use borrow.Author.Tests.{eqb-true, eqb-false, eq-eqb, ne-eqb}
 use lib.Dec.{T, eqb}
-use lib.ListN.{length, getD, length-set}
-use lib.Seq.{getD-set-same, getD-set-other, ext-getD}
+use lib.ListN.{length, getD, length-set, length-append, List·getD-append}
+use lib.Seq.{getD-set-same, getD-set-other, getD-at}
 use Rattle.model.specs.Basics.{none, if_then_else_, has, upTo}
 use Rattle.model.specs.Graph.{Edges, Chain, here, link, Unjoined, Fewest, fewest}
 use Rattle.model.proofs.Tests.{eq-or, lt-or}
 use Rattle.model.proofs.Lists.{none-in, of-single, of-cons, has-head, has-tail}
 use Rattle.model.proofs.Loops.{below-next}
-use Rattle.model.proofs.Entries.{getD-row, length-row}
 use Rattle.model.proofs.Chains.{snoc, fewest-of, fewest-missing}
+use Rattle.base_lists.proofs.TableRows.{is-row}
 use Rattle.search_queue.specs.Visiting.{Progress, unreached, joined, visited, visitedAll}
 use Rattle.search_queue.proofs.Visiting.{unreached-set, some-unreached}
 
@@ -40,18 +40,20 @@ Queued p v = (i : ℕ) × (i < p .tail) × (at p i ≡ v)
 abbrev pub Within : Progress → ℕ → ℕ → Type 0
 Within p d v = (i : ℕ) × (i < p .tail) × (at p i ≡ v) × (dist p i ≤ d)
 
--- a search from s over n nodes, between two turns: the nodes of the queue before the head were taken
-pub record Invariant (E : Edges) (s n : ℕ) (p : Progress) (head : ℕ) : Type 0 where
-  -- sizes: as many nodes are in the queue as have a distance
-  pub few : n ≤ 1024
+-- a search from s over the n nodes of a row, between two turns: the nodes of the queue before the head were taken. At the start the entries
+-- of c nodes, which the search may enter, were none
+pub record Invariant (E : Edges) (s n : ℕ) (row₀ : List ℕ) (c : ℕ) (p : Progress) (head : ℕ) : Type 0 where
+  -- sizes: as many nodes are in the queue as have got a distance
+  pub few : c ≤ 1024
   pub row-length : length (p .row) ≡ n
-  pub queue-length : length (p .queue) ≡ 1024
-  pub count : p .tail + unreached (p .row) ≡ n
-  -- the queue holds the nodes that have a distance, the source first
+  pub queue-length : length (p .queue) ≡ p .tail
+  pub count : p .tail + unreached (p .row) ≡ c
+  -- the queue holds the nodes that have got a distance, the source first; the entries of the nodes that may not be entered stay
   pub some : 0 < p .tail
   pub source : at p 0 ≡ s
   pub node : (i : ℕ) → i < p .tail → at p i < n
-  pub queued : (v : ℕ) → v < n → (away p v ≡ none → ⊥) → Queued p v
+  pub queued : (v : ℕ) → v < n → getD row₀ v 0 ≡ none → (away p v ≡ none → ⊥) → Queued p v
+  pub closed : (v : ℕ) → (getD row₀ v 0 ≡ none → ⊥) → away p v ≡ getD row₀ v 0
   -- the distances: small, each that of a chain, never falling along the queue, and at most one above that of a node not yet taken
   pub small : (i : ℕ) → i < p .tail → dist p i ≤ i
   pub chain : (i : ℕ) → i < p .tail → Chain E (dist p i) s (at p i)
@@ -81,8 +83,8 @@ queued-grown g r = (r .0, le-trans (r .1) (g .longer), g .same-at (r .0) (r .1) 
 
 -- ---- a node without a distance, linked to the node at the head, joins the queue
 
-module _ {E : Edges} {s n : ℕ} {p : Progress} {head : ℕ} (S : Invariant E s n p head) (l : head < p .tail) (w : ℕ) (hw : w < n)
-    (new : away p w ≡ none) (t : T (E (at p head) w)) where
+module _ {E : Edges} {s n : ℕ} {row₀ : List ℕ} {c : ℕ} {p : Progress} {head : ℕ} (S : Invariant E s n row₀ c p head)
+    (l : head < p .tail) (w : ℕ) (hw : w < n) (new : away p w ≡ none) (t : T (E (at p head) w)) where
   abbrev d : ℕ
   d = dist p head + 1
 
@@ -100,14 +102,14 @@ module _ {E : Edges} {s n : ℕ} {p : Progress} {head : ℕ} (S : Invariant E s 
 
   -- the nodes that were in the queue, and their distances
   old-at : (i : ℕ) → i < p .tail → at p′ i ≡ at p i
-  old-at i h = getD-set-other (p .queue) (p .tail) i w 0 (λ e. omega arith)
+  old-at i h = List·getD-append (p .queue) (w ∷ []) 0 i (omega (arith, S .queue-length))
 
   old-dist : (i : ℕ) → i < p .tail → dist p′ i ≡ dist p i
   old-dist i h = ap (away p′) (old-at _ h) ∙ getD-set-other (p .row) w _ d 0 (other h)
 
   -- the node that joins it, with the greatest distance
   new-at : at p′ (p .tail) ≡ w
-  new-at = getD-set-same (p .queue) (p .tail) w 0 (omega (arith, S .queue-length, room))
+  new-at = getD-at (p .queue) w [] 0 (p .tail) (S .queue-length)
 
   new-dist : dist p′ (p .tail) ≡ d
   new-dist = ap (away p′) new-at ∙ getD-set-same (p .row) w d 0 in-row
@@ -140,12 +142,16 @@ module _ {E : Edges} {s n : ℕ} {p : Progress} {head : ℕ} (S : Invariant E s 
       (λ g. omega (arith, new-greatest j m))
       i k h
 
-  join-all : (v : ℕ) → v < n → (away p′ v ≡ none → ⊥) → Queued p′ v
-  join-all v h f = go (eq-or _ _)
+  join-all : (v : ℕ) → v < n → getD row₀ v 0 ≡ none → (away p′ v ≡ none → ⊥) → Queued p′ v
+  join-all v h o f = go (eq-or _ _)
     where
       go : (v ≡ w) ⊎ (v ≡ w → ⊥) → Queued p′ v
       go (inl e) = (p .tail, omega arith, new-at ∙ sym e)
-      go (inr k) = queued-grown join-grown (S .queued v h (λ e. f (getD-set-other (p .row) w v d 0 k ∙ e)))
+      go (inr k) = queued-grown join-grown (S .queued v h o (λ e. f (getD-set-other (p .row) w v d 0 k ∙ e)))
+
+  join-closed : (v : ℕ) → (getD row₀ v 0 ≡ none → ⊥) → away p′ v ≡ getD row₀ v 0
+  join-closed v f =
+      getD-set-other (p .row) w v d 0 (λ (e : v ≡ w). f (sym (S .closed v f) ∙ ap (away p) e ∙ new)) ∙ S .closed v f
 
   join-taken : {i x : ℕ} → i < head → T (E (at p′ i) x) → Within p′ (dist p′ i + 1) x
   join-taken {i} {x} h u =
@@ -153,16 +159,17 @@ module _ {E : Edges} {s n : ℕ} {p : Progress} {head : ℕ} (S : Invariant E s 
       let r = S .taken i x h a (rw (old-at i a) at u) in
       (r .0, omega (arith, r .1), old-at (r .0) (r .1) ∙ r .2, omega (arith, old-dist (r .0) (r .1), old-dist i a, r .3))
 
-  join : Invariant E s n p′ head
+  join : Invariant E s n row₀ c p′ head
   join = record {
     few = S .few;
     row-length = length-set (p .row) w d ∙ S .row-length;
-    queue-length = length-set (p .queue) (p .tail) w ∙ S .queue-length;
+    queue-length = length-append (p .queue) (w ∷ []) ∙ omega (arith, S .queue-length);
     count = omega (arith, S .count, unreached-set (p .row) w d in-row new (λ e. omega (arith, S .small head l, room)));
     some = omega arith;
     source = old-at _ (S .some) ∙ S .source;
     node = below-next (λ (i : ℕ). at p′ i < n) (p .tail) (λ i h. rw (old-at i h) (S .node i h)) (rw new-at hw);
     queued = join-all;
+    closed = join-closed;
     small =
         below-next (λ (i : ℕ). dist p′ i ≤ i) (p .tail) (λ i h. rw (old-dist i h) (S .small i h))
         (omega (arith, new-dist, S .small head l));
@@ -177,50 +184,54 @@ module _ {E : Edges} {s n : ℕ} {p : Progress} {head : ℕ} (S : Invariant E s 
 
 -- ---- a node, and each node of a list, is visited
 
-pub record Kept (E : Edges) (s n : ℕ) (allowed : ℕ → Bool) (p : Progress) (head : ℕ) (ws : List ℕ) (q : Progress) : Type 0 where
-  pub inv : Invariant E s n q head
+pub record Kept (E : Edges) (s n : ℕ) (row₀ : List ℕ) (c : ℕ) (p : Progress) (head : ℕ) (ws : List ℕ) (q : Progress) : Type 0 where
+  pub inv : Invariant E s n row₀ c q head
   pub grown : Grown p q
-  pub found : (w : ℕ) → T (has w ws) → T (allowed w) → Queued q w
+  pub found : (w : ℕ) → T (has w ws) → getD row₀ w 0 ≡ none → Queued q w
 
-module _ {E : Edges} {s n head : ℕ} (allowed : ℕ → Bool) where
-  one : {p : Progress} {d w : ℕ} → Invariant E s n p head → head < p .tail → d ≡ dist p head + 1 → w < n
-      → (T (allowed w) → T (E (at p head) w)) → Kept E s n allowed p head (w ∷ []) (visited allowed d w p)
+module _ {E : Edges} {s n : ℕ} {row₀ : List ℕ} {c head : ℕ} where
+  -- a node whose entry is none may be entered
+  is-open : {p : Progress} → Invariant E s n row₀ c p head → (w : ℕ) → away p w ≡ none → getD row₀ w 0 ≡ none
+  is-open S w e = ⊎-elim (λ o. o) (λ f. sym (S .closed w f) ∙ e) (eq-or _ _)
+
+  one : {p : Progress} {d w : ℕ} → Invariant E s n row₀ c p head → head < p .tail → d ≡ dist p head + 1 → w < n
+      → (getD row₀ w 0 ≡ none → T (E (at p head) w)) → Kept E s n row₀ c p head (w ∷ []) (visited d w p)
   unfolding visited
-  one {p} {d} {w} S l e hw ok = go (eqb (away p w) none) (allowed w) refl refl ok
+  one {p} {d} {w} S l e hw ok = go (eqb (away p w) none) refl
     where
-      only : (q : Progress) → (T (allowed w) → Queued q w) → (x : ℕ) → T (has x (w ∷ [])) → T (allowed x) → Queued q x
-      only q f x m = subst (λ (y : ℕ). T (allowed y) → Queued q y) (sym (of-single x w m)) f
+      only : (q : Progress) → (getD row₀ w 0 ≡ none → Queued q w) → (x : ℕ) → T (has x (w ∷ [])) → getD row₀ x 0 ≡ none → Queued q x
+      only q f x m = subst (λ (y : ℕ). getD row₀ y 0 ≡ none → Queued q y) (sym (of-single x w m)) f
 
-      go : (a b : Bool) → eqb (away p w) none ≡ a → allowed w ≡ b → (T b → T (E (at p head) w))
-          → Kept E s n allowed p head (w ∷ []) (if a && b then joined d w p else p)
-      go true true g h ok =
+      go : (b : Bool) → eqb (away p w) none ≡ b → Kept E s n row₀ c p head (w ∷ []) (if b then joined d w p else p)
+      go true g =
           let new = eqb-true (away p w) none g in
-          let queued = only (joined (dist p head + 1) w p) (λ u. join-queued S l w hw new (ok tt)) in
-          rw e (record { inv = join S l w hw new (ok tt); grown = join-grown S l w hw new (ok tt); found = queued })
-      go true false g h ok = record { inv = S; grown = grown-refl p; found = only p (λ u. absurd (subst T h u)) }
-      go false b g h ok = record { inv = S; grown = grown-refl p; found = only p (λ u. S .queued w hw (eqb-false (away p w) none g)) }
+          let t = ok (is-open S w new) in
+          let queued = only (joined (dist p head + 1) w p) (λ o. join-queued S l w hw new t) in
+          rw e (record { inv = join S l w hw new t; grown = join-grown S l w hw new t; found = queued })
+      go false g = record { inv = S; grown = grown-refl p; found = only p (λ o. S .queued w hw o (eqb-false (away p w) none g)) }
 
-  pub all-keep : (ws : List ℕ) (p : Progress) (d : ℕ) → Invariant E s n p head → head < p .tail → d ≡ dist p head + 1
-      → ((w : ℕ) → T (has w ws) → (w < n) × (T (allowed w) → T (E (at p head) w)))
-      → Kept E s n allowed p head ws (visitedAll allowed d ws p)
+  pub all-keep : (ws : List ℕ) (p : Progress) (d : ℕ) → Invariant E s n row₀ c p head → head < p .tail → d ≡ dist p head + 1
+      → ((w : ℕ) → T (has w ws) → (w < n) × (getD row₀ w 0 ≡ none → T (E (at p head) w)))
+      → Kept E s n row₀ c p head ws (visitedAll d ws p)
   unfolding visitedAll
   all-keep [] p d S l e ok = record { inv = S; grown = grown-refl _; found = λ w h. absurd (none-in w h) }
   all-keep (w ∷ ws) p d S l e ok =
       let o = ok w (has-head _ _) in
       let a = one S l e (o .0) (o .1) in
-      let b = all-keep ws (visited allowed d w p) d (a .inv) (omega (arith, a .grown .longer)) (omega (arith, a .grown .same-dist head l))
+      let b = all-keep ws (visited d w p) d (a .inv) (omega (arith, a .grown .longer)) (omega (arith, a .grown .same-dist head l))
       (λ x h. (ok x (has-tail _ _ _ h) .0, λ u. rw (a .grown .same-at head l) (ok x (has-tail _ _ _ h) .1 u))) in
       record { inv = b .inv; grown = grown-trans (a .grown) (b .grown); found = λ x h u. go x a b (of-cons x w ws h) u }
     where
-      go : {q r : Progress} (x : ℕ) → Kept E s n allowed p head (w ∷ []) q → Kept E s n allowed q head ws r
-          → (x ≡ w) ⊎ T (has x ws) → T (allowed x) → Queued r x
+      go : {q r : Progress} (x : ℕ) → Kept E s n row₀ c p head (w ∷ []) q → Kept E s n row₀ c q head ws r
+          → (x ≡ w) ⊎ T (has x ws) → getD row₀ x 0 ≡ none → Queued r x
       go x a b (inl e) u = queued-grown (b .grown) (a .found x (subst (λ (y : ℕ). T (has y (w ∷ []))) (sym e) (has-head _ _)) u)
       go x a b (inr m) u = b .found x m u
 
 -- ---- the head moves on, once each link of the nodes that it passes leads to a node of the queue
 
-pub advance : {E : Edges} {s n : ℕ} {p : Progress} {head : ℕ} → Invariant E s n p head → (head′ : ℕ) → head ≤ head′
-    → ((i w : ℕ) → head ≤ i → i < head′ → i < p .tail → T (E (at p i) w) → Queued p w) → Invariant E s n p head′
+pub advance : {E : Edges} {s n : ℕ} {row₀ : List ℕ} {c : ℕ} {p : Progress} {head : ℕ} → Invariant E s n row₀ c p head
+    → (head′ : ℕ) → head ≤ head′ → ((i w : ℕ) → head ≤ i → i < head′ → i < p .tail → T (E (at p i) w) → Queued p w)
+    → Invariant E s n row₀ c p head′
 advance {head = head} S head′ l all = record {
   few = S .few;
   row-length = S .row-length;
@@ -230,6 +241,7 @@ advance {head = head} S head′ l all = record {
   source = S .source;
   node = S .node;
   queued = S .queued;
+  closed = S .closed;
   small = S .small;
   chain = S .chain;
   sorted = S .sorted;
@@ -242,7 +254,7 @@ advance {head = head} S head′ l all = record {
 
 -- ---- the end: every node of the queue was taken
 
-module _ {E : Edges} {s n : ℕ} {p : Progress} {head : ℕ} (S : Invariant E s n p head) (l : p .tail ≤ head) where
+module _ {E : Edges} {s n : ℕ} {row₀ : List ℕ} {c : ℕ} {p : Progress} {head : ℕ} (S : Invariant E s n row₀ c p head) (l : p .tail ≤ head) where
   -- what a chain of k links reaches from a node of the queue is in the queue, at most k further
   along : {k a b : ℕ} → Chain E k a b → (i : ℕ) → i < p .tail → at p i ≡ a → Within p (dist p i + k) b
   along here i h e = (i, h, e, omega arith)
@@ -266,13 +278,13 @@ module _ {E : Edges} {s n : ℕ} {p : Progress} {head : ℕ} (S : Invariant E s 
         λ k c. let z = from-source c in omega (arith, z .3, ap (away p) (z .2)),
       )
 
-  pub distances : ((u v : ℕ) → u < n → T (E u v) → v < n) → s < n → p .row ≡ map (fewest E n s) (upTo n)
-  distances ends hs =
-      ext-getD 0 (p .row) _ (S .row-length ∙ sym (length-row _ _))
-      (λ v h.
-      let b : v < n = omega (arith, S .row-length) in
-      go v b (eq-or _ _) ∙ sym (getD-row _ _ _ _ b))
+  pub distances : ((u v : ℕ) → u < n → T (E u v) → v < n) → s < n
+      → p .row ≡ map (λ v. if eqb (getD row₀ v 0) none then fewest E n s v else getD row₀ v 0) (upTo n)
+  distances ends hs = is-row n _ (p .row) (S .row-length) (λ v b. go v b (eq-or (getD row₀ v 0) none) (eq-or (away p v) none))
     where
-      go : (v : ℕ) → v < n → (away p v ≡ none) ⊎ (away p v ≡ none → ⊥) → away p v ≡ fewest E n s v
-      go v b (inl e) = e ∙ sym (fewest-missing E n s ends hs v (unreached-apart v e))
-      go v b (inr f) = sym (fewest-of E n s ends hs v (away p v) (reached-fewest (S .queued v b f)))
+      go : (v : ℕ) → v < n → (getD row₀ v 0 ≡ none) ⊎ (getD row₀ v 0 ≡ none → ⊥) → (away p v ≡ none) ⊎ (away p v ≡ none → ⊥)
+          → away p v ≡ (if eqb (getD row₀ v 0) none then fewest E n s v else getD row₀ v 0)
+      go v b (inl o) (inl e) = rw (eq-eqb (getD row₀ v 0) none o) (e ∙ sym (fewest-missing E n s ends hs v (unreached-apart v e)))
+      go v b (inl o) (inr f) =
+          rw (eq-eqb (getD row₀ v 0) none o) (sym (fewest-of E n s ends hs v (away p v) (reached-fewest (S .queued v b o f))))
+      go v b (inr k) e = rw (ne-eqb (getD row₀ v 0) none k) (S .closed v k)

@@ -1,2 +1,3 @@
 pub mod Bfs
 pub mod QueueTurns
+pub mod AllowedNodes

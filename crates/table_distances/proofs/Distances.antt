@@ -1,10 +1,10 @@
 -- Rows of Full and Low: what a search through allowed nodes gives for them.
 -- Assumes nothing.
-use mathlib.Core.Path.{_≡_, refl, sym, ap, ap₂, _∙_, subst}
+use mathlib.Core.Path.{_≡_, refl, sym, ap, ap₂, _∙_}
 use mathlib.Core.Logic.{_⊎_, inl, inr}
 use mathlib.Core.Bool.{Bool, true, false, _&&_}
 use mathlib.Core.List.{List, [], _∷_, _++_, map}
-use Prim.Native.Nat.{ℕ, zero, suc, _+_, _*_, _≤_, _<_}
+use Prim.Native.Nat.{ℕ, _+_, _*_, _≤_, _<_}
 use native.Mathlib.Numerals.{add-one}
 use native.Mathlib.Omega.{arith}
 use lib.Dec.{T, ltb}
@@ -12,17 +12,16 @@ use lib.ListN.{length, getD, take, drop, replicate, length-append, length-drop, 
 use lib.Seq.{take-suc, take-all, drop-at, length-take-le}
 use Rattle.base_lists.specs.Written.{written}
 use Rattle.model.specs.Basics.{none, if_then_else_, upTo, has, over}
-use Rattle.model.specs.Graph.{Edges, between, Unjoined, fewest, linked}
-use Rattle.model.specs.Survey.{Graph, IsGraph}
+use Rattle.model.specs.Graph.{Edges, between, fewest, linked}
+use Rattle.model.specs.Survey.{Graph}
 use Rattle.model.specs.Hubs.{isLow}
-use Rattle.model.specs.Tables.{fullEntry, fullOf, lowLinks, lowEntry, lowTable}
-use Rattle.model.proofs.Chains.{split-last, chain-zero, fewest-missing}
+use Rattle.model.specs.Tables.{fullEntry, fullOf, lowLinks, lowTable}
 use Rattle.model.proofs.Lists.{has-append, has-later, has-head, of-append, of-single}
-use Rattle.model.proofs.TableLaws.{between-same, all-allowed, both-low, low-ends}
+use Rattle.model.proofs.TableLaws.{between-same, all-allowed, between-missed}
 use Rattle.model.proofs.Tests.{T-true, true-T, no-false, passes, same-test}
 use Rattle.base_nodeset.specs.NodeSet.{Nodes}
-use Rattle.base_lists.proofs.TableRows.{over-length, row-same, put-row, one-value, over-same}
-use Rattle.base_lists.proofs.TableRows.{RowsTo, rows-next, rows-done}
+use Rattle.search_many_sources.specs.Levels.{distance, distances}
+use Rattle.base_lists.proofs.TableRows.{over-length, row-same, none-row, table-same, put-row, one-value, over-same}
 use Rattle.table_degree_split.proofs.Degrees.{low-are}
 
 -- ---- Full, hub by hub
@@ -103,44 +102,30 @@ module _ {n : ℕ} {G : Graph} {hs t full : List ℕ} {i : ℕ} (r : FullTo n G 
       ap (λ (x : Bool). if x then fewest (linked n G) n a b else none) (others a d)) in
       record { within = omega arith; room = r .room; same = ap length rows ∙ over-length n F t (r .room); rows = rows }
 
--- ---- Low, row by row
+-- ---- Low
 
-module _ (n s : ℕ) (G : Graph) (g : IsGraph n G) where
-  -- a search from a low node does not reach a high one
-  high-missed : (a b : ℕ) → a < n → T (isLow s G a) → (T (isLow s G b) → ⊥) → fewest (lowLinks n s G) n a b ≡ none
-  high-missed a b ha la nb = fewest-missing _ _ _ (low-ends _ _ _ g) ha _ (λ k c. at k c)
-    where
-      at : Unjoined (lowLinks n s G) a b
-      at zero c = nb (subst (λ (x : ℕ). T (isLow s G x)) (chain-zero c) la)
-      at (suc k) c = let l = split-last c in nb (both-low n s G g (l .0) b (l .2) .1)
+-- row a of the distances through allowed nodes, if a is one, and if it is none
+module _ (n : ℕ) (p : Nodes) (G : Graph) (a : ℕ) where
+  pub distance-row : p a ≡ true → map (fewest (between p (linked n G)) n a) (upTo n) ≡ map (distance n p G a) (upTo n)
+  distance-row e = row-same n _ _ (λ b h. sym (rw e refl))
 
-  -- so row a of Low is what a search through the low nodes p gives, or none
-  low-row : (p : Nodes) → ((v : ℕ) → v < n → p v ≡ isLow s G v) → (a : ℕ) → a < n
-      → map (λ b. if p a then fewest (between p (linked n G)) n a b else none) (upTo n) ≡ map (lowEntry n s G a) (upTo n)
-  unfolding lowLinks
-  low-row p is a ha =
-      row-same _ _ _ (λ b hb.
-      ap₂ (λ (x : Bool) (E : Edges). if x then fewest E n a b else none) (is _ ha) (between-same p (isLow s G) n G is)
-      ∙ at b (isLow s G a) refl (passes (isLow s G b)))
+  pub distance-none : p a ≡ false → replicate n none ≡ map (distance n p G a) (upTo n)
+  distance-none e = none-row n none ∙ row-same n _ _ (λ b h. sym (rw e refl))
+
+module _ (n s : ℕ) (G : Graph) where
+  -- Low has the distances through the low nodes p
+  pub low-table : (p : Nodes) → p ≡ (λ v. ltb v n && isLow s G v) → distances n p G ≡ lowTable n s G
+  unfolding lowLinks lowTable
+  low-table p q = table-same n _ _ (λ a b ha hb.
+      ap₂ (λ (x : Bool) (E : Edges). if x then fewest E n a b else none) (is a ha) (between-same p (isLow s G) n G is)
+      ∙ at a b ha (isLow s G a) refl (passes (isLow s G b)))
     where
-      at : (b : ℕ) (x : Bool) → isLow s G a ≡ x → T (isLow s G b) ⊎ (T (isLow s G b) → ⊥)
+      is : (v : ℕ) → v < n → p v ≡ isLow s G v
+      is = low-are _ _ _ _ q
+
+      at : (a b : ℕ) → a < n → (x : Bool) → isLow s G a ≡ x → T (isLow s G b) ⊎ (T (isLow s G b) → ⊥)
           → (if x then fewest (between (isLow s G) (linked n G)) n a b else none)
           ≡ (if x && isLow s G b then fewest (between (isLow s G) (linked n G)) n a b else none)
-      at b false e t = refl
-      at b true e (inl t) = rw (T-true (isLow s G b) t)
-      at b true e (inr f) = rw (no-false (isLow s G b) f) (high-missed a b ha (true-T (isLow s G a) e) f)
-
-module _ {n : ℕ} (s : ℕ) (G : Graph) {t low : List ℕ} {a : ℕ} (r : RowsTo n (lowEntry n s G) t low a) where
-  -- E has the links between the low nodes p
-  pub low-next : {p : Nodes} {E : Edges} {low′ : List ℕ} → IsGraph n G → a < n → p ≡ (λ v. ltb v n && isLow s G v)
-      → E ≡ between p (linked n G) → low′ ≡ written low (a * n) (map (λ b. if p a then fewest E n a b else none) (upTo n))
-      → RowsTo n (lowEntry n s G) t low′ (a + 1)
-  low-next {p} {E} g h q links e =
-      let row : map (λ b. if p a then fewest E n a b else none) (upTo n) ≡ map (lowEntry n s G a) (upTo n) =
-      ap (λ (E : Edges). map (λ b. if p a then fewest E n a b else none) (upTo n)) links
-      ∙ low-row n s G g p (low-are _ _ _ _ q) a h in
-      rows-next r h (e ∙ ap (written low (a * n)) row)
-
-  pub low-done : n ≤ a → low ≡ over (lowTable n s G) t
-  unfolding lowTable
-  low-done h = rows-done r h
+      at a b ha false e t = refl
+      at a b ha true e (inl t) = rw (T-true (isLow s G b) t)
+      at a b ha true e (inr f) = rw (no-false (isLow s G b) f) (between-missed (isLow s G) n G a b ha (true-T (isLow s G a) e) f)

@@ -1,6 +1,7 @@
 -- The best node found in one pass, and the greedy list written hub by hub.
 -- Assumes nothing.
 use mathlib.Core.Path.{_≡_, refl, sym, ap, ap₂, _∙_, subst}
+use mathlib.Core.Logic.{⊎-elim}
 use mathlib.Core.Bool.{not, _&&_}
 use mathlib.Core.List.{List, [], _∷_, _++_, append-assoc}
 use Prim.Native.Nat.{ℕ, zero, suc, _+_, _-_, _*_, _≤_, _<_}
@@ -8,8 +9,8 @@ use native.Mathlib.Nat.{le-refl}
 use native.Mathlib.Omega.{arith}
 use borrow.Rule.Slice.PartMut.{midOf, putMid, mid-len, same-len-mid}
 use lib.Dec.{T, ltb}
-use lib.ListN.{length, set, take, drop, replicate, length-replicate, length-append}
-use lib.Seq.{take-at}
+use lib.ListN.{length, getD, set, take, drop, replicate, length-replicate, length-append, length-set, getD-replicate}
+use lib.Seq.{take-at, getD-set-same, getD-set-other}
 use Rattle.base_lists.specs.Written.{Wrote}
 use Rattle.base_lists.proofs.Written.{wrote-one, wrote-then, wrote-over, wrote-part, Left, left-all, left-length, left-more, left-none}
 use Rattle.model.specs.Basics.{none, upTo, has, keep, over, firstOf}
@@ -17,10 +18,12 @@ use Rattle.model.specs.Survey.{Graph}
 use Rattle.model.specs.Hubs.{isHigh, closed, gain, best, greedy, hubs}
 use Rattle.model.specs.Tables.{hubList}
 use Rattle.model.proofs.Covering.{best-is, best-of, best-gains, hubs-length}
-use Rattle.model.proofs.Lists.{has-head, of-keep, of-upTo, keep-split, length-pos}
+use Rattle.model.proofs.Lists.{has-head, of-keep, of-upTo, keep-split, keep-keep, keep-mono, length-pos}
 use Rattle.model.proofs.Loops.{below-next}
-use Rattle.base_nodeset.specs.NodeSet.{member, difference}
-use Rattle.table_hubs.proofs.Sets.{uncovered, some-left, none-left, high-kept, covered-kept}
+use Rattle.model.proofs.Tests.{eq-or, and-r}
+use Rattle.base_nodeset.specs.NodeSet.{Nodes, member, difference}
+use Rattle.table_hubs.specs.Bounds.{Bounded}
+use Rattle.table_hubs.proofs.Sets.{uncovered, gain-few, some-left, none-left, high-kept, covered-kept}
 
 -- ---- the best node
 
@@ -49,6 +52,73 @@ module _ {n : ℕ} {f : ℕ → ℕ} {node most v : ℕ} (l : Leading n f node m
     holds = l .holds;
     greatest = below-next (λ (w : ℕ). f w ≤ most) v (l .greatest) p;
     ties = l .ties;
+  }
+
+-- a bound that is the gain itself
+pub bounded-set : {n : ℕ} {G : Graph} {U bounds : List ℕ} → Bounded n G U bounds → {v g : ℕ} → g ≡ gain G U v → v < length bounds
+    → Bounded n G U (set bounds v g)
+bounded-set {G = G} {U = U} {bounds = bounds} b {v} {g} e h = record {
+  says = λ w l. ⊎-elim
+      (λ q.
+      let now : getD (set bounds v g) w 0 ≡ g = ap (λ (x : ℕ). getD (set bounds v g) x 0) q ∙ getD-set-same bounds v g 0 h in
+      omega (arith, now, ap (gain G U) q))
+      (λ d. rw (getD-set-other bounds v w g 0 d) (b .says w l))
+      (eq-or w v);
+}
+
+-- at first every bound is 1,024
+pub bounded-start : {n : ℕ} {G : Graph} (us : List ℕ) → n ≤ 1024 → Bounded n G (uncovered n us) (replicate 1024 1024)
+bounded-start {n} {G} us size = record {
+  says = λ v h. omega (arith, gain-few n G us v, getD-replicate {A = ℕ} 1024 v 1024 0 (omega arith));
+}
+
+-- where nodes are taken out of the uncovered ones, no node gains more
+pub bounded-fewer : {n : ℕ} {G : Graph} (us us′ : List ℕ) {bounds : List ℕ} → Bounded n G (uncovered n us) bounds → (c : Nodes)
+    → member us′ ≡ difference (member us) c → Bounded n G (uncovered n us′) bounds
+unfolding gain
+bounded-fewer {n} {G} us us′ b c e = record {
+  says = λ v h.
+      let near : Nodes = λ u. has u (closed G v) in
+      let both : keep near (uncovered n us′) ≡ keep (λ x. not (c x) && near x) (uncovered n us) =
+      ap (keep near) (covered-kept n (member us) c e) ∙ keep-keep near (λ x. not (c x)) (uncovered n us) in
+      omega (arith, ap length both, keep-mono (λ x. not (c x) && near x) near (uncovered n us) (λ x m t. and-r (not (c x)) (near x) t), b .says v h);
+}
+
+-- the best node so far, with the bounds
+pub record Seeking (n : ℕ) (G : Graph) (U bounds₀ bounds : List ℕ) (node most v : ℕ) : Type 0 where
+  pub room : n ≤ length bounds₀
+  pub same : length bounds ≡ length bounds₀
+  pub leading : Leading n (gain G U) node most v
+  pub bounded : Bounded n G U bounds
+
+module _ {n : ℕ} {G : Graph} {U bounds₀ bounds : List ℕ} {node most v : ℕ} (k : Seeking n G U bounds₀ bounds node most v) (h : v < n) where
+  pub seeking-room : v < length bounds
+  seeking-room = omega (arith, k .room, k .same)
+
+  -- its gain becomes the bound of v
+  seeking-set : {g node′ most′ : ℕ} → g ≡ gain G U v → Leading n (gain G U) node′ most′ (v + 1)
+      → Seeking n G U bounds₀ (set bounds v g) node′ most′ (v + 1)
+  seeking-set e l = record {
+    room = k .room;
+    same = length-set bounds v _ ∙ k .same;
+    leading = l;
+    bounded = bounded-set (k .bounded) e seeking-room;
+  }
+
+  pub seeking-taken : {g : ℕ} → g ≡ gain G U v → most < g → Seeking n G U bounds₀ (set bounds v g) v g (v + 1)
+  seeking-taken e l =
+      seeking-set e (subst (λ (m : ℕ). Leading n (gain G U) v m (v + 1)) (sym e) (leading-taken (k .leading) h (omega arith)))
+
+  pub seeking-left : {g : ℕ} → g ≡ gain G U v → g ≤ most → Seeking n G U bounds₀ (set bounds v g) node most (v + 1)
+  seeking-left e l = seeking-set e (leading-left (k .leading) h (omega arith))
+
+  -- its bound is not above the most found
+  pub seeking-passed : getD bounds v 0 ≤ most → Seeking n G U bounds₀ bounds node most (v + 1)
+  seeking-passed l = record {
+    room = k .room;
+    same = k .same;
+    leading = leading-left (k .leading) h (omega (arith, k .bounded .says v h));
+    bounded = k .bounded;
   }
 
 pub leading-best : {n node most v : ℕ} (G : Graph) (U : List ℕ) → Leading n (gain G U) node most v → n ≤ v → node ≡ best n G U

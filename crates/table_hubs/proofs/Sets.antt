@@ -1,8 +1,8 @@
 -- The sets that choosing hubs works on: closed neighbourhoods, and what they hold of the uncovered nodes.
 -- Assumes nothing.
-use mathlib.Core.Path.{_≡_, sym, ap, ap₂, _∙_, subst, fun-ext}
+use mathlib.Core.Path.{_≡_, refl, sym, ap, ap₂, _∙_, subst, fun-ext}
 use mathlib.Core.Logic.{⊎-elim}
-use mathlib.Core.Bool.{Bool, not, _&&_, _||_, and-comm, or-comm, or-false}
+use mathlib.Core.Bool.{Bool, true, false, not, _&&_, _||_, and-comm, or-comm, or-false}
 use mathlib.Core.List.{List, []}
 use Prim.Native.Nat.{ℕ, _+_, _*_, _≤_, _<_}
 use native.Mathlib.Omega.{arith}
@@ -13,7 +13,7 @@ use Rattle.model.specs.Basics.{upTo, has, keep, firstOf}
 use Rattle.model.specs.Survey.{Graph, IsGraph, Accepted, neighboursOf}
 use Rattle.model.specs.Hubs.{isHigh, closed, gain}
 use Rattle.model.proofs.Tests.{and-r, or-turned}
-use Rattle.model.proofs.Lists.{of-cons, has-keep, has-upTo, of-upTo, keep-same, keep-keep, keep-none, keep-below}
+use Rattle.model.proofs.Lists.{of-cons, has-keep, has-upTo, of-upTo, keep-same, keep-keep, keep-none, keep-below, keep-length, length-upTo}
 use Rattle.model.proofs.Lists.{First, found, nothing, first-of}
 use Rattle.model.proofs.Loops.{drop-next}
 use Rattle.base_nodeset.specs.NodeSet.{Nodes, member, emptySet, inserted, intersection, difference}
@@ -66,22 +66,35 @@ closed-below {G = G} g v h x t = ⊎-elim (λ e. omega arith) (λ r. g .below v 
 abbrev pub uncovered : ℕ → List ℕ → List ℕ
 uncovered n us = keep (member us) (upTo n)
 
--- those in a closed neighbourhood are the node's gain
-pub gain-words : {n : ℕ} {starts neighbours : List ℕ} → Accepted n starts neighbours → (v : ℕ) → v < n → (ws us : List ℕ) → length ws ≡ 16
-    → member ws ≡ (λ x. has x (closed (neighboursOf starts neighbours) v))
-    → length (keep (intersection (member ws) (member us)) (upTo (64 * length ws)))
-    ≡ gain (neighboursOf starts neighbours) (uncovered n us) v
+-- the newly covered nodes are as many as the node gains
+pub gain-words : {n : ℕ} {starts neighbours : List ℕ} → Accepted n starts neighbours → (v : ℕ) → v < n → (ns us : List ℕ) → length ns ≡ 16
+    → member ns ≡ intersection (λ x. has x (closed (neighboursOf starts neighbours) v)) (member us)
+    → length (keep (member ns) (upTo (64 * length ns))) ≡ gain (neighboursOf starts neighbours) (uncovered n us) v
 unfolding gain intersection
-gain-words {n} {starts} {neighbours} a v h ws us l e =
+gain-words {n} {starts} {neighbours} a v h ns us l e =
     let near : Nodes = λ x. has x (closed (neighboursOf starts neighbours) v) in
-    let both : Nodes = λ x. member us x && near _ in
-    let swapped : intersection (member ws) (member us) ≡ both =
-    fun-ext (λ x. ap (λ (p : Nodes). p x && member us x) e ∙ and-comm (near _) _) in
-    let k : 64 * length ws ≡ 1024 = omega arith in
+    let both : Nodes = λ x. member us x && near x in
+    let swapped : member ns ≡ both = e ∙ fun-ext (λ x. and-comm (near x) (member us x)) in
+    let k : 64 * length ns ≡ 1024 = omega arith in
     ap₂ (λ (p : Nodes) (m : ℕ). length (keep p (upTo m))) swapped k
     ∙ ap length (
     keep-below _ _ _ (a .size) (λ x t. closed-below (a .lists .graph) _ h _ (and-r (member us x) (near _) t))
     ∙ sym (keep-keep _ _ _))
+
+pub gain-few : (n : ℕ) (G : Graph) (us : List ℕ) (v : ℕ) → gain G (uncovered n us) v ≤ n
+unfolding gain
+gain-few n G us v =
+    omega (arith, keep-length (λ u. has u (closed G v)) (uncovered n us), keep-length (member us) (upTo n), length-upTo n)
+
+-- without the newly covered nodes the uncovered ones are without the closed neighbourhood
+pub covered-newly : (near us : Nodes) {newly left : Nodes} → newly ≡ intersection near us → left ≡ difference us newly → left ≡ difference us near
+unfolding intersection difference
+covered-newly near us e l = l ∙ rw e (fun-ext (λ x. at (us x) (near x)))
+  where
+    at : (a b : Bool) → (a && not (b && a)) ≡ (a && not b)
+    at true true = refl
+    at true false = refl
+    at false b = refl
 
 -- where the smallest member is below n, some node is uncovered; where it is not, none is
 module _ (n : ℕ) (us : List ℕ) (long : length us ≡ 16) (size : n ≤ 1024)

@@ -9,7 +9,8 @@ ghost use Rattle.model.specs.Basics.{upTo, has, keep, over};
 ghost use Rattle.model.specs.Survey.{neighboursOf, Accepted};
 ghost use Rattle.model.specs.Hubs.{closed, gain, best, hubs};
 ghost use Rattle.model.specs.Tables.{hubList};
-ghost use Rattle.base_nodeset.specs.NodeSet.{member, difference};
+ghost use Rattle.base_nodeset.specs.NodeSet.{member, intersection, difference};
+ghost use Rattle.table_hubs.specs.Bounds.{Bounded};
 
 // Puts the nodes of a list into the set.
 fn insert_list(list: &[u16], set: &mut [u64])
@@ -33,47 +34,78 @@ fn insert_closed(n: usize, starts: &[u32], neighbours: &[u16], v: usize, set: &m
     insert_list(row, set);
 }
 
-// How many uncovered nodes the closed neighbourhood of a node holds.
-fn gain_of(n: usize, starts: &[u32], neighbours: &[u16], v: usize, uncovered: &[u64]) -> usize
+// The nodes that are newly covered if v becomes a hub: the words of its closed neighbourhood masked with those of the uncovered nodes.
+fn write_newly_covered(
+    n: usize,
+    starts: &[u32],
+    neighbours: &[u16],
+    v: usize,
+    uncovered: &[u64],
+    newly: &mut [u64],
+)
+    requires { ⌜ Accepted n (now starts) (now neighbours) × (v < n) × (length (now uncovered) ≡ 16) × (length (now newly) ≡ 16) ⌝ }
+    ensures { λ _. ⌜ member (now (newly .exit))
+        ≡ intersection (λ x. has x (closed (neighboursOf (now (starts .entry)) (now (neighbours .entry))) v)) (member (now (uncovered .entry))) ⌝ }
+{
+    let mut near = [0u64; 16];
+    insert_closed(n, starts, neighbours, v, &mut near);
+    base_nodeset::write_intersection(&near, uncovered, newly);
+}
+
+// How many nodes are newly covered if v becomes a hub: the ones of that set are counted.
+fn gain_of(n: usize, starts: &[u32], neighbours: &[u16], v: usize, uncovered: &[u64]) -> u16
     requires { ⌜ Accepted n (now starts) (now neighbours) × (v < n) × (length (now uncovered) ≡ 16) ⌝ }
     ensures { λ r. ⌜ r ≡ gain (neighboursOf (now (starts .entry)) (now (neighbours .entry)))
         (keep (member (now (uncovered .entry))) (upTo n)) v ⌝ }
 {
-    let mut near = [0u64; 16];
-    insert_closed(n, starts, neighbours, v, &mut near);
-    base_nodeset::count_intersection(&near, uncovered)
+    let mut newly = [0u64; 16];
+    write_newly_covered(n, starts, neighbours, v, uncovered, &mut newly);
+    base_nodeset::count(&newly) as u16
 }
 
-// The node whose closed neighbourhood holds the most uncovered nodes; on a tie, the one with the smallest number.
-fn best_node(n: usize, starts: &[u32], neighbours: &[u16], uncovered: &[u64]) -> usize
-    requires { ⌜ Accepted n (now starts) (now neighbours) × (length (now uncovered) ≡ 16) ⌝ }
+// The node that newly covers most nodes; on a tie, the one with the smallest number. A node whose bound is not above the most found so
+// far cannot be that node, and its gain is not counted; else its gain becomes its bound.
+fn best_node(
+    n: usize,
+    starts: &[u32],
+    neighbours: &[u16],
+    uncovered: &[u64],
+    bounds: &mut [u16],
+) -> usize
+    requires { ⌜ Accepted n (now starts) (now neighbours) × (length (now uncovered) ≡ 16) × (n ≤ length (now bounds)) ⌝ }
+    requires { ⌜ Bounded n (neighboursOf (now starts) (now neighbours)) (keep (member (now uncovered)) (upTo n)) (now bounds) ⌝ }
     ensures { λ r. ⌜ r ≡ best n (neighboursOf (now (starts .entry)) (now (neighbours .entry)))
         (keep (member (now (uncovered .entry))) (upTo n)) ⌝ }
+    ensures { λ _. ⌜ Bounded n (neighboursOf (now (starts .entry)) (now (neighbours .entry)))
+        (keep (member (now (uncovered .entry))) (upTo n)) (now (bounds .exit)) ⌝ }
 {
     let mut node = 0;
     let mut most = 0;
     let mut v = 0;
     while v < n {
-        let g = gain_of(n, starts, neighbours, v, uncovered);
-        if most < g {
-            node = v;
-            most = g;
+        if most < bounds[v] {
+            let g = gain_of(n, starts, neighbours, v, uncovered);
+            bounds[v] = g;
+            if most < g {
+                node = v;
+                most = g;
+            }
         }
         v += 1;
     }
     node
 }
 
-// Takes the closed neighbourhood of a node out of the uncovered nodes.
+// Takes the nodes that v newly covers out of the uncovered nodes.
 fn cover(n: usize, starts: &[u32], neighbours: &[u16], v: usize, uncovered: &mut [u64])
     requires { ⌜ Accepted n (now starts) (now neighbours) × (v < n) × (length (now uncovered) ≡ 16) ⌝ }
     ensures { λ _. ⌜ member (now (uncovered .exit))
         ≡ difference (member (now (uncovered .entry)))
         (λ x. has x (closed (neighboursOf (now (starts .entry)) (now (neighbours .entry))) v)) ⌝ }
 {
-    let mut near = [0u64; 16];
-    insert_closed(n, starts, neighbours, v, &mut near);
-    base_nodeset::subtract(uncovered, &near);
+    let mut newly = [0u64; 16];
+    write_newly_covered(n, starts, neighbours, v, uncovered, &mut newly);
+    base_nodeset::subtract(uncovered, &newly);
 }
 
 // Writes the hubs for threshold s, in the order chosen, and then none into the first n entries of the list; returns the count of hubs.
@@ -91,6 +123,8 @@ pub fn choose_hubs(
 {
     let mut uncovered = [0u64; 16];
     table_degree_split::high_nodes(n, s, starts, neighbours, &mut uncovered);
+    // bounds on what the nodes gain: as uncovered nodes become fewer, no node gains more than before
+    let mut bounds = [1024u16; 1024];
     let mut count = 0;
     loop {
         // the smallest uncovered node; where it is not below n, every high node is covered
@@ -98,7 +132,7 @@ pub fn choose_hubs(
         if n <= first {
             break;
         }
-        let hub = best_node(n, starts, neighbours, &uncovered);
+        let hub = best_node(n, starts, neighbours, &uncovered, &mut bounds);
         list[count] = hub as u16;
         count += 1;
         cover(n, starts, neighbours, hub, &mut uncovered);

@@ -1,6 +1,6 @@
 // Numbers and lines as text, written into a buffer.
 ghost use mathlib.Core.Path.{_≡_};
-ghost use Prim.Native.Nat.{ℕ, _+_, _≤_};
+ghost use Prim.Native.Nat.{ℕ, _+_, _≤_, _<_};
 ghost use mathlib.Core.List.{[], _∷_};
 ghost use lib.ListN.{length};
 ghost use Rattle.model.specs.Numbers.{digits};
@@ -36,16 +36,52 @@ pub fn write_byte(buf: &mut [u8], at: usize, b: u8) -> usize
     at + 1
 }
 
-// Writes the decimal text of a number at a place, and returns the place after it.
-pub fn write_number(buf: &mut [u8], at: usize, x: u32) -> usize
+// Writes the decimal text of a number of any size at a place, and returns the place after it.
+fn write_digits(buf: &mut [u8], at: usize, x: u32) -> usize
     requires { ⌜ at + length (digits x) ≤ length (now buf) ⌝ }
     ensures { λ r. ⌜ Wrote (now (buf .entry)) (now (buf .exit)) at r (digits x) ⌝ }
 {
     if x < 10 {
         return write_byte(buf, at, 48 + x as u8);
     }
-    let i = write_number(buf, at, x / 10);
+    let i = write_digits(buf, at, x / 10);
     write_byte(buf, i, 48 + (x % 10) as u8)
+}
+
+// The same for a number of one or two digits.
+fn write_below_100(buf: &mut [u8], at: usize, x: u32) -> usize
+    requires { ⌜ (x < 100) × (at + length (digits x) ≤ length (now buf)) ⌝ }
+    ensures { λ r. ⌜ Wrote (now (buf .entry)) (now (buf .exit)) at r (digits x) ⌝ }
+{
+    if x < 10 {
+        return write_byte(buf, at, 48 + x as u8);
+    }
+    let i = write_byte(buf, at, 48 + (x / 10) as u8);
+    write_byte(buf, i, 48 + (x % 10) as u8)
+}
+
+// The same for a number of at most three digits.
+fn write_below_1000(buf: &mut [u8], at: usize, x: u32) -> usize
+    requires { ⌜ (x < 1000) × (at + length (digits x) ≤ length (now buf)) ⌝ }
+    ensures { λ r. ⌜ Wrote (now (buf .entry)) (now (buf .exit)) at r (digits x) ⌝ }
+{
+    if x < 100 {
+        return write_below_100(buf, at, x);
+    }
+    let i = write_below_100(buf, at, x / 10);
+    write_byte(buf, i, 48 + (x % 10) as u8)
+}
+
+// Writes the decimal text of a number at a place, and returns the place after it. Nearly all nodes are below 1,000: their digits are
+// written without recursion, so that the compiler puts them into the caller's loop.
+pub fn write_number(buf: &mut [u8], at: usize, x: u32) -> usize
+    requires { ⌜ at + length (digits x) ≤ length (now buf) ⌝ }
+    ensures { λ r. ⌜ Wrote (now (buf .entry)) (now (buf .exit)) at r (digits x) ⌝ }
+{
+    if x < 1000 {
+        return write_below_1000(buf, at, x);
+    }
+    write_digits(buf, at, x)
 }
 
 // Writes a comma and a number at a place, and returns the place after them.

@@ -3,13 +3,13 @@
 use crate::lent::Lent;
 use crate::lists::{self, Lists};
 use crate::tables::Tables;
-use crate::{texts, Counts};
+use crate::{many, texts, Counts};
 use comparison::common::{Random, Sample};
 use comparison::{codes, header, proved};
 
 pub struct Call {
     pub name: &'static str,
-    /// How often a round makes it.
+    /// How often a round makes it, unless there are many nodes.
     turns: usize,
     /// The refusals that it can give.
     pub refusals: &'static [usize],
@@ -79,7 +79,7 @@ impl<'a> Round<'a> {
     /// Makes the round's calls and counts their outcomes, up to a total.
     pub fn run(&mut self, counts: &mut Counts, cases: u64) -> Result<(), String> {
         for (place, call) in CALLS.iter().enumerate() {
-            for _ in 0..call.turns {
+            for _ in 0..self.turns(call) {
                 if counts.total() >= cases {
                     return Ok(());
                 }
@@ -92,13 +92,22 @@ impl<'a> Round<'a> {
         Ok(())
     }
 
+    /// With many nodes mostly building and testing, since copies of large tables take long.
+    fn turns(&self, call: &Call) -> usize {
+        if self.sample.n <= 256 || ["build", "test"].contains(&call.name) {
+            call.turns
+        } else {
+            call.turns.min(2)
+        }
+    }
+
     fn call(&mut self, place: usize, counts: &mut Counts) -> Outcome {
         match place {
             0 => self.threshold(),
             1 => self.read(),
             2 => self.write(),
             3 => self.accept(),
-            4 => self.build(),
+            4 => self.build(counts),
             5 => self.ask(),
             6 => self.walk(),
             7 => self.test(),
@@ -211,7 +220,7 @@ impl<'a> Round<'a> {
         Ok(code)
     }
 
-    fn build(&mut self) -> Outcome {
+    fn build(&mut self, counts: &mut Counts) -> Outcome {
         let n = lists::node_count(self.random, self.sample.n);
         let lists = self.lists();
         let square = self.sample.n * self.sample.n;
@@ -246,6 +255,9 @@ impl<'a> Round<'a> {
         neighbours.check("neighbours", &lists.neighbours)?;
         for (k, name) in ["full", "low", "report", "hubs"].iter().enumerate() {
             lent[k].check(name, &tables[k])?;
+        }
+        if answer.is_ok() {
+            counts.kinds[many::kind(n, &tables[1])] += 1;
         }
         Ok(code)
     }

@@ -1,11 +1,13 @@
 //! Compares every call of the proved library with the second implementation: `compare CASES SEED`.
 //!
 //! A case is one call of both on the same input. Answers are compared, as numbers and as the header reads them, and every lent list
-//! whole, between guard words. A run of many cases also has to meet every refusal that a call can give.
+//! whole, between guard words. A run of many cases also has to meet every refusal that a call can give, and every kind of survey that
+//! building does something else for.
 
 mod calls;
 mod lent;
 mod lists;
+mod many;
 mod tables;
 mod texts;
 
@@ -15,7 +17,7 @@ use comparison::{codes, graphs, header};
 use std::process::ExitCode;
 use std::time::{Duration, Instant};
 
-/// A run of this many cases has to meet every refusal.
+/// A run of this many cases has to meet every refusal and every kind.
 const MANY: u64 = 50_000;
 
 /// How often there was an answer (place 0) or a refusal with a number.
@@ -26,6 +28,8 @@ pub struct Counts {
     pub calls: [Row; CALLS.len()],
     /// What the listings say, also those that the buffer was too short for.
     pub listings: Row,
+    /// How often building was answered on each kind of survey.
+    pub kinds: [u64; many::KINDS.len()],
 }
 
 impl Counts {
@@ -33,7 +37,7 @@ impl Counts {
         self.calls.iter().flatten().sum()
     }
 
-    /// The refusals that a call can give, or a listing name, and that were not met.
+    /// The refusals that a call can give, or a listing name, and the kinds for building, that were not met.
     fn unmet(&self) -> Vec<String> {
         let calls = CALLS.iter().map(|call| (call.name, call.refusals));
         let named = calls.chain([("listing", &LISTED[..])]);
@@ -44,6 +48,11 @@ impl Counts {
                 if row[number] == 0 {
                     unmet.push(format!("{name} {number}"));
                 }
+            }
+        }
+        for (kind, count) in many::KINDS.iter().zip(self.kinds) {
+            if count == 0 {
+                unmet.push(format!("build on {kind}"));
             }
         }
         unmet
@@ -66,10 +75,10 @@ fn main() -> ExitCode {
             println!("{cases} cases agree, seed {seed}");
             let unmet = counts.unmet();
             if unmet.is_empty() {
-                println!("each call met each of its refusals");
+                println!("each call met each of its refusals, and building each kind of survey");
                 return ExitCode::SUCCESS;
             }
-            println!("refusals that were not met: {}", unmet.join(", "));
+            println!("not met: {}", unmet.join("; "));
             if cases < MANY {
                 ExitCode::SUCCESS
             } else {
@@ -109,7 +118,7 @@ fn run(cases: u64, seed: u64, counts: &mut Counts) -> Result<(), String> {
     Ok(())
 }
 
-/// Mostly small graphs, now and then one with about as many nodes or links as a listing or a survey may have.
+/// Mostly small graphs, now and then one with about as many nodes or links as a listing or a survey may have, or one of `many`.
 fn choose_graph(random: &mut Random) -> Sample {
     let n = match random.below(1000) {
         0..=19 => {
@@ -123,7 +132,8 @@ fn choose_graph(random: &mut Random) -> Sample {
             let (n, links) = (182 + random.below(spread), 16383 + random.below(4));
             return graphs::with_links(random, n, links);
         }
-        30..=499 => 1 + random.below(12),
+        30..=129 => return many::choose(random),
+        130..=499 => 1 + random.below(12),
         500..=899 => 1 + random.below(40),
         900..=989 => 1 + random.below(130),
         990..=996 => 1 + random.below(400),
@@ -170,6 +180,10 @@ fn print_counts(counts: &Counts) {
     print_row("all", &sums);
     println!("the listings by what they say, a survey's pairs or a refusal's number:");
     print_row("listing", &counts.listings);
+    println!("the surveys on which building was answered, by their nodes and by the links that a search goes among low nodes:");
+    for (kind, count) in many::KINDS.iter().zip(counts.kinds) {
+        println!("{kind:40}{count:>9}");
+    }
 }
 
 fn print_row(name: &str, row: &Row) {

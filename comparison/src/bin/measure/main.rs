@@ -1,43 +1,22 @@
 //! The speed of the proved library beside the second implementation, a careful Rust version of the same method, and igraph's exact
 //! distances, in one process on the same input: `measure [MILLISECONDS]`, the time given to each measurement.
 //!
-//! Lists and tables are allocated and written before a measurement and kept through it, so no page is touched for the first time. They
-//! are not cleared between repetitions. A time is the least of many repetitions, made in several passes over all implementations.
+//! The repetitions, of which the least time counts, are made in several passes over all implementations.
 
 mod exact;
 
-use comparison::common::{Random, Sample};
-use comparison::{careful, codes, graphs, proved};
+use comparison::common::Sample;
+use comparison::timing::{self, least, Lent, Times, CALLS};
+use comparison::{careful, codes, graphs, proved, times};
 use exact::Exact;
 use reference::NONE;
 use std::hint::black_box;
-use std::time::{Duration, Instant};
+use std::time::Duration;
 
-const CALLS: [&str; 7] = ["read", "write", "accept", "build", "ask", "walk", "test"];
-const PAIRS: usize = 64;
-const PASSES: u32 = 5;
-
-/// A survey with its text and what the calls are lent.
-struct Lent {
-    n: usize,
-    text: Vec<u8>,
-    starts: Vec<u32>,
-    neighbours: Vec<u16>,
-    read_starts: Vec<u32>,
-    read_neighbours: Vec<u16>,
-    buffer: Vec<u8>,
-    full: Vec<u16>,
-    low: Vec<u16>,
-    report: Vec<u16>,
-    hubs: Vec<u16>,
-    walk: Vec<u16>,
-    pairs: Vec<(usize, usize)>,
-}
-
-/// Seconds for each call of one implementation.
-type Times = [f64; CALLS.len()];
+const PASSES: u32 = 20;
 
 struct Row {
+    survey: String,
     n: usize,
     links: usize,
     high: usize,
@@ -49,140 +28,19 @@ struct Row {
 }
 
 fn main() {
-    let budget = std::env::args()
-        .nth(1)
-        .and_then(|word| word.parse().ok())
-        .unwrap_or(250);
-    let budget = Duration::from_millis(budget);
+    let budget = timing::budget();
+    let random = [128, 512].into_iter().flat_map(graphs::random_surveys);
     let mut rows = Vec::new();
-    for n in [128, 512, 1024] {
-        for dense in [false, true] {
-            for share in [0, 1, 2] {
-                let sample = make(n, dense, share);
-                let row = measure(&sample, budget);
-                print_row(&row);
-                rows.push(row);
-            }
-        }
+    for sample in random.chain(graphs::largest_surveys()) {
+        let row = measure(&sample, budget);
+        print_row(&row);
+        rows.push(row);
     }
+    print_table(&rows);
     print_growth(&rows);
     print_listings(budget);
     print_targets(&rows);
-}
-
-/// A random survey: sparse (two links a node) or as many links as fit, with no, some or many high nodes.
-fn make(n: usize, dense: bool, share: usize) -> Sample {
-    let s = reference::threshold(n).expect("1 to 1,024 nodes");
-    let links = if dense { 16384 } else { 2 * n };
-    let many = match (dense, n) {
-        (false, _) => 2 * n / s,
-        (true, 1024) => 120,
-        (true, _) => n / 2,
-    };
-    let high = [0, many / 4, many][share];
-    graphs::with_high(&mut Random::new(n as u64 + links as u64), n, links, high)
-}
-
-/// The least time of a repetition.
-fn least(budget: Duration, mut call: impl FnMut()) -> f64 {
-    call();
-    let begun = Instant::now();
-    let mut least = f64::MAX;
-    let mut turns = 1;
-    while begun.elapsed() < budget {
-        let start = Instant::now();
-        for _ in 0..turns {
-            call();
-        }
-        let time = start.elapsed().as_secs_f64();
-        least = least.min(time / f64::from(turns));
-        if time < 100e-6 {
-            turns *= 2;
-        }
-    }
-    least
-}
-
-impl Lent {
-    fn new(sample: &Sample) -> Self {
-        let n = sample.n;
-        let (starts, neighbours) = sample.lists();
-        let mut random = Random::new(n as u64);
-        Lent {
-            n,
-            text: sample.text().into_bytes(),
-            read_starts: vec![1; n + 1],
-            read_neighbours: vec![1; neighbours.len()],
-            buffer: vec![1; 200_000],
-            full: vec![1; n * n],
-            low: vec![1; n * n],
-            report: vec![1; n * n],
-            hubs: vec![1; n],
-            walk: vec![1; 2 * n],
-            pairs: (0..PAIRS)
-                .map(|_| (random.below(n), random.below(n)))
-                .collect(),
-            starts,
-            neighbours,
-        }
-    }
-}
-
-/// The times of one implementation: its calls, by name.
-macro_rules! times {
-    ($lent:expr, $budget:expr, $module:path) => {{
-        use $module as calls;
-        let x: &mut Lent = $lent;
-        let read = least($budget, || {
-            let _ = black_box(calls::read(
-                &x.text,
-                &mut x.read_starts,
-                &mut x.read_neighbours,
-            ));
-        });
-        let write = least($budget, || {
-            let _ = black_box(calls::write(x.n, &x.starts, &x.neighbours, &mut x.buffer));
-        });
-        let accept = least($budget, || {
-            let _ = black_box(calls::accept(x.n, &x.starts, &x.neighbours));
-        });
-        let build = least($budget, || {
-            let _ = black_box(calls::build(
-                x.n,
-                &x.starts,
-                &x.neighbours,
-                &mut x.full,
-                &mut x.low,
-                &mut x.report,
-                &mut x.hubs,
-            ));
-        });
-        let ask = least($budget, || {
-            for &(a, b) in &x.pairs {
-                let _ = black_box(calls::ask(x.n, &x.full, &x.low, &x.report, a, b));
-            }
-        });
-        let walk = least($budget, || {
-            for &(a, b) in &x.pairs {
-                let _ = black_box(calls::walk(
-                    x.n,
-                    &x.starts,
-                    &x.neighbours,
-                    &x.full,
-                    &x.low,
-                    &x.report,
-                    a,
-                    b,
-                    &mut x.walk,
-                ));
-            }
-        });
-        let test = least($budget, || {
-            let _ = black_box(calls::test(x.n, &x.starts, &x.neighbours));
-        });
-        let pairs = PAIRS as f64;
-        [read, write, accept, build, ask / pairs, walk / pairs, test]
-    }};
+    print_least(&rows);
 }
 
 /// Whether the careful version answers as the second implementation does, on this survey.
@@ -291,11 +149,11 @@ fn measure(sample: &Sample, budget: Duration) -> Row {
     if let Some(exact) = &exact {
         check_reports(&x, exact);
     }
-    let s = reference::threshold(x.n).expect("1 to 1,024 nodes");
     Row {
+        survey: x.survey,
         n: x.n,
         links: x.neighbours.len() / 2,
-        high: (0..x.n).filter(|&v| sample.degree(v) >= s).count(),
+        high: x.high,
         hubs: x.hubs.iter().filter(|&&h| h != NONE).count(),
         bytes: x.text.len(),
         times,
@@ -304,12 +162,16 @@ fn measure(sample: &Sample, budget: Duration) -> Row {
     }
 }
 
+fn title(row: &Row) -> String {
+    format!(
+        "{}: {} nodes, {} links, {} high, {} hubs",
+        row.survey, row.n, row.links, row.high, row.hubs
+    )
+}
+
 fn print_row(row: &Row) {
     let [proved, reference, careful] = &row.times;
-    println!(
-        "{} nodes, {} links, {} high, {} hubs",
-        row.n, row.links, row.high, row.hubs
-    );
+    println!("{}", title(row));
     println!(
         "  {:8}{:>12}{:>14}{:>12}",
         "call", "proved, us", "second impl.", "careful"
@@ -346,13 +208,34 @@ fn megabytes(row: &Row, call: usize) -> f64 {
     row.bytes as f64 / row.times[0][call] / 1e6
 }
 
+/// The rows as a table for docs/BENCHMARKS.md.
+fn print_table(rows: &[Row]) {
+    println!(
+        "| survey | nodes | links | high | hubs | {} | igraph / build |",
+        CALLS.join(" | ")
+    );
+    println!("{}|", "|---".repeat(CALLS.len() + 6));
+    for row in rows {
+        let [proved, reference, careful] = &row.times;
+        let (n, links, high, hubs) = (row.n, row.links, row.high, row.hubs);
+        print!("| {} | {n} | {links} | {high} | {hubs} |", row.survey);
+        for (k, time) in proved.iter().enumerate() {
+            print!(" {:.1} / {:.2} |", reference[k] / time, careful[k] / time);
+        }
+        match row.exact {
+            Some(exact) => println!(" {:.1} |", exact / proved[3]),
+            None => println!(" - |"),
+        }
+    }
+}
+
 /// Time by what each call has to go through: entries of the lists, and for building entries by nodes.
 fn print_growth(rows: &[Row]) {
     println!("growth: nanoseconds for each node and link end (n + 2m); building, for each of them and each node");
     print!("{:>6}{:>7}{:>6}", "nodes", "links", "high");
     CALLS.iter().for_each(|call| print!("{call:>9}"));
     println!();
-    for row in rows {
+    for row in rows.iter().filter(|row| row.survey == "random") {
         print!("{:>6}{:>7}{:>6}", row.n, row.links, row.high);
         let entries = (row.n + 2 * row.links) as f64;
         for (k, call) in CALLS.iter().enumerate() {
@@ -375,7 +258,7 @@ fn print_listings(budget: Duration) {
         "nodes", "pairs", "proved, us", "second impl.", "ns a pair"
     );
     for n in [16, 32, 64, 128] {
-        let text = make(n, false, 2).text().into_bytes();
+        let text = graphs::random_survey(n, false, 2).text().into_bytes();
         let mut buffer = vec![1; reference::reports(&text).len()];
         let (mut proved, mut other) = (f64::MAX, f64::MAX);
         for _ in 0..PASSES {
@@ -404,19 +287,19 @@ fn print_targets(rows: &[Row]) {
         .iter()
         .filter(|row| row.n == 1024 && row.links == 16384)
     {
-        let [proved, _, careful] = &row.times;
+        let proved = &row.times[0];
         println!("  with {} high nodes", row.high);
         if let Some(exact) = row.exact {
             verdict(
                 "building beside igraph, times as fast",
                 exact / proved[3],
-                5.0,
+                30.0,
                 true,
             );
         }
         verdict(
             "building beside careful Rust, times as fast",
-            careful[3] / proved[3],
+            ratio(row, 3),
             1.0,
             true,
         );
@@ -434,6 +317,23 @@ fn print_targets(rows: &[Row]) {
             false,
         );
     }
+}
+
+/// The target on every survey, by the call that is slowest beside careful Rust.
+fn print_least(rows: &[Row]) {
+    let of_row = |row| (0..CALLS.len()).map(move |k| (ratio(row, k), k, row));
+    let all = rows.iter().flat_map(of_row);
+    let least = all.min_by(|one, other| one.0.total_cmp(&other.0));
+    let (value, k, row) = least.expect("there are rows");
+    println!("target on every survey: each call beside careful Rust, times as fast");
+    println!("  least on {}", title(row));
+    verdict(CALLS[k], value, 0.9, true);
+}
+
+/// How many times as fast a call is as careful Rust.
+fn ratio(row: &Row, call: usize) -> f64 {
+    let [proved, _, careful] = &row.times;
+    careful[call] / proved[call]
 }
 
 fn verdict(name: &str, value: f64, bound: f64, at_least: bool) {

@@ -1,57 +1,36 @@
--- `answer_two_or_four::run_test` meets its contract: the depth of the searches from the sources is judged.
+-- `answer_two_or_four::run_test` meets its contract: the sources are the smallest low node and its neighbours, or the hubs.
 -- Assumes nothing.
+use mathlib.Core.Path.{_∙_}
+use Rattle.answer_two_or_four.proofs.Sources.{sources-hubs, sources-low, low-below}
 use borrow.Author.Needs.{needs}
-use Rattle.model.specs.Survey.{neighboursOf}
-use Rattle.answer_two_or_four.proofs.Sources.{InFront, sources-fit, sources-long, sources-below, result-is}
 use Rattle.answer_two_or_four.proofs.run_test.Statement.{statement}
 use Rattle.answer_two_or_four.proofs.run_test.Tie as tie
 
--- the function's entry, once the sources are found
-abbrev start : tie.After-find-sources → tie.Start
-start c = c .before .before .before .before
+smallest-low-requires : tie.Need-smallest-low-requires
+smallest-low-requires c κs = search needs
 
--- the sources stand in front of the list
-in-front : (c : tie.After-find-sources)
-    → (let args = start c .args in
-    let find-sources = c .find-sources in
-    InFront (args .n) (args .s) (neighboursOf (args .starts .now) (args .neighbours .now))
-    (find-sources .last .1 .1 .1 .1 .0) (find-sources .result))
-in-front c = record { counted = c .find-sources .ensures .0; front = c .find-sources .ensures .1 }
+cast-if1 : tie.Need-cast-if1
+cast-if1 c = search needs
 
-slice-aggregate-find-sources : tie.Need-slice-aggregate-find-sources
-slice-aggregate-find-sources c = search needs
-
-find-sources-requires : tie.Need-find-sources-requires
-find-sources-requires c κs = search needs
-
-array-share-prefix-list : tie.Need-array-share-prefix-list
-array-share-prefix-list c = sources-fit (in-front (c .before))
-
-slice-aggregate-search-depth : tie.Need-slice-aggregate-search-depth
-slice-aggregate-search-depth c = sources-long (in-front (c .before .before))
-
-search-depth-requires : tie.Need-search-depth-requires
-search-depth-requires c κs =
-    let found = c .before .before in
-    let pre = start found .pre in
-    (pre, sources-below (in-front found) (pre .lists .graph) (pre .size))
-
-verdict-on-requires : tie.Need-verdict-on-requires
-verdict-on-requires c κs = search needs
+test-hubs-requires : tie.Need-test-hubs-requires
+test-hubs-requires c κs = search needs
 
 returns : tie.Need-returns
-returns c =
-    let found = c .before .before .before .before in
-    result-is (in-front found) (start found .pre .size) (c .verdict-on .ensures) (c .before .search-depth .ensures)
+returns c = c .test-hubs .ensures ∙ sources-hubs _ _ _ (c .before .before .smallest-low .ensures) (c .before .if1 .taken)
+
+test-from-requires : tie.Need-test-from-requires
+test-from-requires c κs = (c .before .before .before .before .pre, low-below _ _ _ (c .before .smallest-low .ensures) (c .if1 .left))
+
+returns-2 : tie.Need-returns-2
+returns-2 c = c .test-from .ensures ∙ sources-low _ _ _ (c .before .before .smallest-low .ensures) (c .before .if1 .left)
 
 pub run-test-spec : {M : Type 1} → statement M
 run-test-spec =
     tie.close
     (tie.spec
-    slice-aggregate-find-sources
-    find-sources-requires
-    array-share-prefix-list
-    slice-aggregate-search-depth
-    search-depth-requires
-    verdict-on-requires
-    returns)
+    smallest-low-requires
+    cast-if1
+    test-hubs-requires
+    returns
+    test-from-requires
+    returns-2)

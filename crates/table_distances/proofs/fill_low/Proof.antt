@@ -1,103 +1,112 @@
--- `table_distances::fill_low` meets its contract: after a rows the others are as they were.
+-- `table_distances::fill_low` meets its contract: the distances through low nodes, from many of them at once or from one after the other, are Low.
 -- Assumes nothing.
-use mathlib.Core.Path.{_∙_}
-use Prim.Native.Nat.{ℕ, _-_}
+use mathlib.Core.Path.{_≡_, sym, ap, _∙_}
+use mathlib.Core.List.{List, _++_}
+use Prim.Native.Nat.{ℕ, _*_}
 use native.Mathlib.Omega.{arith}
-use lib.ListN.{length-replicate}
-use Rattle.model.specs.Survey.{neighboursOf}
-use Rattle.model.specs.Tables.{lowEntry}
-use Rattle.base_lists.proofs.TableRows.{RowsTo, rows-none}
-use Rattle.table_distances.proofs.Distances.{low-next, low-done}
+use lib.ListN.{length, take, drop}
+use lib.Seq.{drop-at, length-take-le}
+use Rattle.model.specs.Basics.{over}
+use Rattle.model.specs.Survey.{Graph, neighboursOf}
+use Rattle.model.specs.Tables.{lowTable}
+use Rattle.base_lists.proofs.TableRows.{over-table, over-same}
+use Rattle.base_nodeset.specs.NodeSet.{Nodes, member}
+use Rattle.search_many_sources.specs.Levels.{distances}
+use Rattle.table_distances.proofs.Distances.{low-table}
 use borrow.Author.Needs.{needs}
 use Rattle.table_distances.proofs.fill_low.Statement.{statement}
 use Rattle.table_distances.proofs.fill_low.Tie as tie
 
-abbrev Inv-loop : tie.InvT-loop
-Inv-loop n s starts neighbours low₀ low-nodes rows a₀ low a = RowsTo n (lowEntry n s (neighboursOf starts neighbours)) low₀ low a
+-- the list has room for the table
+table-long : (c : tie.Start) → length (take (c .args .n * c .args .n) (c .args .low .now)) ≡ c .args .n * c .args .n
+table-long c = length-take-le _ _ (c .pre .1)
 
-abbrev μ-loop : tie.MeasureT-loop
-μ-loop n s starts neighbours low₀ low-nodes rows a₀ low a = n - a
-
--- once the links are in the matrix: the place where the low nodes were found, and the function's entry
-module _ (c : tie.After-link-rows Inv-loop μ-loop) where
-  abbrev split : tie.After-low-nodes2 Inv-loop μ-loop
+-- once the low nodes are searched from: where they were found, the function's entry, and the list with what was written in its front
+module _ (c : tie.After-search-all) where
+  abbrev split : tie.After-low-nodes2
   split = c .before .before .before .before
 
-  abbrev start : tie.Start Inv-loop μ-loop
-  start = split .before .before .before .before .before
+  abbrev start : tie.Start
+  start = c .before .before .before .before .before .before .before .before .before
 
-slice-aggregate-low-nodes : tie.Need-slice-aggregate-low-nodes Inv-loop μ-loop
+  abbrev front : List ℕ
+  front = c .search-all .last .1 .1 .1 .1 .0
+
+  abbrev rest : List ℕ
+  rest = drop (start .args .n * start .args .n) (start .args .low .now)
+
+  behind : drop (start .args .n * start .args .n) (front ++ rest) ≡ rest
+  behind = drop-at front _ _ (c .search-all .kept .1 .1 .1 .1 .0 ∙ table-long start)
+
+  abbrev low-nodes : Nodes
+  low-nodes = member (split .low-nodes2 .last .1 .1 .1 .1 .0)
+
+  abbrev graph : Graph
+  graph = neighboursOf (start .args .starts .now) (start .args .neighbours .now)
+
+  is-low : over (distances (start .args .n) low-nodes graph) (start .args .low .now)
+      ≡ over (lowTable (start .args .n) (start .args .s) graph) (start .args .low .now)
+  is-low = ap (λ (t : List ℕ). over t (start .args .low .now))
+      (low-table _ _ _ _ (split .low-nodes2 .ensures))
+
+slice-aggregate-low-nodes : tie.Need-slice-aggregate-low-nodes
 slice-aggregate-low-nodes c = search needs
 
-low-nodes-requires : tie.Need-low-nodes-requires Inv-loop μ-loop
+low-nodes-requires : tie.Need-low-nodes-requires
 low-nodes-requires c κs = search needs
 
-slice-aggregate-link-rows : tie.Need-slice-aggregate-link-rows Inv-loop μ-loop
-slice-aggregate-link-rows c = search needs
+mul-end : tie.Need-mul-end
+mul-end c = search needs
 
-slice-aggregate-link-rows-2 : tie.Need-slice-aggregate-link-rows-2 Inv-loop μ-loop
-slice-aggregate-link-rows-2 c = search needs
+slice-aggregate-search-all : tie.Need-slice-aggregate-search-all
+slice-aggregate-search-all c = search needs
 
-link-rows-requires : tie.Need-link-rows-requires Inv-loop μ-loop
-link-rows-requires c κs = search needs
+slice-relend-prefix-search-all : tie.Need-slice-relend-prefix-search-all
+slice-relend-prefix-search-all c = search needs
 
-loop-holds : tie.Need-loop-holds Inv-loop μ-loop
-loop-holds c = rows-none (start (c .before) .pre .1)
+slice-aggregate-search-all-2 : tie.Need-slice-aggregate-search-all-2
+slice-aggregate-search-all-2 c = sym (table-long (c .before .before .before .before .before .before .before .before))
 
-slice-aggregate-low-row : tie.Need-slice-aggregate-low-row Inv-loop μ-loop
-slice-aggregate-low-row c = search needs
+search-all-requires : tie.Need-search-all-requires
+search-all-requires c κs =
+    let start = c .before .before .before .before .before .before .before .before in (start .pre .0, c .before .before .before .low-nodes2 .kept .1 .1 .1 .1 .0, table-long start)
 
-slice-aggregate-low-row-2 : tie.Need-slice-aggregate-low-row-2 Inv-loop μ-loop
-slice-aggregate-low-row-2 c = search needs
-
-low-row-requires : tie.Need-low-row-requires Inv-loop μ-loop
-low-row-requires c κs =
-    let turn = c .before .before .before in
-    let linked = turn .before .before .before in (
-      start linked .pre .0 .size,
-      linked .link-rows .kept .1 .1 .1 .1 .0 ∙ length-replicate {A = ℕ} 16384 0,
-      split linked .low-nodes2 .kept .1 .1 .1 .1 .0,
-      turn .loop-test .taken,
-      omega arith,
-    )
-
-add-a : tie.Need-add-a Inv-loop μ-loop
-add-a c = search needs
-
-loop-less : tie.Need-loop-less Inv-loop μ-loop
-loop-less c = search needs
-
-loop-again : tie.Need-loop-again Inv-loop μ-loop
-loop-again c =
-    let low-row = c .before .before .low-row in
-    let turn = c .before .before .before .before .before .before in
-    let linked = turn .before .before .before in
-    low-next _ _ (turn .before .loop .inv) (start linked .pre .0 .lists .graph) (turn .loop-test .taken) (split linked .low-nodes2 .ensures)
-    (linked .link-rows .ensures) (low-row .ensures)
-
-same-length : tie.Need-same-length Inv-loop μ-loop
+same-length : tie.Need-same-length
 same-length c = search needs
 
-returns : tie.Need-returns Inv-loop μ-loop
-returns c = low-done _ _ (c .before .loop .inv) (c .loop-test .left)
+returns : tie.Need-returns
+returns c =
+    let searched = c .before .before .before in
+    ap (λ (t : List ℕ). t ++ rest searched) (searched .search-all .ensures (c .if1 .taken)) ∙ sym (over-table _ _ _) ∙ is-low searched
+
+slice-aggregate-low-rows : tie.Need-slice-aggregate-low-rows
+slice-aggregate-low-rows c = search needs
+
+low-rows-requires : tie.Need-low-rows-requires
+low-rows-requires c κs = search needs
+
+same-length-2 : tie.Need-same-length-2
+same-length-2 c = search needs
+
+returns-2 : tie.Need-returns-2
+returns-2 c =
+    let searched = c .before .before .before .before .before .before .before .before in
+    c .before .before .low-rows .ensures ∙ over-same _ _ _ _ (behind searched) ∙ is-low searched
 
 pub fill-low-spec : {M : Type 1} → statement M
 fill-low-spec =
     tie.close
     (tie.spec
-    Inv-loop
-    μ-loop
     slice-aggregate-low-nodes
     low-nodes-requires
-    slice-aggregate-link-rows
-    slice-aggregate-link-rows-2
-    link-rows-requires
-    loop-holds
-    slice-aggregate-low-row
-    slice-aggregate-low-row-2
-    low-row-requires
-    add-a
-    loop-less
-    loop-again
+    mul-end
+    slice-aggregate-search-all
+    slice-relend-prefix-search-all
+    slice-aggregate-search-all-2
+    search-all-requires
     same-length
-    returns)
+    returns
+    slice-aggregate-low-rows
+    low-rows-requires
+    same-length-2
+    returns-2)

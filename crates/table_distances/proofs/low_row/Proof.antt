@@ -1,68 +1,62 @@
 -- `table_distances::low_row` meets its contract: a low node's row is searched, another one filled.
 -- Assumes nothing.
 use mathlib.Core.Path.{_≡_, sym, ap, _∙_}
-use mathlib.Core.List.{List}
 use Prim.Native.Nat.{ℕ, _+_, _-_, _*_, _≤_}
 use native.Mathlib.Omega.{arith}
 use lib.ListN.{length, replicate}
 use borrow.Rule.Slice.PartMut.{midOf}
 use Rattle.model.specs.Basics.{none}
-use Rattle.base_lists.proofs.TableRows.{row-within, part-length, row-put, none-row}
+use Rattle.model.proofs.Entries.{square-small}
+use Rattle.model.proofs.Tests.{true-T}
+use Rattle.base_lists.specs.Written.{written}
+use Rattle.base_nodeset.specs.NodeSet.{member}
+use Rattle.base_lists.proofs.TableRows.{row-within, part-length, row-put}
+use Rattle.table_distances.proofs.Distances.{distance-row, distance-none}
 use borrow.Author.Needs.{needs}
 use Rattle.table_distances.proofs.low_row.Statement.{statement}
 use Rattle.table_distances.proofs.low_row.Tie as tie
 
 -- the function's entry, from the test of the row's node
 abbrev start : tie.After-contains → tie.Start
-start c = c .before .before .before .before
+start c = c .before .before .before .before .before
 
--- row a ends in its table
-row-end : (c : tie.Start) → c .args .a * c .args .n + c .args .n ≤ c .args .n * c .args .n
-row-end c = row-within _ _ (c .pre .3)
+-- row a ends in its table, which is not large
+row-end : (c : tie.Start) → (c .args .a * c .args .n + c .args .n ≤ c .args .n * c .args .n) × (c .args .n * c .args .n ≤ 1048576)
+row-end c = (row-within _ _ (c .pre .2), square-small _ (c .pre .0 .size))
 
 -- and is a part of n entries
-abbrev part : tie.Start → List ℕ
-part c = let first = c .args .a * c .args .n in midOf first (first + c .args .n - first) (c .args .low .now)
-
-part-is : (c : tie.Start) → length (part c) ≡ c .args .n
-part-is c = part-length _ _ _ (c .pre .3) (c .pre .4)
-
-mul-start : tie.Need-mul-start
-mul-start c = omega (arith, row-end (c .before .before .before))
-
-add-end : tie.Need-add-end
-add-end c = omega (arith, row-end (c .before .before .before))
+part-is : (c : tie.Start) → length (midOf (c .args .a * c .args .n) (c .args .a * c .args .n + c .args .n - c .args .a * c .args .n) (c .args .low .now))
+    ≡ c .args .n
+part-is c = part-length _ _ _ (c .pre .2) (c .pre .3)
 
 contains-requires : tie.Need-contains-requires
 contains-requires c κs = search needs
 
-mul-search : tie.Need-mul-search
-mul-search c = omega (arith, row-end (start (c .before)))
-
-sub-search : tie.Need-sub-search
-sub-search c = search needs
-
-part-search-start : tie.Need-part-search-start
-part-search-start c = search needs
-
-part-search-end : tie.Need-part-search-end
-part-search-end c = omega (arith, row-end (start (c .before)))
-
-search-requires : tie.Need-search-requires
-search-requires c κs = search needs
+search-row-requires : tie.Need-search-row-requires
+search-row-requires c κs =
+    let branch = c .before in
+    let start = c .before .before .before .before .before .before .before in (
+      (start .pre .0, start .pre .1),
+      (start .pre .2, true-T _ (sym (branch .before .contains .ensures) ∙ branch .if1 .taken), start .pre .3),
+    )
 
 same-length : tie.Need-same-length
 same-length c = search needs
 
 returns : tie.Need-returns
 returns c =
-    let search = c .before .before .search in
     let branch = c .before .before .before .before in
-    rw (sym (branch .before .contains .ensures) ∙ branch .if1 .taken)
-    (row-put (_ * _) _ _ _ _ (search .kept .1 .1 .1 .0 ∙ part-is (start (branch .before))) (search .ensures))
+    c .before .before .search-row .ensures
+    ∙ ap (written _ (_ * _)) (distance-row _ (member (start (branch .before) .args .low-nodes .now)) _ _ (sym (branch .before .contains .ensures) ∙ branch .if1 .taken))
+
+mul-start : tie.Need-mul-start
+mul-start c = let q = row-end (c .before .before .before .before .before .before) in omega (arith, q .0, q .1)
+
+add-end : tie.Need-add-end
+add-end c = let q = row-end (c .before .before .before .before .before .before) in omega (arith, q .0, q .1)
 
 mul-fill16 : tie.Need-mul-fill16
-mul-fill16 c = omega (arith, row-end (start (c .before)))
+mul-fill16 c = let q = row-end (c .before .before .before .before .before .before) in omega (arith, q .0, q .1)
 
 sub-fill16 : tie.Need-sub-fill16
 sub-fill16 c = search needs
@@ -71,7 +65,7 @@ part-fill16-start : tie.Need-part-fill16-start
 part-fill16-start c = search needs
 
 part-fill16-end : tie.Need-part-fill16-end
-part-fill16-end c = omega (arith, row-end (start (c .before)))
+part-fill16-end c = let q = row-end (c .before .before .before .before .before .before) in omega (arith, q .0, q .1)
 
 fill16-requires : tie.Need-fill16-requires
 fill16-requires c κs = search needs
@@ -84,23 +78,19 @@ returns-2 c =
     let fill16 = c .before .before .fill16 in
     let branch = c .before .before .before .before in
     let size = part-is (start (branch .before)) in
-    rw (sym (branch .before .contains .ensures) ∙ branch .if1 .left)
-    (row-put (_ * _) _ _ _ _ (fill16 .kept .0 ∙ size) (fill16 .ensures ∙ ap (λ (k : ℕ). replicate k none) size ∙ none-row _ none))
+    row-put (_ * _) _ _ _ _ (fill16 .kept .0 ∙ size) (fill16 .ensures ∙ ap (λ (k : ℕ). replicate k none) size
+    ∙ distance-none _ (member (start (branch .before) .args .low-nodes .now)) _ _ (sym (branch .before .contains .ensures) ∙ branch .if1 .left))
 
 pub low-row-spec : {M : Type 1} → statement M
 low-row-spec =
     tie.close
     (tie.spec
-    mul-start
-    add-end
     contains-requires
-    mul-search
-    sub-search
-    part-search-start
-    part-search-end
-    search-requires
+    search-row-requires
     same-length
     returns
+    mul-start
+    add-end
     mul-fill16
     sub-fill16
     part-fill16-start

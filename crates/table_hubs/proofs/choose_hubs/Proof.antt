@@ -1,46 +1,50 @@
 -- `table_hubs::choose_hubs` meets its contract: the hubs so far are written, the greedy choice for the uncovered nodes gives the rest.
 -- Assumes nothing.
+use mathlib.Core.Path.{_≡_, refl}
 use Prim.Native.Nat.{_-_, _≤_, _<_}
 use native.Mathlib.Omega.{arith}
 use lib.ListN.{length}
 use Rattle.model.specs.Survey.{neighboursOf}
+use Rattle.table_hubs.specs.Bounds.{Bounded}
 use Rattle.table_hubs.proofs.Sets.{uncovered}
-use Rattle.table_hubs.proofs.Greedy.{Choosing, choosing-none, choosing-part, choosing-same}
+use Rattle.table_hubs.proofs.Greedy.{Choosing, choosing-none, choosing-part, choosing-same, bounded-start, bounded-fewer}
 use Rattle.table_hubs.proofs.Greedy.{choosing-some, choosing-room, choosing-node, choosing-more, choosing-all}
 use borrow.Author.Needs.{needs}
 use Rattle.table_hubs.proofs.choose_hubs.Statement.{statement}
 use Rattle.table_hubs.proofs.choose_hubs.Tie as tie
 
 abbrev Inv-loop : tie.InvT-loop
-Inv-loop n s starts neighbours list₀ uncovered₀ count₀ list uncovered count =
-    Choosing n s (neighboursOf starts neighbours) list₀ list uncovered count
+Inv-loop n s starts neighbours list₀ us₀ bounds₀ count₀ list us bounds count =
+    Choosing n s (neighboursOf starts neighbours) list₀ list us count
+    × Bounded n (neighboursOf starts neighbours) (uncovered n us) bounds
+    × (length bounds ≡ 1024)
 
 abbrev μ-loop : tie.MeasureT-loop
-μ-loop n s starts neighbours list₀ uncovered₀ count₀ list uncovered count = n - count
+μ-loop n s starts neighbours list₀ us₀ bounds₀ count₀ list us bounds count = n - count
 
 -- the function's entry, from a turn of the loop
 abbrev start : tie.At-loop Inv-loop μ-loop → tie.Start Inv-loop μ-loop
-start turn = turn .before .before .before .before .before .before .before
+start c = c .before .before .before .before .before .before .before
 
 -- the entries behind the hubs chosen so far
 rest : (c : tie.At-loop Inv-loop μ-loop) → (c .loop .count ≤ start c .args .n) × (start c .args .n ≤ length (c .loop .list))
-rest c = choosing-part (c .loop .inv)
+rest c = choosing-part (c .loop .inv .0)
 
 -- once the next hub is found
 module _ (c : tie.After-best-node Inv-loop μ-loop) where
   abbrev turn : tie.At-loop Inv-loop μ-loop
-  turn = c .before .before .before .before .before
+  turn = c .before .before .before .before .before .before
 
   -- some node was uncovered
   some : 0 < length (uncovered (start turn .args .n) (turn .loop .uncovered))
-  some = choosing-some (turn .loop .inv) (c .before .before .before .smallest .ensures) (c .before .before .if1 .left)
+  some = choosing-some (turn .loop .inv .0) (c .before .before .before .before .smallest .ensures) (c .before .before .before .if1 .left)
 
   -- so there is room for the hub
   room : (turn .loop .count < start turn .args .n) × (turn .loop .count < length (turn .loop .list))
-  room = choosing-room (turn .loop .inv) some
+  room = choosing-room (turn .loop .inv .0) some
 
   hub-below : c .best-node .result < start turn .args .n
-  hub-below = choosing-node (turn .loop .inv) some (c .best-node .ensures)
+  hub-below = choosing-node (turn .loop .inv .0) some (c .best-node .ensures .0)
 
 slice-aggregate-high-nodes : tie.Need-slice-aggregate-high-nodes Inv-loop μ-loop
 slice-aggregate-high-nodes c = search needs
@@ -52,7 +56,7 @@ loop-holds : tie.Need-loop-holds Inv-loop μ-loop
 loop-holds c =
     let high = c .before .high-nodes in
     let pre = c .before .before .before .before .before .before .pre in
-    choosing-none (pre .0 .size) (pre .1) (high .kept .1 .1 .1 .1 .0) (high .ensures)
+    (choosing-none (pre .0 .size) (pre .1) (high .kept .1 .1 .1 .1 .0) (high .ensures), bounded-start _ (pre .0 .size), refl)
 
 slice-aggregate-smallest : tie.Need-slice-aggregate-smallest Inv-loop μ-loop
 slice-aggregate-smallest c = search needs
@@ -63,37 +67,46 @@ smallest-requires c κs = search needs
 slice-aggregate-best-node : tie.Need-slice-aggregate-best-node Inv-loop μ-loop
 slice-aggregate-best-node c = search needs
 
+slice-aggregate-best-node-2 : tie.Need-slice-aggregate-best-node-2 Inv-loop μ-loop
+slice-aggregate-best-node-2 c = search needs
+
 best-node-requires : tie.Need-best-node-requires Inv-loop μ-loop
-best-node-requires c κs = search needs
+best-node-requires c κs =
+    let inv = c .before .before .before .before .before .loop .inv in
+    let pre = c .before .before .before .before .before .before .before .before .before .before .before .before .pre in
+    ((pre .0, inv .0 .long, omega (arith, inv .2, pre .0 .size)), inv .1)
 
 cast-list : tie.Need-cast-list Inv-loop μ-loop
-cast-list c = omega (arith, hub-below c)
+cast-list c = omega (arith, hub-below (c .before))
 
 mul-list : tie.Need-mul-list Inv-loop μ-loop
-mul-list c = omega (arith, room c)
+mul-list c = omega (arith, room (c .before))
 
 slice-write-list : tie.Need-slice-write-list Inv-loop μ-loop
-slice-write-list c = room c .1
+slice-write-list c = room (c .before) .1
 
 add-count : tie.Need-add-count Inv-loop μ-loop
-add-count c = omega (arith, room c)
+add-count c = omega (arith, room (c .before))
 
 slice-aggregate-cover : tie.Need-slice-aggregate-cover Inv-loop μ-loop
 slice-aggregate-cover c = search needs
 
 cover-requires : tie.Need-cover-requires Inv-loop μ-loop
 cover-requires c κs =
-    let found = c .before in
-    (start (turn found) .pre .0, omega (arith, hub-below found), turn found .loop .inv .long)
+    let found = c .before .before in
+    (start (turn found) .pre .0, omega (arith, hub-below found), turn found .loop .inv .0 .long)
 
 loop-less : tie.Need-loop-less Inv-loop μ-loop
-loop-less c = omega (arith, room (c .before .before .before))
+loop-less c = omega (arith, room (c .before .before .before .before))
 
 loop-again : tie.Need-loop-again Inv-loop μ-loop
 loop-again c =
     let cover = c .before .cover in
-    let found = c .before .before .before in
-    choosing-more (turn found .loop .inv) (some found) (found .best-node .ensures) (cover .kept .1 .1 .1 .1 .0) (cover .ensures)
+    let found = c .before .before .before .before in (
+      choosing-more (turn found .loop .inv .0) (some found) (found .best-node .ensures .0) (cover .kept .1 .1 .1 .1 .0) (cover .ensures),
+      bounded-fewer _ _ (found .best-node .ensures .1) _ (cover .ensures),
+      search needs,
+    )
 
 mul-fill16 : tie.Need-mul-fill16 Inv-loop μ-loop
 mul-fill16 c = omega (arith, rest (c .before .before .before))
@@ -113,13 +126,14 @@ fill16-requires c κs = search needs
 same-length : tie.Need-same-length Inv-loop μ-loop
 same-length c =
     let fill16 = c .before .before .fill16 in
-    choosing-same (c .before .before .before .before .before .before .before .loop .inv) (fill16 .last .0) (fill16 .kept .0)
+    choosing-same (c .before .before .before .before .before .before .before .loop .inv .0) (fill16 .last .0) (fill16 .kept .0)
 
 returns : tie.Need-returns Inv-loop μ-loop
 returns c =
-    let covered = c .before .before .before .before in
-    choosing-all (covered .before .before .before .loop .inv) (covered .before .smallest .ensures) (covered .if1 .taken)
-    (c .before .before .fill16 .ensures)
+    let filled = c .before .before in
+    let covered = filled .before .before in
+    choosing-all (covered .before .before .before .loop .inv .0) (covered .before .smallest .ensures)
+    (covered .if1 .taken) (filled .fill16 .ensures)
 
 pub choose-hubs-spec : {M : Type 1} → statement M
 choose-hubs-spec =
@@ -133,6 +147,7 @@ choose-hubs-spec =
     slice-aggregate-smallest
     smallest-requires
     slice-aggregate-best-node
+    slice-aggregate-best-node-2
     best-node-requires
     cast-list
     mul-list

@@ -1,16 +1,16 @@
--- `table_hubs::cover` meets its contract: the closed neighbourhood is taken out.
+-- `table_hubs::cover` meets its contract: the newly covered nodes are those of the closed neighbourhood that were uncovered.
 -- Assumes nothing.
-use mathlib.Core.Path.{ap, _∙_}
-use Rattle.base_nodeset.specs.NodeSet.{difference}
+use Rattle.base_nodeset.specs.NodeSet.{member}
+use Rattle.table_hubs.proofs.Sets.{covered-newly}
 use borrow.Author.Needs.{needs}
 use Rattle.table_hubs.proofs.cover.Statement.{statement}
 use Rattle.table_hubs.proofs.cover.Tie as tie
 
-slice-aggregate-insert-closed : tie.Need-slice-aggregate-insert-closed
-slice-aggregate-insert-closed c = search needs
+slice-aggregate-write-newly-covered : tie.Need-slice-aggregate-write-newly-covered
+slice-aggregate-write-newly-covered c = search needs
 
-insert-closed-requires : tie.Need-insert-closed-requires
-insert-closed-requires c κs = search needs
+write-newly-covered-requires : tie.Need-write-newly-covered-requires
+write-newly-covered-requires c κs = search needs
 
 slice-aggregate-subtract : tie.Need-slice-aggregate-subtract
 slice-aggregate-subtract c = search needs
@@ -22,16 +22,14 @@ same-length : tie.Need-same-length
 same-length c = search needs
 
 returns : tie.Need-returns
-returns c =
-    let near = c .before .before .before .before .before .before .insert-closed in
-    c .before .before .subtract .ensures ∙ ap (difference _) (near .ensures)
+returns c = covered-newly _ (member _) (c .before .before .before .before .before .before .write-newly-covered .ensures) (c .before .before .subtract .ensures)
 
 pub cover-spec : {M : Type 1} → statement M
 cover-spec =
     tie.close
     (tie.spec
-    slice-aggregate-insert-closed
-    insert-closed-requires
+    slice-aggregate-write-newly-covered
+    write-newly-covered-requires
     slice-aggregate-subtract
     subtract-requires
     same-length

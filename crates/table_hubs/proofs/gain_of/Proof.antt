@@ -1,35 +1,49 @@
--- `table_hubs::gain_of` meets its contract: what the closed neighbourhood and the uncovered nodes have in common is counted.
+-- `table_hubs::gain_of` meets its contract: the newly covered nodes are counted.
 -- Assumes nothing.
-use mathlib.Core.Path.{_∙_}
-use Rattle.table_hubs.proofs.Sets.{gain-words}
+use mathlib.Core.Path.{_≡_, _∙_}
+use native.Mathlib.Omega.{arith}
+use Rattle.model.specs.Hubs.{gain}
+use Rattle.model.specs.Survey.{neighboursOf}
+use Rattle.table_hubs.proofs.Sets.{uncovered, gain-words, gain-few}
 use borrow.Author.Needs.{needs}
 use Rattle.table_hubs.proofs.gain_of.Statement.{statement}
 use Rattle.table_hubs.proofs.gain_of.Tie as tie
 
-slice-aggregate-insert-closed : tie.Need-slice-aggregate-insert-closed
-slice-aggregate-insert-closed c = search needs
+slice-aggregate-write-newly-covered : tie.Need-slice-aggregate-write-newly-covered
+slice-aggregate-write-newly-covered c = search needs
 
-insert-closed-requires : tie.Need-insert-closed-requires
-insert-closed-requires c κs = search needs
+write-newly-covered-requires : tie.Need-write-newly-covered-requires
+write-newly-covered-requires c κs = search needs
 
-slice-aggregate-count-intersection : tie.Need-slice-aggregate-count-intersection
-slice-aggregate-count-intersection c = search needs
+slice-aggregate-count : tie.Need-slice-aggregate-count
+slice-aggregate-count c = search needs
 
-count-intersection-requires : tie.Need-count-intersection-requires
-count-intersection-requires c κs = search needs
+count-requires : tie.Need-count-requires
+count-requires c κs = search needs
+
+counted : (c : tie.After-count) → (let args = c .before .before .before .before .before .before .before .before .args in
+    c .count .result ≡ gain (neighboursOf (args .starts .now) (args .neighbours .now)) (uncovered (args .n) (args .uncovered .now)) (args .v))
+counted c =
+    let newly = c .before .before .before .write-newly-covered in
+    let pre = c .before .before .before .before .before .before .before .before .pre in
+    c .count .ensures ∙ gain-words (pre .0) _ (pre .1) _ _ (search needs) (newly .ensures)
+
+cast-result : tie.Need-cast-result
+cast-result c =
+    let start = c .before .before .before .before .before .before .before .before in
+    let graph = neighboursOf (start .args .starts .now) (start .args .neighbours .now) in
+    omega (arith, counted c, gain-few (start .args .n) graph (start .args .uncovered .now) (start .args .v), start .pre .0 .size)
 
 returns : tie.Need-returns
-returns c =
-    let near = c .before .before .before .insert-closed in
-    let start = c .before .before .before .before .before .before .before .before in
-    c .count-intersection .ensures ∙ gain-words (start .pre .0) _ (start .pre .1) _ _ (search needs) (near .ensures)
+returns c = counted c
 
 pub gain-of-spec : {M : Type 1} → statement M
 gain-of-spec =
     tie.close
     (tie.spec
-    slice-aggregate-insert-closed
-    insert-closed-requires
-    slice-aggregate-count-intersection
-    count-intersection-requires
+    slice-aggregate-write-newly-covered
+    write-newly-covered-requires
+    slice-aggregate-count
+    count-requires
+    cast-result
     returns)

@@ -1,3 +1,0 @@
-pub mod RowJoining
-pub mod Marks
-pub mod LayerTurns
