@@ -14,7 +14,8 @@ enum { NODES = PUXERDAU_MAX_NODES, STACK = 1 << 20, GUARD = 4096, FILL = 0xa5 };
 #define LENGTH(list) (sizeof(list) / sizeof *(list))
 
 static uint8_t text[PUXERDAU_TEXT_LENGTH + 1], buffer[PUXERDAU_TEXT_LENGTH], listing[PUXERDAU_LISTING_LENGTH];
-static size_t text_length;
+static uint8_t file[PUXERDAU_FILE_LENGTH];
+static size_t text_length, file_length;
 static uint32_t starts[PUXERDAU_STARTS_LENGTH];
 static uint16_t neighbours[PUXERDAU_NEIGHBOURS_LENGTH];
 static uint16_t full[PUXERDAU_TABLE_LENGTH(NODES)], low[PUXERDAU_TABLE_LENGTH(NODES)], report[PUXERDAU_TABLE_LENGTH(NODES)];
@@ -26,12 +27,20 @@ static size_t from, to; /* the pair that is asked */
 static uint64_t call_threshold(void) { return puxerdau_threshold(NODES); }
 static uint64_t call_read(void) { return puxerdau_survey_read(&survey, text, text_length); }
 static uint64_t call_write(void) { return puxerdau_survey_write(&survey, buffer, LENGTH(buffer)); }
+static uint64_t call_import(void) { return puxerdau_survey_import(&survey, file, file_length); }
 static uint64_t call_accept(void) { return puxerdau_survey_accept(&survey); }
 static uint64_t call_build(void) { return puxerdau_survey_build(&survey, &tables); }
 static uint64_t call_ask(void) { return puxerdau_survey_ask(&survey, &tables, from, to); }
 static uint64_t call_walk(void) { return puxerdau_survey_walk(&survey, &tables, from, to, walk, LENGTH(walk)); }
 static uint64_t call_test(void) { return puxerdau_survey_test(&survey); }
 static uint64_t call_list(void) { return puxerdau_list(text, text_length, listing, LENGTH(listing)); }
+
+static uint64_t call_export(void)
+{
+    uint64_t exported = puxerdau_survey_export(&survey, file, LENGTH(file));
+    file_length = puxerdau_count(exported);
+    return exported;
+}
 
 struct measured {
     const char *name;
@@ -41,8 +50,9 @@ struct measured {
 
 /* In an order in which each call finds what it needs. */
 static struct measured calls[] = {
-    {"threshold", call_threshold, 0}, {"read", call_read, 0}, {"accept", call_accept, 0}, {"write", call_write, 0},
-    {"build", call_build, 0},         {"ask", call_ask, 0},   {"test", call_test, 0},     {"list", call_list, 0},
+    {"threshold", call_threshold, 0}, {"read", call_read, 0},     {"accept", call_accept, 0}, {"write", call_write, 0},
+    {"export", call_export, 0},       {"import", call_import, 0}, {"build", call_build, 0},   {"ask", call_ask, 0},
+    {"test", call_test, 0},           {"list", call_list, 0},
 };
 static struct measured low_walk = {"walk by low nodes", call_walk, 0}, hub_walk = {"walk through a hub", call_walk, 0};
 

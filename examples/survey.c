@@ -1,5 +1,6 @@
 /* Reads a survey from standard input, builds its tables, reports on the pairs of nodes that the arguments name, with their walks, runs
- * the two-or-four test, and writes the survey back. */
+ * the two-or-four test, and writes the survey back. With the argument `file` before the pairs, the survey is read from a DIMACS edge file
+ * and written as one; the pairs are numbered from 0 as ever. */
 #include "puxerdau.h"
 #include <stdio.h>
 #include <stdlib.h>
@@ -7,7 +8,7 @@
 
 enum { NODES = PUXERDAU_MAX_NODES };
 
-static uint8_t text[PUXERDAU_FRONT_LENGTH], written[PUXERDAU_TEXT_LENGTH];
+static uint8_t text[PUXERDAU_FRONT_LENGTH], written[PUXERDAU_TEXT_LENGTH], exported[PUXERDAU_FILE_LENGTH];
 static uint32_t starts[PUXERDAU_STARTS_LENGTH];
 static uint16_t neighbours[PUXERDAU_NEIGHBOURS_LENGTH];
 static uint16_t full[PUXERDAU_TABLE_LENGTH(NODES)], low[PUXERDAU_TABLE_LENGTH(NODES)], report[PUXERDAU_TABLE_LENGTH(NODES)];
@@ -66,28 +67,52 @@ static int are_pairs(int count, char **words)
     return count % 2 == 0;
 }
 
-int main(int count, char **words)
+/* The survey on standard input, as a text or as a file. */
+static int read_survey(int is_file)
 {
-    static const char *const verdicts[] = {[PUXERDAU_PARTED] = "parted", [PUXERDAU_LONG] = "long", [PUXERDAU_SHORT] = "short"};
-    if (!are_pairs(count - 1, words + 1)) {
-        fprintf(stderr, "usage: survey [NODE NODE].. < SURVEY\n");
-        return 2;
-    }
     size_t length = fread(text, 1, sizeof text, stdin);
     if (ferror(stdin)) {
         perror("standard input");
-        return 1;
+        return 0;
     }
-
-    uint64_t answer = puxerdau_survey_read(&survey, text, length);
-    if (refused("read", answer))
-        return 1;
+    /* of a text no later byte matters */
+    if (is_file && length == sizeof text) {
+        fprintf(stderr, "the file has %zu bytes or more\n", length);
+        return 0;
+    }
+    uint64_t answer = is_file ? puxerdau_survey_import(&survey, text, length) : puxerdau_survey_read(&survey, text, length);
+    if (refused(is_file ? "import" : "read", answer))
+        return 0;
     print_count(puxerdau_nodes(answer), "node", "nodes");
     printf(", ");
     print_count(puxerdau_links(answer), "link", "links");
     printf("\n");
+    return 1;
+}
 
-    answer = puxerdau_survey_build(&survey, &tables);
+static int write_survey(int is_file)
+{
+    uint64_t answer = is_file ? puxerdau_survey_export(&survey, exported, sizeof exported)
+                              : puxerdau_survey_write(&survey, written, sizeof written);
+    if (refused(is_file ? "export" : "write", answer))
+        return 0;
+    fwrite(is_file ? exported : written, 1, puxerdau_count(answer), stdout);
+    return 1;
+}
+
+int main(int count, char **words)
+{
+    static const char *const verdicts[] = {[PUXERDAU_PARTED] = "parted", [PUXERDAU_LONG] = "long", [PUXERDAU_SHORT] = "short"};
+    int is_file = count > 1 && strcmp(words[1], "file") == 0;
+    int first = is_file ? 2 : 1;
+    if (!are_pairs(count - first, words + first)) {
+        fprintf(stderr, "usage: survey [file] [NODE NODE].. < SURVEY\n");
+        return 2;
+    }
+    if (!read_survey(is_file))
+        return 1;
+
+    uint64_t answer = puxerdau_survey_build(&survey, &tables);
     if (refused("build", answer))
         return 1;
     printf("hubs:");
@@ -96,7 +121,7 @@ int main(int count, char **words)
     printf("\n");
 
     /* a number that is too large for strtoul becomes the largest, which is no node either */
-    for (int i = 1; i + 1 < count; i += 2)
+    for (int i = first; i + 1 < count; i += 2)
         print_pair(strtoul(words[i], NULL, 10), strtoul(words[i + 1], NULL, 10));
 
     answer = puxerdau_survey_test(&survey);
@@ -106,9 +131,5 @@ int main(int count, char **words)
     print_count(puxerdau_searches(answer), "search", "searches");
     printf("\n");
 
-    answer = puxerdau_survey_write(&survey, written, sizeof written);
-    if (refused("write", answer))
-        return 1;
-    fwrite(written, 1, puxerdau_count(answer), stdout);
-    return 0;
+    return write_survey(is_file) ? 0 : 1;
 }

@@ -16,8 +16,8 @@
  *    nothing and keeps nothing, so that threads may call at once.
  *  - Compared with a second implementation, on random input: what the compiled functions answer and leave (comparison/compare).
  *  - Measured: the stack (comparison/stack).
- * The declarations, the constants and the inline functions of this file are not proved. examples/run and comparison/stack use them;
- * comparison/compare checks the constants' numbers and takes every answer apart by the functions below.
+ * The declarations, the constants and the inline functions of this file are not proved. examples/run, comparison/stack and
+ * comparison/planners use them; comparison/compare checks the constants' numbers and takes every answer apart by the functions below.
  *
  * An answer is one number of 64 bits: `code` of crates/base_answer_codes/specs/Code.antt, taken apart by the functions below. */
 #ifndef PUXERDAU_H
@@ -31,7 +31,7 @@ extern "C" {
 #endif
 
 #define PUXERDAU_VERSION_MAJOR 1
-#define PUXERDAU_VERSION_MINOR 0
+#define PUXERDAU_VERSION_MINOR 1
 #define PUXERDAU_VERSION_PATCH 0
 #define PUXERDAU_QUOTED(x) #x
 #define PUXERDAU_DOTTED(a, b, c) PUXERDAU_QUOTED(a) "." PUXERDAU_QUOTED(b) "." PUXERDAU_QUOTED(c)
@@ -45,7 +45,7 @@ extern "C" {
 
 /* Lengths that are always enough, each with the place of its proof. */
 
-/* The lists of a survey: `reading-enough` of crates/model/proofs/Sizes.antt. */
+/* The lists of a survey: `reading-enough` and `importing-enough` of crates/model/proofs/Sizes.antt. */
 #define PUXERDAU_STARTS_LENGTH (PUXERDAU_MAX_NODES + 1)
 #define PUXERDAU_NEIGHBOURS_LENGTH (2 * PUXERDAU_MAX_LINKS)
 /* Each table of n nodes (2 MiB for 1,024) and the hub list: the contract of puxerdau_build. */
@@ -55,6 +55,8 @@ extern "C" {
 #define PUXERDAU_WALK_LENGTH(n) (2 * (size_t)(n))
 /* The buffer for a survey's text, 196,621 bytes: `writing-enough` of crates/model/proofs/Sizes.antt. */
 #define PUXERDAU_TEXT_LENGTH (13 + 12 * PUXERDAU_MAX_LINKS)
+/* The buffer for a file, 196,626 bytes: `exporting-enough` of crates/model/proofs/Sizes.antt. */
+#define PUXERDAU_FILE_LENGTH (18 + 12 * PUXERDAU_MAX_LINKS)
 /* The buffer for a listing, 146,314 bytes: the contract of puxerdau_list. */
 #define PUXERDAU_LISTING_LENGTH (10 + 9 * (PUXERDAU_LIST_MAX_NODES * (PUXERDAU_LIST_MAX_NODES - 1)))
 /* The front of a text, 393,241 bytes: no later byte changes what reading answers or leaves. `reading-front` of
@@ -62,7 +64,7 @@ extern "C" {
 #define PUXERDAU_FRONT_LENGTH (24 * (PUXERDAU_MAX_LINKS + 1) + 1)
 
 /* Stack that is enough for any call but puxerdau_list, and for puxerdau_list: measured on the archive that the kit `rattle-kit-5b-plain`
- * (`rt version`) makes. The most were 168,384 bytes, by puxerdau_walk, and 385,128. */
+ * (`rt version`) makes. puxerdau_read and puxerdau_import used about 131 kB; the most were 168,384 bytes, by puxerdau_walk, and 385,168. */
 #define PUXERDAU_STACK_BYTES 196608
 #define PUXERDAU_LIST_STACK_BYTES 524288
 
@@ -71,18 +73,19 @@ extern "C" {
 
 /* 0, or why the call was refused. */
 enum puxerdau_refusal_number {
-    PUXERDAU_FORM = 1,          /* the text is not in the stated form */
+    PUXERDAU_FORM = 1,          /* a survey's text is not in the stated form */
     PUXERDAU_NODE_COUNT = 2,    /* n is outside 1 to 1,024 */
     PUXERDAU_LINK_COUNT = 3,    /* m is above 16,384 */
-    PUXERDAU_LINE_NODE = 4,     /* a line names a node of n or more */
+    PUXERDAU_LINE_NODE = 4,     /* a line names a node of n or more; of a file, 0 or above n */
     PUXERDAU_EQUAL_ENDS = 5,    /* both ends of a line's link are equal */
-    PUXERDAU_REPEATED_LINK = 6, /* a line's link was given before */
-    PUXERDAU_LINE_COUNT = 7,    /* fewer or more lines than the first line says */
+    PUXERDAU_REPEATED_LINK = 6, /* a line's link was given before; in a file that is allowed */
+    PUXERDAU_LINE_COUNT = 7,    /* a survey's text has fewer or more lines than its first line says */
     PUXERDAU_SHORT_LIST = 8,    /* a list is too short */
     PUXERDAU_NOT_SURVEY = 9,    /* the two lists are not a survey's */
     PUXERDAU_NO_NODE = 10,      /* a node is n or more */
     PUXERDAU_NOT_ATTAINED = 11, /* the tables give no route, or no walk, of the reported length */
-    PUXERDAU_SHORT_BUFFER = 12  /* the text buffer is too short */
+    PUXERDAU_SHORT_BUFFER = 12, /* the buffer is too short */
+    PUXERDAU_FILE_FORM = 13     /* a file is not in the stated form, or a line of it not in its place */
 };
 
 enum puxerdau_route_kind { PUXERDAU_ITSELF = 0, PUXERDAU_LOW = 1, PUXERDAU_THROUGH = 2, PUXERDAU_NO_ROUTE = 3 };
@@ -90,9 +93,9 @@ enum puxerdau_verdict_kind { PUXERDAU_PARTED = 0, PUXERDAU_LONG = 1, PUXERDAU_SH
 
 /* The parts of an answer. Each is 0 in an answer that was refused, but for the refusal. */
 static inline unsigned puxerdau_refusal(uint64_t answer) { return (unsigned)(answer & 65535); }
-static inline uint64_t puxerdau_count(uint64_t answer) { return answer >> 16; }                    /* threshold, write, build, list */
-static inline unsigned puxerdau_nodes(uint64_t answer) { return (unsigned)(answer >> 16 & 65535); }    /* read */
-static inline unsigned puxerdau_links(uint64_t answer) { return (unsigned)(answer >> 32 & 65535); }    /* read */
+static inline uint64_t puxerdau_count(uint64_t answer) { return answer >> 16; }            /* threshold, write, export, build, list */
+static inline unsigned puxerdau_nodes(uint64_t answer) { return (unsigned)(answer >> 16 & 65535); }    /* read, import */
+static inline unsigned puxerdau_links(uint64_t answer) { return (unsigned)(answer >> 32 & 65535); }    /* read, import */
 static inline unsigned puxerdau_report(uint64_t answer) { return (unsigned)(answer >> 16 & 65535); }   /* ask, walk */
 static inline unsigned puxerdau_route(uint64_t answer) { return (unsigned)(answer >> 32 & 65535); }    /* ask, walk */
 static inline unsigned puxerdau_hub(uint64_t answer) { return (unsigned)(answer >> 48); }              /* ask, walk */
@@ -111,6 +114,18 @@ uint64_t puxerdau_read(const uint8_t *text, size_t text_length, uint32_t *starts
  * text's length as its count. */
 uint64_t puxerdau_write(size_t n, const uint32_t *starts, size_t starts_length, const uint16_t *neighbours, size_t neighbours_length,
                         uint8_t *buffer, size_t buffer_length);
+
+/* Reads a file, which is a DIMACS edge file: a line `p edge n m` and m lines `e a b`, nodes numbered from 1, and anywhere comments, which
+ * are lines that begin with `c`. A link that is repeated, either way round, is kept once. `starts` wants n + 1 entries and `neighbours` 2m,
+ * by the file's m. If refused (2 to 5, 8 or 13), both lists are all zero; else they are zero past the used entries. Answers nodes, and as
+ * links those that are kept. A file has no front like PUXERDAU_FRONT_LENGTH, since comments may be of any length: every byte counts. */
+uint64_t puxerdau_import(const uint8_t *text, size_t text_length, uint32_t *starts, size_t starts_length, uint16_t *neighbours,
+                         size_t neighbours_length);
+
+/* Writes a file, without comments, its links as puxerdau_write orders them. If refused (2, 8, 9 or 12), the buffer is as it was; else it is
+ * as it was past the file. Answers the file's length as its count. */
+uint64_t puxerdau_export(size_t n, const uint32_t *starts, size_t starts_length, const uint16_t *neighbours, size_t neighbours_length,
+                         uint8_t *buffer, size_t buffer_length);
 
 /* Whether the two lists are a survey's. Refused 2, 8 or 9. */
 uint64_t puxerdau_accept(size_t n, const uint32_t *starts, size_t starts_length, const uint16_t *neighbours, size_t neighbours_length);
@@ -176,6 +191,21 @@ static inline uint64_t puxerdau_survey_write(const struct puxerdau_survey *surve
 {
     return puxerdau_write(survey->n, survey->starts, survey->starts_length, survey->neighbours, survey->neighbours_length, buffer,
                           buffer_length);
+}
+
+/* Sets n as puxerdau_survey_read does. */
+static inline uint64_t puxerdau_survey_import(struct puxerdau_survey *survey, const uint8_t *text, size_t text_length)
+{
+    uint64_t answer = puxerdau_import(text, text_length, survey->starts, survey->starts_length, survey->neighbours,
+                                      survey->neighbours_length);
+    survey->n = puxerdau_refusal(answer) == 0 ? puxerdau_nodes(answer) : 0;
+    return answer;
+}
+
+static inline uint64_t puxerdau_survey_export(const struct puxerdau_survey *survey, uint8_t *buffer, size_t buffer_length)
+{
+    return puxerdau_export(survey->n, survey->starts, survey->starts_length, survey->neighbours, survey->neighbours_length, buffer,
+                           buffer_length);
 }
 
 static inline uint64_t puxerdau_survey_accept(const struct puxerdau_survey *survey)

@@ -28,6 +28,41 @@ fn insert(set: &mut Set, v: usize) {
 
 // Reading and writing
 
+/// How lines give the counts and the links of a survey: what they begin with, what parts their numbers, the number of the first node, and
+/// whether comments stand among them; and what is refused: a line not in its form, another count of lines, and maybe a repeated link.
+struct Form {
+    counts: &'static [u8],
+    link: &'static [u8],
+    separator: u8,
+    first_node: usize,
+    comments: bool,
+    line_form: u8,
+    line_count: u8,
+    repeated_link: Option<u8>,
+}
+
+const TEXT: Form = Form {
+    counts: b"S,",
+    link: b"L,",
+    separator: b',',
+    first_node: 0,
+    comments: false,
+    line_form: 1,
+    line_count: 7,
+    repeated_link: Some(6),
+};
+
+const FILE: Form = Form {
+    counts: b"p edge ",
+    link: b"e ",
+    separator: b' ',
+    first_node: 1,
+    comments: true,
+    line_form: 13,
+    line_count: 13,
+    repeated_link: None,
+};
+
 /// A number at a place, and the place after it.
 fn number(text: &[u8], mut at: usize) -> Option<(u64, usize)> {
     let first = at;
@@ -41,22 +76,25 @@ fn number(text: &[u8], mut at: usize) -> Option<(u64, usize)> {
     fits.then_some((value, at))
 }
 
-fn line(text: &[u8], at: usize, letter: u8) -> Option<(u64, u64, usize)> {
-    if text.get(at) != Some(&letter) || text.get(at + 1) != Some(&b',') {
-        return None;
-    }
-    let (a, at) = number(text, at + 2)?;
-    if text.get(at) != Some(&b',') {
+/// Two numbers and a line's end at a place, and the place after them.
+fn numbers(text: &[u8], at: usize, separator: u8) -> Option<(u64, u64, usize)> {
+    let (a, at) = number(text, at)?;
+    if text.get(at) != Some(&separator) {
         return None;
     }
     let (b, at) = number(text, at + 1)?;
     (text.get(at) == Some(&b'\n')).then_some((a, b, at + 1))
 }
 
-pub fn read(text: &[u8], starts: &mut [u32], neighbours: &mut [u16]) -> Result<(usize, usize), u8> {
-    starts.fill(0);
-    neighbours.fill(0);
-    let (n, m, mut at) = line(text, 0, b'S').ok_or(1)?;
+/// The numbers of a line at a place, and the place after it.
+fn line(text: &[u8], at: usize, front: &[u8], separator: u8) -> Option<(u64, u64, usize)> {
+    if !text[at..].starts_with(front) {
+        return None;
+    }
+    numbers(text, at + front.len(), separator)
+}
+
+fn check_counts(n: u64, m: u64, starts: &[u32], neighbours: &[u16]) -> Result<(usize, usize), u8> {
     if n < 1 || n > MOST_NODES as u64 {
         return Err(2);
     }
@@ -67,12 +105,49 @@ pub fn read(text: &[u8], starts: &mut [u32], neighbours: &mut [u16]) -> Result<(
     if starts.len() < n + 1 || neighbours.len() < 2 * m {
         return Err(8);
     }
+    Ok((n, m))
+}
+
+/// The place after the comments at a place; a comment that has no end stays.
+fn skip_comments(text: &[u8], mut at: usize) -> usize {
+    while text.get(at) == Some(&b'c') {
+        match text[at..].iter().position(|&byte| byte == b'\n') {
+            Some(length) => at += length + 1,
+            None => break,
+        }
+    }
+    at
+}
+
+#[inline(always)] // so that the form is known at both places of use
+fn read_as(
+    form: &Form,
+    text: &[u8],
+    starts: &mut [u32],
+    neighbours: &mut [u16],
+) -> Result<(usize, usize), u8> {
+    let skip = |at| {
+        if form.comments {
+            skip_comments(text, at)
+        } else {
+            at
+        }
+    };
+    starts.fill(0);
+    neighbours.fill(0);
+    let counts = line(text, skip(0), form.counts, form.separator);
+    let (n, m, mut at) = counts.ok_or(form.line_form)?;
+    let (n, m) = check_counts(n, m, starts, neighbours)?;
     let mut rows = vec![[0u64; WORDS]; n];
     for _ in 0..m {
-        if at == text.len() {
-            return Err(7);
+        at = skip(at);
+        if at == text.len() && form.line_count != form.line_form {
+            return Err(form.line_count);
         }
-        let (a, b, next) = line(text, at, b'L').ok_or(1)?;
+        let link = line(text, at, form.link, form.separator);
+        let (a, b, next) = link.ok_or(form.line_form)?;
+        // a number below the first node's becomes a large one
+        let [a, b] = [a, b].map(|v| v.wrapping_sub(form.first_node as u64));
         if a >= n as u64 || b >= n as u64 {
             return Err(4);
         }
@@ -80,16 +155,37 @@ pub fn read(text: &[u8], starts: &mut [u32], neighbours: &mut [u16]) -> Result<(
             return Err(5);
         }
         let (a, b) = (a as usize, b as usize);
-        if contains(&rows[a], b) {
-            return Err(6);
+        if let Some(refusal) = form.repeated_link {
+            if contains(&rows[a], b) {
+                return Err(refusal);
+            }
         }
         insert(&mut rows[a], b);
         insert(&mut rows[b], a);
         at = next;
     }
-    if at < text.len() {
-        return Err(7);
+    if skip(at) < text.len() {
+        return Err(form.line_count);
     }
+    let used = fill_lists(&rows, starts, neighbours);
+    Ok((n, used / 2))
+}
+
+pub fn read(text: &[u8], starts: &mut [u32], neighbours: &mut [u16]) -> Result<(usize, usize), u8> {
+    read_as(&TEXT, text, starts, neighbours)
+}
+
+pub fn import(
+    text: &[u8],
+    starts: &mut [u32],
+    neighbours: &mut [u16],
+) -> Result<(usize, usize), u8> {
+    read_as(&FILE, text, starts, neighbours)
+}
+
+/// Fills the lists, and tells how many neighbours there are.
+#[inline(never)] // reading a text and reading a file are faster so
+fn fill_lists(rows: &[Set], starts: &mut [u32], neighbours: &mut [u16]) -> usize {
     let mut used = 0;
     for (v, row) in rows.iter().enumerate() {
         starts[v] = used as u32;
@@ -102,8 +198,8 @@ pub fn read(text: &[u8], starts: &mut [u32], neighbours: &mut [u16]) -> Result<(
             }
         }
     }
-    starts[n] = used as u32;
-    Ok((n, m))
+    starts[rows.len()] = used as u32;
+    used
 }
 
 fn digits(value: usize) -> usize {
@@ -123,40 +219,70 @@ fn put_number(buffer: &mut [u8], at: usize, value: usize) -> usize {
     end
 }
 
-fn put_line(buffer: &mut [u8], at: usize, letter: u8, a: usize, b: usize) -> usize {
-    buffer[at] = letter;
-    buffer[at + 1] = b',';
-    let at = put_number(buffer, at + 2, a);
-    buffer[at] = b',';
+#[inline(always)] // so that the front is known at each place of use
+fn put_line(
+    buffer: &mut [u8],
+    at: usize,
+    front: &[u8],
+    separator: u8,
+    a: usize,
+    b: usize,
+) -> usize {
+    let end = at + front.len();
+    buffer[at..end].copy_from_slice(front);
+    let at = put_number(buffer, end, a);
+    buffer[at] = separator;
     let at = put_number(buffer, at + 1, b);
     buffer[at] = b'\n';
     at + 1
 }
 
-pub fn write(n: usize, starts: &[u32], neighbours: &[u16], buffer: &mut [u8]) -> Result<usize, u8> {
+#[inline(always)] // so that the form is known at both places of use
+fn write_as(
+    form: &Form,
+    n: usize,
+    starts: &[u32],
+    neighbours: &[u16],
+    buffer: &mut [u8],
+) -> Result<usize, u8> {
     accept(n, starts, neighbours)?;
     let m = starts[n] as usize / 2;
-    let mut length = 4 + digits(n) + digits(m);
+    let first = form.first_node;
+    let mut length = form.counts.len() + 2 + digits(n) + digits(m);
     for v in 0..n {
-        let own = digits(v);
+        let own = digits(first + v);
         for &x in neighbours_of(starts, neighbours, v) {
             if v < x as usize {
-                length += 4 + own + digits(x as usize);
+                length += form.link.len() + 2 + own + digits(first + x as usize);
             }
         }
     }
     if buffer.len() < length {
         return Err(12);
     }
-    let mut at = put_line(buffer, 0, b'S', n, m);
+    let mut at = put_line(buffer, 0, form.counts, form.separator, n, m);
     for v in 0..n {
         for &x in neighbours_of(starts, neighbours, v) {
             if v < x as usize {
-                at = put_line(buffer, at, b'L', v, x as usize);
+                let (a, b) = (first + v, first + x as usize);
+                at = put_line(buffer, at, form.link, form.separator, a, b);
             }
         }
     }
     Ok(length)
+}
+
+pub fn write(n: usize, starts: &[u32], neighbours: &[u16], buffer: &mut [u8]) -> Result<usize, u8> {
+    write_as(&TEXT, n, starts, neighbours, buffer)
+}
+
+pub fn export(
+    n: usize,
+    starts: &[u32],
+    neighbours: &[u16],
+    buffer: &mut [u8],
+) -> Result<usize, u8> {
+    write_as(&FILE, n, starts, neighbours, buffer)
 }
 
 // Acceptance

@@ -20,6 +20,23 @@ mod raw {
             buffer: *mut u8,
             buffer_length: usize,
         ) -> u64;
+        pub fn puxerdau_import(
+            text: *const u8,
+            text_length: usize,
+            starts: *mut u32,
+            starts_length: usize,
+            neighbours: *mut u16,
+            neighbours_length: usize,
+        ) -> u64;
+        pub fn puxerdau_export(
+            n: usize,
+            starts: *const u32,
+            starts_length: usize,
+            neighbours: *const u16,
+            neighbours_length: usize,
+            buffer: *mut u8,
+            buffer_length: usize,
+        ) -> u64;
         pub fn puxerdau_accept(
             n: usize,
             starts: *const u32,
@@ -109,6 +126,33 @@ pub fn read(text: &[u8], starts: &mut [u32], neighbours: &mut [u16]) -> u64 {
 pub fn write(n: usize, starts: &[u32], neighbours: &[u16], buffer: &mut [u8]) -> u64 {
     unsafe {
         raw::puxerdau_write(
+            n,
+            starts.as_ptr(),
+            starts.len(),
+            neighbours.as_ptr(),
+            neighbours.len(),
+            buffer.as_mut_ptr(),
+            buffer.len(),
+        )
+    }
+}
+
+pub fn import(text: &[u8], starts: &mut [u32], neighbours: &mut [u16]) -> u64 {
+    unsafe {
+        raw::puxerdau_import(
+            text.as_ptr(),
+            text.len(),
+            starts.as_mut_ptr(),
+            starts.len(),
+            neighbours.as_mut_ptr(),
+            neighbours.len(),
+        )
+    }
+}
+
+pub fn export(n: usize, starts: &[u32], neighbours: &[u16], buffer: &mut [u8]) -> u64 {
+    unsafe {
+        raw::puxerdau_export(
             n,
             starts.as_ptr(),
             starts.len(),

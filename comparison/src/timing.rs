@@ -1,4 +1,4 @@
-//! The time that each call takes on a survey.
+//! The time that each of `CALLS` takes on a survey; those of importing, exporting and listing are measured by `measure` alone.
 //!
 //! Lists and tables are allocated and written before a measurement and kept through it, so no page is touched for the first time. They
 //! are not cleared between repetitions. A time is the least of many repetitions.

@@ -1,7 +1,7 @@
 //! Scripts of calls: what running them has in common. The Rattle crate
 //! `test_scripts` does the same for the programs `test_surveys` and `test_tables`.
 
-use reference::{read, Tested};
+use reference::Tested;
 
 /// A line of a script: its letter and its two numbers.
 pub struct Command {
@@ -58,8 +58,12 @@ pub fn line(letter: char, numbers: &[u64]) -> String {
     format!("{letter}{fields}\n")
 }
 
+/// Reading a survey text or importing a file, into the two lists.
+pub type Reading = fn(&[u8], &mut [u32], &mut [u16]) -> Result<(usize, usize), u8>;
+
 /// Reads the text that follows the command.
-pub fn run_read(
+pub fn run_reading(
+    reading: Reading,
     command: &Command,
     script: &mut Script,
     starts: &mut [u32],
@@ -67,7 +71,7 @@ pub fn run_read(
 ) -> Option<Vec<u64>> {
     let count = script.command()?.x;
     let text = script.bytes(count);
-    let answer = read(text, &mut starts[..command.x], &mut neighbours[..command.y]);
+    let answer = reading(text, &mut starts[..command.x], &mut neighbours[..command.y]);
     let answer = answer.map(|(n, m)| vec![n as u64, m as u64]);
     Some(outcome(answer, 2, &[sum(starts), sum(neighbours)]))
 }

@@ -2,6 +2,7 @@
 //! comparison: every rule is carried out by the most direct means.
 
 mod answers;
+mod file;
 mod listing;
 mod survey;
 mod tables;
@@ -9,6 +10,7 @@ mod text;
 mod verdict;
 
 pub use answers::{ask, walk, Answer, Route};
+pub use file::{export, import};
 pub use listing::reports;
 pub use survey::accept;
 pub use tables::{build, threshold};

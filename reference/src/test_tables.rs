@@ -2,8 +2,8 @@
 //! program `test_tables` runs the same scripts; its source describes their
 //! lines.
 
-use crate::commands::{self, outcome, run_read, sum, test_numbers, Command, Script};
-use reference::{ask, build, test, walk, Answer};
+use crate::commands::{self, outcome, run_reading, sum, test_numbers, Command, Script};
+use reference::{ask, build, read, test, walk, Answer};
 
 /// The lengths of the lists.
 pub const LENGTHS: Numbers = [0, 1100, 33000, 22600, 22600, 22600, 160, 320];
@@ -51,7 +51,15 @@ impl commands::Lists for Lists {
     fn call(&mut self, command: &Command, script: &mut Script) -> Option<Vec<u64>> {
         let (x, y) = (command.x, command.y);
         match command.letter {
-            b'R' => return run_read(command, script, &mut self.starts, &mut self.neighbours),
+            b'R' => {
+                return run_reading(
+                    read,
+                    command,
+                    script,
+                    &mut self.starts,
+                    &mut self.neighbours,
+                )
+            }
             b'B' => return Some(self.build()),
             b'V' => return Some(self.entries(x)),
             b'Q' => return Some(self.ask(x, y)),

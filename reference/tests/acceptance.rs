@@ -3,12 +3,12 @@
 mod common;
 
 use common::{Built, Random, Sample, COURSE};
-use reference::{ask, build, test, walk, write, Route, NONE};
+use reference::{ask, build, export, test, walk, write, Route, NONE};
 
-/// The refusals of build, walk, test and write for these lists, with
+/// The refusals of build, walk, test, write and export for these lists, with
 /// everything else long enough. 0 stands for success. Checks that refused
 /// operations leave their lists as the rules say.
-fn refusals(n: usize, starts: &[u32], neighbours: &[u16]) -> [u8; 4] {
+fn refusals(n: usize, starts: &[u32], neighbours: &[u16]) -> [u8; 5] {
     let mut tables = vec![vec![5u16; 2000]; 3];
     let mut hubs = vec![5u16; 40];
     let [full, low, report] = &mut tables[..] else {
@@ -38,17 +38,23 @@ fn refusals(n: usize, starts: &[u32], neighbours: &[u16]) -> [u8; 4] {
     if written.is_err() {
         assert_eq!(buffer, [5; 200]);
     }
+    let mut buffer = [5; 200];
+    let exported = export(n, starts, neighbours, &mut buffer);
+    if exported.is_err() {
+        assert_eq!(buffer, [5; 200]);
+    }
     [
         built.err().unwrap_or(0),
         walked.err().unwrap_or(0),
         tested.err().unwrap_or(0),
         written.err().unwrap_or(0),
+        exported.err().unwrap_or(0),
     ]
 }
 
 #[track_caller]
 fn check(refusal: u8, n: usize, starts: &[u32], neighbours: &[u16]) {
-    assert_eq!(refusals(n, starts, neighbours), [refusal; 4]);
+    assert_eq!(refusals(n, starts, neighbours), [refusal; 5]);
 }
 
 /// The path 0-1-2.
@@ -129,9 +135,9 @@ fn neighbours_not_a_survey() {
     check(9, 3, &[0, 2, 3, 4], &[1, 2, 2, 0]);
 }
 
-/// The refusals of build, walk, test and write for a larger graph. Checks
-/// that a refused build alters nothing.
-fn larger_refusals(sample: &Sample) -> [u8; 4] {
+/// The refusals of build, walk, test, write and export for a larger graph.
+/// Checks that a refused build alters nothing.
+fn larger_refusals(sample: &Sample) -> [u8; 5] {
     let n = sample.n;
     let (starts, neighbours) = sample.lists();
     let [mut full, mut low, mut report] = [(); 3].map(|()| vec![5; n * n]);
@@ -153,11 +159,13 @@ fn larger_refusals(sample: &Sample) -> [u8; 4] {
     let walked = walk(n, &starts, &neighbours, &full, &low, &report, 0, 1, &mut []);
     let tested = test(n, &starts, &neighbours);
     let written = write(n, &starts, &neighbours, &mut vec![5; 300_000]);
+    let exported = export(n, &starts, &neighbours, &mut vec![5; 300_000]);
     [
         built.err().unwrap_or(0),
         walked.err().unwrap_or(0),
         tested.err().unwrap_or(0),
         written.err().unwrap_or(0),
+        exported.err().unwrap_or(0),
     ]
 }
 
@@ -165,8 +173,8 @@ fn larger_refusals(sample: &Sample) -> [u8; 4] {
 #[test]
 fn too_many_links() {
     // 182 nodes, all linked, are 16,471 links; 181 nodes are 16,290.
-    assert_eq!(larger_refusals(&common::blocks(181, 1)), [0; 4]);
-    assert_eq!(larger_refusals(&common::blocks(182, 1)), [9; 4]);
+    assert_eq!(larger_refusals(&common::blocks(181, 1)), [0; 5]);
+    assert_eq!(larger_refusals(&common::blocks(182, 1)), [9; 5]);
     // Node 181 has 94 links more: exactly 16,384, and then one more.
     let mut sample = Sample::new("most links", 300);
     for (a, b) in common::blocks(181, 1).links() {
@@ -176,9 +184,9 @@ fn too_many_links() {
         sample.link(181, b);
     }
     assert_eq!(sample.links().len(), 16384);
-    assert_eq!(larger_refusals(&sample), [0; 4]);
+    assert_eq!(larger_refusals(&sample), [0; 5]);
     sample.link(181, 94);
-    assert_eq!(larger_refusals(&sample), [9; 4]);
+    assert_eq!(larger_refusals(&sample), [9; 5]);
 }
 
 /// The refusal of a build of the path 0-1-2 with lists of these lengths.
@@ -315,11 +323,17 @@ fn walk_refusal_order() {
     }
 }
 
+type Writing = fn(usize, &[u32], &[u16], &mut [u8]) -> Result<usize, u8>;
+
 #[test]
-fn write_refusal_order() {
-    let text = "S,3,2\nL,0,1\nL,1,2\n";
+fn write_and_export_refusal_order() {
+    check_writing(write, "S,3,2\nL,0,1\nL,1,2\n");
+    check_writing(export, "p edge 3 2\ne 1 2\ne 2 3\n");
+}
+
+fn check_writing(writing: Writing, text: &str) {
     let mut buffer = [5; 40];
-    let written = |starts: &[u32], buffer: &mut [u8]| write(3, starts, &NEIGHBOURS, buffer);
+    let written = |starts: &[u32], buffer: &mut [u8]| writing(3, starts, &NEIGHBOURS, buffer);
     assert_eq!(written(&STARTS, &mut buffer[..text.len()]), Ok(text.len()));
     assert_eq!(&buffer[..text.len()], text.as_bytes());
     assert!(buffer[text.len()..].iter().all(|&byte| byte == 5));
@@ -330,7 +344,7 @@ fn write_refusal_order() {
     }
     assert_eq!(written(&[0, 3, 1, 4], &mut []), Err(9));
     assert_eq!(written(&STARTS[..3], &mut []), Err(8));
-    assert_eq!(write(0, &[], &[], &mut []), Err(2));
+    assert_eq!(writing(0, &[], &[], &mut []), Err(2));
 }
 
 fn random_list(random: &mut Random, length: usize, limit: usize) -> Vec<u16> {
@@ -386,6 +400,10 @@ fn check_random_call(random: &mut Random, n: usize, limit: usize) -> bool {
     let written = write(n, &starts, &neighbours, &mut buffer);
     assert_eq!(written.is_ok(), built.is_ok());
     assert!(written.is_ok() || buffer == [5; 99]);
+    let mut buffer = [5; 99];
+    let exported = export(n, &starts, &neighbours, &mut buffer);
+    assert_eq!(exported.is_ok(), built.is_ok());
+    assert!(exported.is_ok() || buffer == [5; 99]);
     built.is_ok()
 }
 

@@ -2,18 +2,11 @@
 
 mod common;
 
-use common::{Random, COURSE};
+use common::reading::{self, assert_met, check_counts, Damage, Links, Reading};
+use common::{number, Random, COURSE};
 use reference::{read, reports};
-use std::collections::BTreeSet;
 
-type Links = BTreeSet<(usize, usize)>;
-
-/// The value of a number in the stated form.
-fn number(field: &str) -> Option<u64> {
-    let value: u64 = field.parse().ok()?;
-    // Printing again shows signs and leading zeros.
-    (value.to_string() == field && field.len() <= 10).then_some(value)
-}
+const READING: Reading = Reading { read, expected };
 
 fn fields(line: &[u8], letter: &str) -> Option<(u64, u64)> {
     let line = std::str::from_utf8(line).ok()?;
@@ -25,22 +18,14 @@ fn fields(line: &[u8], letter: &str) -> Option<(u64, u64)> {
     Some((number(second)?, number(third)?))
 }
 
-/// What a reading into lists of these lengths must give.
-fn expected(text: &[u8], starts: usize, neighbours: usize) -> Result<(usize, usize, Links), u8> {
+/// What a reading into lists of these lengths must give: n and the links.
+fn expected(text: &[u8], starts: usize, neighbours: usize) -> Result<(usize, Links), u8> {
     let mut lines: Vec<&[u8]> = text.split(|&byte| byte == b'\n').collect();
     // What follows the last line feed; empty if the text ends at a line's end.
     let tail = lines.pop().unwrap();
     let first = lines.first().ok_or(1u8)?;
     let (n, m) = fields(first, "S").ok_or(1u8)?;
-    if !(1..=1024).contains(&n) {
-        return Err(2);
-    }
-    if m > 16384 {
-        return Err(3);
-    }
-    if (starts as u64) < n + 1 || (neighbours as u64) < 2 * m {
-        return Err(8);
-    }
+    check_counts(n, m, starts, neighbours)?;
     let mut links = Links::new();
     for index in 1..=m as usize {
         let Some(line) = lines.get(index) else {
@@ -60,41 +45,7 @@ fn expected(text: &[u8], starts: usize, neighbours: usize) -> Result<(usize, usi
     if lines.len() > m as usize + 1 || !tail.is_empty() {
         return Err(7);
     }
-    Ok((n as usize, m as usize, links))
-}
-
-/// Reads and compares with `expected`; the answer is the refusal or 0.
-fn check_lengths(text: &[u8], starts: usize, neighbours: usize) -> u8 {
-    let mut starts = vec![9; starts];
-    let mut neighbours = vec![9; neighbours];
-    let found = read(text, &mut starts, &mut neighbours);
-    match expected(text, starts.len(), neighbours.len()) {
-        Err(refusal) => {
-            assert_eq!(found, Err(refusal), "{:?}", String::from_utf8_lossy(text));
-            assert!(starts.iter().all(|&entry| entry == 0));
-            assert!(neighbours.iter().all(|&entry| entry == 0));
-            refusal
-        }
-        Ok((n, m, links)) => {
-            assert_eq!(found, Ok((n, m)), "{:?}", String::from_utf8_lossy(text));
-            let links: Vec<_> = links.into_iter().collect();
-            let (mut all_starts, mut all_neighbours) = common::from_links("", n, &links).lists();
-            all_starts.resize(starts.len(), 0);
-            all_neighbours.resize(neighbours.len(), 0);
-            assert_eq!((starts, neighbours), (all_starts, all_neighbours));
-            0
-        }
-    }
-}
-
-fn check(text: &[u8]) -> u8 {
-    check_lengths(text, 1025, 32768)
-}
-
-fn check_all(refusal: u8, texts: &[&str]) {
-    for text in texts {
-        assert_eq!(check(text.as_bytes()), refusal, "{text:?}");
-    }
+    Ok((n as usize, links))
 }
 
 const BAD_FIRST_LINES: &[&str] = &[
@@ -152,7 +103,7 @@ const BAD_FIRST_LINES: &[&str] = &[
 
 #[test]
 fn first_line_out_of_form() {
-    check_all(1, BAD_FIRST_LINES);
+    READING.check_all(1, BAD_FIRST_LINES);
 }
 
 #[test]
@@ -186,7 +137,7 @@ fn link_line_out_of_form() {
         "S,2,1\nX",
         "S,3,3\nL,0,1\nx\nL,9,9\n",
     ];
-    check_all(1, &texts);
+    READING.check_all(1, &texts);
 }
 
 #[test]
@@ -203,7 +154,7 @@ fn counts_out_of_range() {
         "S,0,1\nL,0,0\n",
         "S,0,9999999999\n",
     ];
-    check_all(2, &nodes);
+    READING.check_all(2, &nodes);
     let links = [
         "S,2,16385\n",
         "S,2,9999999999\n",
@@ -213,7 +164,7 @@ fn counts_out_of_range() {
         "S,1,65536\nx",
         "S,2,4294967297\nL,0,1\n",
     ];
-    check_all(3, &links);
+    READING.check_all(3, &links);
 }
 
 #[test]
@@ -234,7 +185,7 @@ fn wrong_nodes() {
         "S,1024,1\nL,1024,0\n",
         "S,2,1\nL,1,4294967297\n",
     ];
-    check_all(4, &outside);
+    READING.check_all(4, &outside);
     let equal = [
         "S,2,1\nL,1,1\n",
         "S,1,1\nL,0,0\n",
@@ -244,7 +195,7 @@ fn wrong_nodes() {
         "S,2,1\nL,1,1\nX",
         "S,2,2\nL,1,1\n",
     ];
-    check_all(5, &equal);
+    READING.check_all(5, &equal);
 }
 
 #[test]
@@ -260,7 +211,7 @@ fn repeated_links() {
         "S,2,2\nL,0,1\nL,0,1\nX",
         "S,2,3\nL,0,1\nL,1,0\nx",
     ];
-    check_all(6, &texts);
+    READING.check_all(6, &texts);
 }
 
 #[test]
@@ -283,7 +234,7 @@ fn too_few_lines_or_more_bytes() {
         "S,1,1\n",
         "S,2,1\nL,0,1\n ",
     ];
-    check_all(7, &texts);
+    READING.check_all(7, &texts);
 }
 
 #[test]
@@ -297,7 +248,7 @@ fn good_texts() {
         "S,1024,1\nL,1023,0\n",
         "S,3,3\nL,2,1\nL,0,2\nL,1,0\n",
     ];
-    check_all(0, &texts);
+    READING.check_all(0, &texts);
 }
 
 #[test]
@@ -319,10 +270,7 @@ fn lists_too_short() {
         ("S,1024,16384\n", 1025, 32767, 8),
         ("S,1024,16384\n", 1025, 32768, 7),
     ];
-    for (text, starts, neighbours, refusal) in cases {
-        let found = check_lengths(text.as_bytes(), starts, neighbours);
-        assert_eq!(found, refusal, "{text:?} {starts} {neighbours}");
-    }
+    READING.check_all_lengths(&cases);
 }
 
 #[test]
@@ -337,7 +285,7 @@ fn cut_at_every_byte() {
                 Some(b'\n') => 7,
                 _ => 1,
             };
-            assert_eq!(check(cut), refusal, "{length}");
+            assert_eq!(READING.check(cut), refusal, "{length}");
         }
     }
 }
@@ -346,86 +294,38 @@ fn cut_at_every_byte() {
 fn every_single_byte_changed() {
     let texts = [COURSE, "S,11,3\nL,9,10\nL,10,1\nL,0,9\n"];
     for text in texts {
-        let mut bytes = text.as_bytes().to_vec();
-        for place in 0..bytes.len() {
-            let old = bytes[place];
-            for byte in 0..=255 {
-                bytes[place] = byte;
-                check(&bytes);
-            }
-            bytes[place] = old;
-        }
+        READING.change_every_byte(text);
     }
 }
 
 #[test]
 fn bytes_removed_inserted_and_swapped() {
-    for place in 0..COURSE.len() {
-        let mut fewer = COURSE.as_bytes().to_vec();
-        fewer.remove(place);
-        check(&fewer);
-        for &byte in b"SL,0159\n\r -\0\xff" {
-            let mut more = COURSE.as_bytes().to_vec();
-            more.insert(place, byte);
-            check(&more);
-        }
-        for other in 0..place {
-            let mut swapped = COURSE.as_bytes().to_vec();
-            swapped.swap(place, other);
-            check(&swapped);
-        }
-    }
+    READING.remove_insert_and_swap(COURSE, b"SL,0159\n\r -\0\xff");
 }
 
-/// Lines repeated, dropped and exchanged at random, with some bytes changed.
 #[test]
 fn random_damage() {
+    const DAMAGE: Damage = Damage {
+        counts_line: |nodes, links| format!("S,{nodes},{links}\n"),
+        chance: 5,
+        bytes: b"SL,0123456789\n",
+    };
     let mut random = Random::new(13);
-    let mut counts = [0; 9];
+    let mut counts = [0; 14];
     for _ in 0..6000 {
         let n = 2 + random.below(9);
-        let sample = common::random_links(&mut random, n, 40);
-        let mut lines: Vec<String> = sample.text().lines().map(String::from).collect();
-        for _ in 0..random.below(3) {
-            let (from, to) = (random.below(lines.len()), random.below(lines.len()));
-            match random.below(3) {
-                0 => lines[to] = lines[from].clone(),
-                1 => lines.swap(from, to),
-                _ => lines.insert(to, lines[from].clone()),
-            }
-        }
-        if random.percent(5) {
-            let counts = [0, n, 1024, 1025, 16384, 16385, 4294967297];
-            let (nodes, links) = (counts[random.below(7)], counts[random.below(7)]);
-            lines[0] = format!("S,{nodes},{links}");
-        }
-        let mut bytes = (lines.join("\n") + "\n").into_bytes();
-        for _ in 0..random.below(3) {
-            let place = random.below(bytes.len());
-            bytes[place] = b"SL,0123456789\n"[random.below(14)];
-        }
-        let (starts, neighbours) = (random.below(40), random.below(120));
-        counts[check_lengths(&bytes, starts, neighbours) as usize] += 1;
-        counts[check(&bytes) as usize] += 1;
+        let text = common::random_links(&mut random, n, 40).text();
+        READING.damage(&mut random, text.as_bytes(), &DAMAGE, &mut counts);
     }
-    println!("{counts:?}");
-    assert!(counts.iter().all(|&count| count > 10));
+    assert_met(&counts, &[0, 1, 2, 3, 4, 5, 6, 7, 8]);
 }
 
 #[test]
 fn random_bytes() {
     let mut random = Random::new(14);
     for _ in 0..3000 {
-        let length = random.below(40);
-        let mut bytes = b"S,3,2\n"[..random.below(7)].to_vec();
-        for _ in 0..length {
-            let byte = match random.below(4) {
-                0 => random.next() as u8,
-                _ => b"SL,012,\n"[random.below(8)],
-            };
-            bytes.push(byte);
-        }
-        check(&bytes);
+        let bytes = reading::random_bytes(&mut random, b"S,3,2\n", b"SL,012,\n");
+        READING.check(&bytes);
         assert!(!reports(&bytes).is_empty());
     }
 }

@@ -1,5 +1,6 @@
 //! The times of the proved library's calls on the surveys of 1,024 nodes: `times [MILLISECONDS]`, the time given to each measurement. A
-//! line has the survey, its links and high nodes, and the nanoseconds that each call takes. comparison/before runs it with two archives.
+//! line has the survey, its links and high nodes, and the nanoseconds that each of `timing::CALLS` takes. comparison/before runs it with
+//! two archives.
 
 use comparison::timing::{self, Lent};
 use comparison::{graphs, times};

@@ -19,5 +19,6 @@ pub fn refusal_number(r: Refusal) -> u32
         Refusal::NoNode => 10,
         Refusal::NotAttained => 11,
         Refusal::ShortBuffer => 12,
+        Refusal::FileForm => 13,
     }
 }

@@ -28,7 +28,7 @@ fn write_report(buffer: &mut [u8], at: usize, report: u16) -> usize
     if report == NONE {
         return write_two(buffer, at, 44, 45);
     }
-    text_writing::write_field(buffer, at, report as u32)
+    text_writing::write_field(buffer, at, 44, report as u32)
 }
 
 // Writes a comma and a route at a place, and returns the place after them.
@@ -42,7 +42,7 @@ fn write_route(buffer: &mut [u8], at: usize, route: Route) -> usize
             let i = write_two(buffer, at, 44, 108);
             write_two(buffer, i, 111, 119)
         }
-        Route::Through(h) => text_writing::write_field(buffer, at, h as u32),
+        Route::Through(h) => text_writing::write_field(buffer, at, 44, h as u32),
         Route::NoRoute => write_two(buffer, at, 44, 45),
     }
 }
@@ -54,8 +54,8 @@ fn write_pair(buffer: &mut [u8], at: usize, a: u32, b: u32, answer: Answer) -> u
 {
     let route = answer.route;
     let i = text_writing::write_byte(buffer, at, 80);
-    let i = text_writing::write_field(buffer, i, a);
-    let i = text_writing::write_field(buffer, i, b);
+    let i = text_writing::write_field(buffer, i, 44, a);
+    let i = text_writing::write_field(buffer, i, 44, b);
     let i = write_report(buffer, i, answer.report);
     let i = write_route(buffer, i, route);
     text_writing::write_byte(buffer, i, 10)

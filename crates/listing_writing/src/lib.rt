@@ -41,7 +41,7 @@ fn list_tables(
         report,
         &mut hubs,
     );
-    let i = text_writing::write_line(buffer, 0, 82, n as u32, count as u32);
+    let i = text_writing::write_line(buffer, 0, b"R", b',', &[n as u32, count as u32]);
     listing_lines::write_pairs(n, full, low, report, buffer, i)
 }
 
@@ -71,9 +71,8 @@ fn write_refusal(refusal: Refusal, buffer: &mut [u8]) -> usize
     requires { ⌜ mostListing ≤ length (now buffer) ⌝ }
     ensures { λ r. ⌜ Wrote (now (buffer .entry)) (now (buffer .exit)) 0 r (listingText (refused (number refusal))) ⌝ }
 {
-    let i = text_writing::write_byte(buffer, 0, 88);
-    let i = text_writing::write_field(buffer, i, base_refusals::refusal_number(refusal) as u32);
-    text_writing::write_byte(buffer, i, 10)
+    let number = base_refusals::refusal_number(refusal);
+    text_writing::write_line(buffer, 0, b"X", b',', &[number])
 }
 
 // Writes the listing of a text from the first byte on, and returns its length.

@@ -15,7 +15,7 @@ use Rattle.model.specs.Answers.{Outcome, refused, answered}
 use Rattle.model.specs.Basics.{if_then_else_}
 use Rattle.model.specs.SurveyText.{line, lineOf}
 use Rattle.model.specs.Survey.{outside}
-use Rattle.model.specs.Reading.{named, onLinks, linkOf, readOn, readLinks, parsed, countsOf, parseLinks, parse, readingOf, reading}
+use Rattle.model.specs.Reading.{limitsOf, named, onLinks, linkOf, readOn, readLinks, parsed, countsOf, parseLinks, parse, readingOf, reading}
 use Rattle.model.specs.Listing.{listingText, listing}
 use Rattle.model.proofs.Numbers.{length-le}
 use Rattle.model.proofs.Outcomes.{no-value}
@@ -32,6 +32,7 @@ pub line-few : (letter x y : ℕ) → x < 10 ^ 10 → y < 10 ^ 10 → length (li
 line-few letter x y hx hy = omega (arith, length-line letter x y, length-le 9 x hx, length-le 9 y hy)
 
 line-front : (letter : ℕ) → 44 < letter → (text : List ℕ) (k : ℕ) → 24 ≤ k → FrontLine letter text k
+unfolding lineOf
 line-front letter after text k h = at (line letter text) refl (line letter (take k text)) refl
   where
     at : (o : Option (ℕ × ℕ × List ℕ)) → line letter text ≡ o → (f : Option (ℕ × ℕ × List ℕ)) → line letter (take k text) ≡ f
@@ -96,7 +97,7 @@ links-front n (suc m) done (c ∷ text) (suc k) h =
 
 counts-same : (N M p q x y : ℕ) (r r′ : List ℕ) → (y ≤ M → readLinks x y [] r ≡ readLinks x y [] r′)
     → parseLinks (countsOf N M p q (some (x, y, r))) ≡ parseLinks (countsOf N M p q (some (x, y, r′)))
-unfolding countsOf parseLinks
+unfolding countsOf limitsOf parseLinks
 counts-same N M p q x y r r′ e = at (outside N x) (ltb M y) refl (ltb p (x + 1) || ltb q (2 * y))
   where
     at : (a b : Bool) → ltb M y ≡ b → (c : Bool)

@@ -17,12 +17,16 @@ pub mod Verdicts
 pub mod Demand
 pub mod Numbers
 pub mod Lines
+pub mod Comments
 pub mod Links
 pub mod SurveyLists
 pub mod Totals
 pub mod ReadBack
+pub mod Dimacs
 pub mod WholeWay
 pub mod Sizes
 pub mod Fronts
 pub mod Listing
+pub mod Quoted
 pub mod Starred
+pub mod FileCases

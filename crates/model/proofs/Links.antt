@@ -10,15 +10,15 @@ use native.Mathlib.Omega.{arith}
 use borrow.Author.Tests.{lt-leb, leb-false, ne-eqb, le-ltb, ltb-false, eqb-false}
 use lib.ListN.{length}
 use lib.Dec.{eqb, ltb, leb}
-use Rattle.model.specs.Answers.{Outcome, refused, answered}
+use Rattle.model.specs.Answers.{Outcome, answered}
 use Rattle.model.specs.Basics.{gather}
 use Rattle.model.specs.SurveyText.{line, lineOf, linkLines, surveyText}
 use Rattle.model.specs.Survey.{outside}
-use Rattle.model.specs.Reading.{named, onLinks, linkOf, readOn, readLinks, Parsed, parsed, countsOf, parseLinks, parse}
-use Rattle.model.proofs.Outcomes.{never}
-use Rattle.model.proofs.Tests.{or-false, of-or-false, picked}
+use Rattle.model.specs.Reading.{limitsOf, named, onLinks, linkOf, readOn, readLinks, Parsed, parsed, countsOf, parseLinks, parse}
+use Rattle.model.proofs.Outcomes.{never, past-refusal, of-then, of-mapped}
+use Rattle.model.proofs.Tests.{or-false, of-or-false}
 use Rattle.model.proofs.Acceptance.{in-range, of-in-range}
-use Rattle.model.proofs.Lines.{line-complete, IsLine, line-sound}
+use Rattle.model.proofs.Lines.{line-complete, line-sound}
 
 -- a link that can be given after those of `given`
 pub record Fresh (n : ℕ) (given : ℕ → ℕ → Bool) (a b : ℕ) : Type 0 where
@@ -39,32 +39,29 @@ module _ (n : ℕ) (given : ℕ → ℕ → Bool) where
   unfolding linkOf
   link-taken l f =
       rw (
-        or-false (leb n (l .0)) (leb n (l .1)) (lt-leb n (l .0) (f .below-a)) (lt-leb n (l .1) (f .below-b)),
-        ne-eqb (l .0) (l .1) (f .different),
+        or-false _ _ (lt-leb _ _ (f .below-a)) (lt-leb _ _ (f .below-b)),
+        ne-eqb _ _ (f .different),
         f .new,
       ) refl
 
   pub of-link-taken : (o : Option (ℕ × ℕ × List ℕ)) (x : ℕ × ℕ × List ℕ) → linkOf n given o ≡ answered x
       → (o ≡ some x) × Fresh n given (x .0) (x .1)
   unfolding linkOf
-  of-link-taken missing x = never
-  of-link-taken (some l) x =
-      picked P (leb n (l .0) || leb n (l .1)) _ _ (λ _ e. never e) (λ below.
-      picked P (eqb (l .0) (l .1)) _ _ (λ _ e. never e) (λ different.
-      picked P (given (l .0) (l .1)) _ _ (λ _ e. never e) (λ new e.
-      let h = of-or-false _ _ below in
-      let i : l ≡ x = cc in (
+  of-link-taken missing x e = never e
+  of-link-taken (some l) x e =
+      let four = past-refusal (leb n (l .0) || leb n (l .1)) _ _ e in
+      let five = past-refusal (eqb (l .0) (l .1)) _ _ (four .1) in
+      let six = past-refusal (given (l .0) (l .1)) _ _ (five .1) in
+      let below = of-or-false _ _ (four .0) in
+      let i : l ≡ x = cc (six .1) in (
         ap some i,
         subst (λ (y : ℕ × ℕ × List ℕ). Fresh n given (y .0) (y .1)) i (record {
-          below-a = leb-false _ _ (h .0);
-          below-b = leb-false _ _ (h .1);
-          different = eqb-false _ _ different;
-          new = new;
+          below-a = leb-false _ _ (below .0);
+          below-b = leb-false _ _ (below .1);
+          different = eqb-false _ _ (five .0);
+          new = six .0;
         }),
-      ))))
-    where
-      P : Outcome (ℕ × ℕ × List ℕ) → Type 0
-      P o = o ≡ answered x → (some l ≡ some x) × Fresh n given (x .0) (x .1)
+      )
 
 -- ---- all lines
 
@@ -87,41 +84,25 @@ pub record LinesRead (n m : ℕ) (done : List (ℕ × ℕ)) (text : List ℕ) (l
 
 pub links-sound : (n m : ℕ) (done : List (ℕ × ℕ)) (text : List ℕ) (ls : List (ℕ × ℕ)) → readLinks n m done text ≡ answered ls
     → LinesRead n m done text ls
-unfolding readLinks readOn onLinks linkLines gather
+unfolding readLinks readOn onLinks linkLines gather lineOf
 links-sound n zero done [] ls e =
     let q : _≡_ {A = List (ℕ × ℕ)} [] ls = cc in
     rw (← q) (record { is-text = refl; count = refl; fresh = tt })
 links-sound n zero done (c ∷ text) ls e = never e
 links-sound n (suc m) done [] ls e = never e
 links-sound n (suc m) done (c ∷ text) ls e =
-    at (linkOf n (named done) (line 76 (c ∷ text))) refl e (λ a b rest ks. links-sound n m _ _ _)
-  where
-    next : ℕ → ℕ → List ℕ → Outcome (List (ℕ × ℕ))
-    next a b rest = readLinks n m ((a, b) ∷ done) rest
-
-    more : (l : ℕ × ℕ) (rest : List ℕ) (o : Outcome (List (ℕ × ℕ))) → IsLine 76 (c ∷ text) (l .0) (l .1) rest
-        → Fresh n (named done) (l .0) (l .1)
-        → onLinks l o ≡ answered ls
-        → ((ks : List (ℕ × ℕ)) → o ≡ answered ks → LinesRead n m (l ∷ done) rest ks) → LinesRead n (suc m) done (c ∷ text) ls
-    more l rest (refused k) t f e rec = never e
-    more l rest (answered ks) t f e rec =
-        let q : l ∷ ks ≡ ls = cc in
-        let r = rec ks refl in
-        rw (← q) (record {
-          is-text = t .is-text ∙ ap (λ (k : List ℕ). lineOf 76 (l .0) (l .1) ++ k) (r .is-text);
-          count = ap suc (r .count);
-          fresh = (f, r .fresh);
-        })
-
-    at : (o : Outcome (ℕ × ℕ × List ℕ)) → linkOf n (named done) (line 76 (c ∷ text)) ≡ o → readOn next o ≡ answered ls
-        → ((a b : ℕ) (rest : List ℕ) (ks : List (ℕ × ℕ)) → readLinks n m ((a, b) ∷ done) rest ≡ answered ks
-        → LinesRead n m ((a, b) ∷ done) rest ks)
-        → LinesRead n (suc m) done (c ∷ text) ls
-    at (refused k) q e rec = never e
-    at (answered x) q e rec =
-        let t = of-link-taken _ _ _ _ q in
-        more (x .0, x .1) (x .2) (next (x .0) (x .1) (x .2)) (line-sound 76 (c ∷ text) (x .0) (x .1) (x .2) (t .0)) (t .1) e
-        (λ ks. rec (x .0) (x .1) (x .2) ks)
+    let i = of-then (linkOf n (named done) (line 76 (c ∷ text))) _ e in
+    let l = i .0 in
+    let j = of-mapped _ (readLinks n m ((l .0, l .1) ∷ done) (l .2)) (i .2) in
+    let t = of-link-taken _ _ _ _ (i .1) in
+    let r = links-sound n m _ _ _ (j .1) in
+    rw (← j .2) (record {
+      is-text =
+          line-sound _ _ _ _ _ (t .0) .is-text
+          ∙ ap (λ (k : List ℕ). lineOf 76 (l .0) (l .1) ++ k) {y = linkLines (j .0)} (r .is-text);
+      count = omega (arith, r .count);
+      fresh = (t .1, r .fresh);
+    })
 
 -- ---- the whole text
 
@@ -135,41 +116,38 @@ pub record Within (mostNodes mostLinks p q n m : ℕ) : Type 0 where
 
 module _ (N M p q : ℕ) where
   pub first-taken : (f : ℕ × ℕ × List ℕ) → Within N M p q (f .0) (f .1) → countsOf N M p q (some f) ≡ answered f
-  unfolding countsOf
+  unfolding countsOf limitsOf
   first-taken f w =
       let n = f .0 in
       let m = f .1 in
       rw (
-        in-range N n (w .some-node) (w .size),
-        le-ltb M m (w .few),
-        or-false (ltb p (n + 1)) (ltb q (2 * m)) (le-ltb p (n + 1) (w .room)) (le-ltb q (2 * m) (w .list-room)),
+        in-range _ _ (w .some-node) (w .size),
+        le-ltb _ _ (w .few),
+        or-false _ _ (le-ltb _ _ (w .room)) (le-ltb _ _ (w .list-room)),
       ) refl
 
   pub of-first-taken : (o : Option (ℕ × ℕ × List ℕ)) (x : ℕ × ℕ × List ℕ) → countsOf N M p q o ≡ answered x
       → (o ≡ some x) × Within N M p q (x .0) (x .1)
-  unfolding countsOf
-  of-first-taken missing x = never
-  of-first-taken (some f) x =
+  unfolding countsOf limitsOf
+  of-first-taken missing x e = never e
+  of-first-taken (some f) x e =
       let n = f .0 in
       let m = f .1 in
-      picked P (outside N n) _ _ (λ _ e. never e) (λ size.
-      picked P (ltb M m) _ _ (λ _ e. never e) (λ few.
-      picked P (ltb p (n + 1) || ltb q (2 * m)) _ _ (λ _ e. never e) (λ room e.
-      let b = of-in-range _ _ size in
-      let r = of-or-false _ _ room in
-      let i : f ≡ x = cc in (
+      let two = past-refusal (outside N n) _ _ e in
+      let three = past-refusal (ltb M m) _ _ (two .1) in
+      let eight = past-refusal (ltb p (n + 1) || ltb q (2 * m)) _ _ (three .1) in
+      let b = of-in-range _ _ (two .0) in
+      let r = of-or-false _ _ (eight .0) in
+      let i : f ≡ x = cc (eight .1) in (
         ap some i,
         subst (λ (y : ℕ × ℕ × List ℕ). Within N M p q (y .0) (y .1)) i (record {
           some-node = b .0;
           size = b .1;
-          few = ltb-false _ _ few;
+          few = ltb-false _ _ (three .0);
           room = ltb-false _ _ (r .0);
           list-room = ltb-false _ _ (r .1);
         }),
-      ))))
-    where
-      P : Outcome (ℕ × ℕ × List ℕ) → Type 0
-      P o = o ≡ answered x → (some f ≡ some x) × Within N M p q (x .0) (x .1)
+      )
 
 -- a text that is accepted, with lists of p and q entries: its counts are within the limits, it is the text of its links, and each is new
 pub record TextRead (mostNodes mostLinks p q : ℕ) (text : List ℕ) (x : Parsed) : Type 0 where
@@ -186,33 +164,24 @@ module _ (N M p q : ℕ) where
       ap (parse N M p q) (r .is-text)
       ∙ ap (λ (o : Option (ℕ × ℕ × List ℕ)). parseLinks (countsOf N M p q o))
       (line-complete _ (omega arith) _ _ (lt-of-le-of-lt (w .size) hN) (lt-of-le-of-lt (w .few) hM) _)
-      ∙ ap parseLinks (first-taken N M p q _ w)
+      ∙ ap parseLinks (first-taken _ _ _ _ _ w)
       ∙ ap (parsed n) (links-complete _ (lt-le hN (w .size)) _ _ (r .fresh))
     where
       lt-le : N < 10 ^ 10 → x .nodes ≤ N → x .nodes ≤ 10 ^ 10
       lt-le h k = omega arith
 
   pub parse-sound : (text : List ℕ) (x : Parsed) → parse N M p q text ≡ answered x → TextRead N M p q text x
-  unfolding parse parseLinks parsed surveyText
-  parse-sound text x e = at (countsOf N M p q (line 83 text)) refl e
-    where
-      links : (f : ℕ × ℕ × List ℕ) → line 83 text ≡ some f → Within N M p q (f .0) (f .1)
-          → (o : Outcome (List (ℕ × ℕ))) → readLinks (f .0) (f .1) [] (f .2) ≡ o → parsed (f .0) o ≡ answered x → TextRead N M p q text x
-      links f h w (refused k) i e = never e
-      links f h w (answered ls) i e =
-          let n = f .0 in
-          let m = f .1 in
-          let y : _≡_ {A = Parsed} (record { nodes = n; links = ls }) x = cc in
-          let g = links-sound _ _ _ (f .2) ls i in
-          let l = line-sound 83 text n m (f .2) h in
-          rw (← y) (record {
-            within = rw (g .count) w;
-            is-text = l .is-text ∙ ap₂ (λ (k : ℕ) (t : List ℕ). lineOf 83 n k ++ t) (sym (g .count)) (g .is-text);
-            fresh = g .fresh;
-          })
-
-      at : (o : Outcome (ℕ × ℕ × List ℕ)) → countsOf N M p q (line 83 text) ≡ o → parseLinks o ≡ answered x → TextRead N M p q text x
-      at (refused k) h e = never e
-      at (answered f) h e =
-          let t = of-first-taken N M p q _ f h in
-          links f (t .0) (t .1) (readLinks (f .0) (f .1) [] (f .2)) refl e
+  unfolding parse parseLinks parsed surveyText lineOf
+  parse-sound text x e =
+      let i = of-then (countsOf N M p q (line 83 text)) _ e in
+      let f = i .0 in
+      let t = of-first-taken _ _ _ _ _ _ (i .1) in
+      let j = of-mapped _ (readLinks (f .0) (f .1) [] (f .2)) (i .2) in
+      let g = links-sound _ _ _ _ _ (j .1) in
+      rw (← j .2) (record {
+        within = rw (g .count) (t .1);
+        is-text =
+            line-sound _ _ _ _ _ (t .0) .is-text
+            ∙ ap₂ (λ (k : ℕ) (t : List ℕ). lineOf 83 (f .0) k ++ t) (sym (g .count)) (g .is-text);
+        fresh = g .fresh;
+      })

@@ -16,19 +16,20 @@ use lib.Seq.{take-at, getD-drop, getD-append-add}
 use Rattle.model.specs.declared.Size.{Size}
 use Rattle.model.specs.Answers.{Outcome, refused, answered}
 use Rattle.model.specs.Basics.{from, upTo, has, keep, gather, over}
-use Rattle.model.specs.SurveyText.{surveyText, ordered}
-use Rattle.model.specs.Survey.{Graph, neighboursOf, ascending, accepting, Accepted}
+use Rattle.model.specs.SurveyText.{ordered}
+use Rattle.model.specs.Survey.{Graph, neighboursOf, ascending, Accepted}
 use Rattle.model.specs.Graph.{linked}
 use Rattle.model.specs.Reading.{named, Parsed, parse, graphOf, startsOf, neighboursFrom, readingOf, reading}
 use Rattle.model.specs.Writing.{textOf, AfterWriting, writingOf, writing}
 use Rattle.model.specs.Demand.{IsRead, ReadRight, asRead, WriteRight}
 use Rattle.model.proofs.Tests.{picked, and-i, or-l, or-r, or-e, eq-T, no-false, same-test, lt-or}
-use Rattle.model.proofs.Lists.{has-head, has-tail, of-cons, has-keep, of-keep, has-upTo, of-upTo, none-in, keep-same, keep-none}
+use Rattle.model.proofs.Lists.{has-head, has-tail, of-cons, has-keep, of-keep, has-upTo, of-upTo, none-in}
+use Rattle.model.proofs.Lists.{keep-same, keep-none, gather-same}
 use Rattle.model.proofs.Ascending.{ascending-tail, ascending-above, keep-ascending, ascending-keep, keep-of-ascending}
 use Rattle.model.proofs.Acceptance.{accepting-facts, accepting-answers, linked-is, is-linked}
 use Rattle.model.proofs.Outcomes.{never, numberIn}
 use Rattle.model.proofs.Entries.{getD-same}
-use Rattle.model.proofs.Links.{AllFresh, TextRead, parse-complete, parse-sound}
+use Rattle.model.proofs.Links.{AllFresh, Within, TextRead, parse-complete, parse-sound}
 use Rattle.model.proofs.SurveyLists.{total, total-zero, total-suc, starts-length, neighbours-length, start-at, own-at}
 use Rattle.model.proofs.SurveyLists.{gather-below, neighbours-same, starts-same, own-total, own-neighbours, own-starts}
 use Rattle.model.proofs.Totals.{named-sym, named-cases, links-total}
@@ -115,6 +116,19 @@ module _ (n : ℕ) (ls : List (ℕ × ℕ)) (some-node : 1 ≤ n) (size : n ≤ 
         back = named-own _ _ (subst T (named-sym _ _ _) t);
       }))
 
+-- the same of the lists that reading leaves, of p and q entries
+module _ (p q : ℕ) (x : Parsed) (some-node : 1 ≤ x .nodes) (size : x .nodes ≤ 1024) (few : length (x .links) ≤ 16384)
+    (f : AllFresh (x .nodes) [] (x .links)) where
+  pub links-accepted : Accepted (x .nodes) (readingOf p q (answered x) .starts) (readingOf p q (answered x) .neighbours)
+  unfolding readingOf over starts neighbours
+  links-accepted = lists-accepted _ _ some-node size few f _ _
+
+  pub links-linked : (a b : ℕ)
+      → linked (x .nodes) (neighboursOf (readingOf p q (answered x) .starts) (readingOf p q (answered x) .neighbours)) a b
+      ≡ named (x .links) a b
+  unfolding readingOf over starts neighbours
+  links-linked = links-exactly _ _ some-node size few f _ _
+
 -- past n the starts read 0
 past-starts : (n : ℕ) (G : Graph) (p v : ℕ) → n ≤ v → getD (over (startsOf n G) (replicate p 0)) (v + 1) 0 ≡ 0
 unfolding over
@@ -134,17 +148,15 @@ module _ (N M p q : ℕ) (nodes : N ≤ 1024) (links : M ≤ 16384) (text : List
 
   -- the lists are accepted
   pub read-accepted : Accepted (x .nodes) (readingOf p q (answered x) .starts) (readingOf p q (answered x) .neighbours)
-  unfolding readingOf over starts neighbours
-  read-accepted = lists-accepted _ _ (facts .within .some-node) (omega (arith, facts .within .size))
-      (omega (arith, facts .within .few)) (facts .fresh) _ _
+  read-accepted = links-accepted _ _ _ (facts .within .some-node) (omega (arith, facts .within .size))
+      (omega (arith, facts .within .few)) (facts .fresh)
 
   -- their links are those that the lines name
   pub read-exactly : (a b : ℕ)
       → linked (x .nodes) (neighboursOf (readingOf p q (answered x) .starts) (readingOf p q (answered x) .neighbours)) a b
       ≡ named (x .links) a b
-  unfolding readingOf over starts neighbours
-  read-exactly = links-exactly _ _ (facts .within .some-node) (omega (arith, facts .within .size))
-      (omega (arith, facts .within .few)) (facts .fresh) _ _
+  read-exactly = links-linked _ _ _ (facts .within .some-node) (omega (arith, facts .within .size))
+      (omega (arith, facts .within .few)) (facts .fresh)
 
   -- their neighbours are those of the links, past n too
   pub read-graph : neighboursOf (readingOf p q (answered x) .starts) (readingOf p q (answered x) .neighbours)
@@ -210,6 +222,20 @@ module _ (text buffer : List ℕ) where
       omega (arith, ap (λ (x : AfterWriting). length (x .buffer)) w ∙ length-append text _))
       (lt-or (length buffer) (length text))
 
+  -- so where it is answered nothing was refused before, and the text is the buffer's front
+  pub written : (o : Outcome (Unit {0})) (k : ℕ) → writingOf o text buffer .answer ≡ answered k
+      → (o ≡ answered tt) × (take k (writingOf o text buffer .buffer) ≡ text)
+  unfolding writingOf over
+  written (refused j) k e = never e
+  written (answered x) k e = (
+    refl,
+    picked P (ltb (length buffer) (length text)) _ _ (λ _ e. never e)
+        (λ _ e. let j : length text ≡ k = cc in take-at _ _ _ j) e,
+  )
+    where
+      P : AfterWriting → Type 0
+      P r = r .answer ≡ answered k → take k (r .buffer) ≡ text
+
 -- ---- a graph's links in order: each once, and all of them
 
 named-append : (ks ls : List (ℕ × ℕ)) (a b : ℕ) → named (ks ++ ls) a b ≡ (named ks a b || named ls a b)
@@ -270,7 +296,7 @@ AllLess done a k = (u v : ℕ) → T (named done u v) → u < v → (u < a) ⊎ 
 row-fresh : (n a k : ℕ) (l : List ℕ) (done ks : List (ℕ × ℕ)) → a < n → T (ascending l)
     → ((b : ℕ) → T (has b l) → (a < b) × (b < n) × (k ≤ b)) → AllLess done a k
     → ((done′ : List (ℕ × ℕ)) → AllLess done′ (suc a) 0 → AllFresh n done′ ks) → AllFresh n done (row a l ++ ks)
-unfolding row AllLess named
+unfolding row AllLess
 row-fresh n a k [] done ks ha asc b less next =
     next done (λ u v t h. inl (⊎-elim (λ x. omega arith) (λ x. omega (arith, x .0)) (less u v t h)))
 row-fresh n a k (y ∷ l) done ks ha asc b less next =
@@ -315,7 +341,7 @@ module _ (n : ℕ) (starts′ neighbours′ : List ℕ) (acc : Accepted n starts
   ls = ordered n (neighboursOf starts′ neighbours′)
 
   pub all-fresh : AllFresh n [] (ordered n (neighboursOf starts′ neighbours′))
-  unfolding ls ordered upTo row AllLess named
+  unfolding ordered upTo row AllLess named
   all-fresh = rows-fresh n G n 0 [] (zero-add n) (acc .lists .sorted) (acc .lists .graph .below) (λ u v t h. absurd t)
 
   -- the links in order are the graph's links
@@ -361,29 +387,38 @@ module _ (n : ℕ) (starts′ neighbours′ : List ℕ) (acc : Accepted n starts
   pub half-count : getD starts′ n 0 / 2 ≡ length (ordered n (neighboursOf starts′ neighbours′))
   half-count = omega (arith, ordered-count)
 
+  -- the lists of its links in order are its own: n and m, the entries used, and zero past them
+  pub links-back : (p q : ℕ)
+      → readingOf p q (answered (record { nodes = n; links = ordered n (neighboursOf starts′ neighbours′) }))
+      ≡ asRead n starts′ neighbours′ p q
+  unfolding asRead readingOf ls
+  links-back p q i = record {
+    answer = answered (record { nodes = n; links = sym half-count i });
+    starts = over ((starts-same _ _ _ graph-back ∙ own-starts (acc .lists) (acc .room)) i) (replicate p 0);
+    neighbours = over ((neighbours-same _ _ _ graph-back ∙ own-neighbours (acc .lists)) i) (replicate q 0);
+  }
+
+  -- the counts are within the limits of reading
+  pub links-within : (p q : ℕ) → n + 1 ≤ p → getD starts′ n 0 ≤ q
+      → Within 1024 16384 p q n (length (ordered n (neighboursOf starts′ neighbours′)))
+  links-within p q hp hq = record {
+    some-node = acc .some-node;
+    size = acc .size;
+    few = omega (arith, half-count, acc .lists .few-links);
+    room = hp;
+    list-room = omega (arith, ordered-count);
+  }
+
   pub read-back : (p q : ℕ) → n + 1 ≤ p → getD starts′ n 0 ≤ q
       → reading (textOf n starts′ neighbours′) p q ≡ asRead n starts′ neighbours′ p q
-  unfolding asRead reading readingOf textOf ls
+  unfolding reading textOf
   read-back p q hp hq =
-      let x : Parsed = record { nodes = n; links = ls } in
-      let r = parse-complete _ 16384 p q (omega arith) (omega arith) x (surveyText n (getD starts′ n 0 / 2) ls) (record {
-        within = record {
-          some-node = acc .some-node;
-          size = acc .size;
-          few = omega (arith, half-count, acc .lists .few-links);
-          room = hp;
-          list-room = omega (arith, ordered-count);
-        };
+      ap (readingOf p q) (parse-complete _ _ _ _ (omega arith) (omega arith) _ _ (record {
+        within = links-within _ _ hp hq;
         is-text = rw half-count;
         fresh = all-fresh;
-      }) in
-      ap (readingOf p q) r ∙ (λ i. record {
-        answer = answered (record { nodes = n; links = sym half-count i });
-        starts =
-            over ((starts-same _ _ _ graph-back ∙ own-starts (acc .lists) (acc .room)) i) (replicate p 0);
-        neighbours =
-            over ((neighbours-same _ _ _ graph-back ∙ own-neighbours (acc .lists)) i) (replicate q 0);
-      })
+      }))
+      ∙ links-back _ _
 
   -- a survey's text, in a buffer that is long enough
   pub writing-answers : (buffer : List ℕ) → length (textOf n starts′ neighbours′) ≤ length buffer
@@ -392,25 +427,25 @@ module _ (n : ℕ) (starts′ neighbours′ : List ℕ) (acc : Accepted n starts
         buffer = over (textOf n starts′ neighbours′) buffer;
       }
   unfolding writing
-  writing-answers buffer h = rw (accepting-answers n starts′ neighbours′ acc) (write-whole _ _ h)
-
-  pub written-text : (buffer : List ℕ) (k : ℕ) → writing n starts′ neighbours′ buffer .answer ≡ answered k
-      → take k (writing n starts′ neighbours′ buffer .buffer) ≡ textOf n starts′ neighbours′
-  unfolding writing writingOf over
-  written-text buffer k =
-      let text : List ℕ = textOf n starts′ neighbours′ in
-      let P : AfterWriting → Type 0 = λ r. r .answer ≡ answered k → take k (r .buffer) ≡ text in
-      rw (accepting-answers _ _ _ acc) (picked P (ltb (length buffer) (length text)) _ _ (λ _ e. never e)
-      (λ _ e. let j : length text ≡ k = cc in take-at _ _ _ j))
+  writing-answers buffer h = rw (accepting-answers _ _ _ acc) (write-whole _ _ h)
 
 -- written and read again it is the same survey
 pub writing-right : (n : ℕ) (starts neighbours buffer : List ℕ) → WriteRight n starts neighbours (writing n starts neighbours buffer)
-unfolding writing writingOf
-writing-right n starts neighbours buffer k e p q hp hq = at (accepting n starts neighbours) refl e
-  where
-    at : (o : Outcome (Unit {0})) → accepting n starts neighbours ≡ o → writingOf o (textOf n starts neighbours) buffer .answer ≡ answered k
-        → reading (take k (writing n starts neighbours buffer .buffer)) p q ≡ asRead n starts neighbours p q
-    at (refused j) i f = never f
-    at (answered x) i f =
-        let acc = accepting-facts _ _ _ _ i in
-        rw (written-text _ _ _ acc _ k e) (read-back _ _ _ acc _ _ hp hq)
+unfolding writing
+writing-right n starts neighbours buffer k e p q hp hq =
+    let w = written _ _ _ _ e in
+    rw (w .1) (read-back _ _ _ (accepting-facts _ _ _ _ (w .0)) _ _ hp hq)
+
+-- links that are all new are as many as the pairs a < b that they name
+pub links-number : (n : ℕ) (links : List (ℕ × ℕ)) → 1 ≤ n → n ≤ 1024 → length links ≤ 16384 → AllFresh n [] links
+    → length (ordered n (graphOf n links)) ≡ length links
+unfolding ordered
+links-number n links some-node size few f =
+    let same = gather-same {B = ℕ × ℕ} _ _ (upTo n) (λ v m.
+    ap (λ (l : List ℕ). map (λ b. (v, b)) (keep (λ b. ltb v b) l)) (own _ links some-node size few f [] [] _ (of-upTo _ _ m))) in
+    omega (
+      arith,
+      ap length same,
+      ordered-count _ _ _ (lists-accepted n links some-node size few f [] []),
+      last n links some-node size few f [] [],
+    )

@@ -8,13 +8,14 @@ use mathlib.Core.Option.{Option, none as missing, some}
 use Prim.Native.Nat.{ℕ, zero, suc, _+_, _*_, _/_, _≤_, _<_}
 use native.Mathlib.Omega.{arith}
 use borrow.Author.Tests.{le-ltb, ltb-false, leb-false}
-use lib.Dec.{T, eqb, ltb, leb}
+use lib.Dec.{T, eqb, ltb, leb, T-not}
 use lib.ListN.{length, getD, length-append, length-reverse}
 use Rattle.model.specs.declared.Route.{Route}
 use Rattle.model.specs.declared.Route.the-variants.{Itself, Low, Through, NoRoute}
 use Rattle.model.specs.declared.Answer.{Answer}
-use Rattle.model.specs.Answers.{Outcome, refused, answered}
+use Rattle.model.specs.Answers.{Outcome, refused, answered, mapAnswer, andThen}
 use Rattle.model.specs.Basics.{none, gather}
+use Rattle.model.specs.Lines.{twoLine, numberLineOf}
 use Rattle.model.specs.SurveyText.{line, lineOf, linkLines, surveyText, ordered}
 use Rattle.model.specs.Survey.{Graph, neighboursOf, outside, badSize, isSurvey, IsGraph, Accepted}
 use Rattle.model.specs.Graph.{linked}
@@ -23,124 +24,172 @@ use Rattle.model.specs.Tables.{entryAt, shortTables, AreBuilt}
 use Rattle.model.specs.Pair.{pairBy, pair}
 use Rattle.model.specs.Walk.{steps, byLow, toHub, join, walkNodes}
 use Rattle.model.specs.Threshold.{threshold}
-use Rattle.model.specs.Reading.{named, linkOf, readOn, onLinks, readLinks, countsOf, parsed, parseLinks, Parsed, parse, readingOf, reading}
+use Rattle.model.specs.Reading.{limitsOf, countsOf, onLinks, linkOf, readOn, readLinks}
+use Rattle.model.specs.Reading.{Parsed, parsed, parseLinks, parse, readingOf, reading}
 use Rattle.model.specs.Writing.{textOf, AfterWriting, writing}
 use Rattle.model.specs.Asking.{asking}
 use Rattle.model.specs.Walking.{AfterWalking, refuseWalk, fit, walkOf, walking}
 use Rattle.model.specs.Demand.{AllowedAnswer}
-use Rattle.model.proofs.Tests.{picked, true-T, false-no, or-false, of-or-false, not-not, eq-or, lt-or}
+use Rattle.model.specs.Dimacs.{uncommented, headWord, headLine, edgeLine, edgeLines, fileText}
+use Rattle.model.specs.Dimacs.{headOf, edgeOf, readEdges, fileOf, importing, exportOf, exporting}
+use Rattle.model.proofs.Tests.{picked, true-T, false-no, or-false, of-or-false, not-not, eq-T, eq-or, lt-or}
 use Rattle.model.proofs.Outcomes.{never, no-value, numberIn}
 use Rattle.model.proofs.Acceptance.{of-in-range, survey-facts}
 use Rattle.model.proofs.Numbers.{length-le}
-use Rattle.model.proofs.Lines.{length-line}
+use Rattle.model.proofs.Lines.{length-two}
 use Rattle.model.proofs.Links.{AllFresh}
 use Rattle.model.proofs.Walks.{Chosen, chosen, to-itself, to-none, to-low, to-hub, bad-itself, bad-hub, Sound, steps-sound, too-long, fit-long}
 use Rattle.model.proofs.Entries.{long-tables}
 use Rattle.model.proofs.Demand.{full-room, low-room, report-room, asks, walks, walking-short, walking-right}
 use Rattle.model.proofs.ReadBack.{all-fresh, half-count, writing-answers}
+use Rattle.model.proofs.Dimacs.{exporting-answers}
 
 -- equal refusals have equal numbers
 same-number : {A : Type 0} (j k : ℕ) → _≡_ {A = Outcome A} (refused j) (refused k) → j ≡ k
 unfolding numberIn
 same-number {A} j k e = ap (numberIn (λ (x : A). 0)) e
 
--- ---- a survey's text
+-- ---- a survey's text, and its file
 
--- a link line has at most 12 bytes
-lines-few : (n : ℕ) → n ≤ 1024 → (ls done : List (ℕ × ℕ)) → AllFresh n done ls → length (linkLines ls) ≤ 12 * length ls
-unfolding linkLines gather
-lines-few n h [] done f = omega arith
-lines-few n h (l ∷ ls) done f =
-    omega (
-      arith,
-      length-append (lineOf 76 (l .0) (l .1)) (linkLines ls),
-      length-line 76 (l .0) (l .1),
-      length-le 3 (l .0) (omega (arith, f .0 .below-a)),
-      length-le 3 (l .1) (omega (arith, f .0 .below-b)),
-      lines-few n h ls (l ∷ done) (f .1),
-    )
+-- a text of one line with the numbers of nodes and links, and a line of at most 12 bytes for each link
+module _ (line : ℕ → ℕ → List ℕ) (few : (a b : ℕ) → a < 1024 → b < 1024 → length (line a b) ≤ 12) where
+  lines-few : (n : ℕ) → n ≤ 1024 → (ls done : List (ℕ × ℕ)) → AllFresh n done ls
+      → length (gather (λ l. line (l .0) (l .1)) ls) ≤ 12 * length ls
+  unfolding gather
+  lines-few n h [] done f = omega arith
+  lines-few n h (l ∷ ls) done f =
+      omega (
+        arith,
+        length-append (line (l .0) (l .1)) (gather (λ l. line (l .0) (l .1)) ls),
+        few (l .0) (l .1) (omega (arith, f .0 .below-a)) (omega (arith, f .0 .below-b)),
+        lines-few n h ls (l ∷ done) (f .1),
+      )
 
--- 13 for the first line, and 12 for each of 16,384 links
+  whole-few : (word : List ℕ) (separator n : ℕ) (starts neighbours : List ℕ) → Accepted n starts neighbours
+      → length (numberLineOf word separator (n ∷ getD starts n 0 / 2 ∷ [])
+      ++ gather (λ l. line (l .0) (l .1)) (ordered n (neighboursOf starts neighbours)))
+      ≤ length word + 12 + 12 * 16384
+  whole-few word separator n starts neighbours acc =
+      let m = getD starts n 0 / 2 in
+      let links = ordered n (neighboursOf starts neighbours) in
+      omega (
+        arith,
+        length-append (numberLineOf word separator (n ∷ m ∷ [])) (gather (λ l. line (l .0) (l .1)) links),
+        length-two word separator n m,
+        length-le 3 n (omega (arith, acc .size)),
+        length-le 4 m (omega (arith, acc .lists .few-links)),
+        lines-few _ (acc .size) links [] (all-fresh _ _ _ acc),
+        half-count _ _ _ acc,
+        acc .lists .few-links,
+      )
+
+-- two numbers of at most four digits behind a letter
+two-few : (letter separator x y : ℕ) → x < 10000 → y < 10000 → length (numberLineOf (letter ∷ []) separator (x ∷ y ∷ [])) ≤ 12
+two-few letter separator x y hx hy =
+    omega (arith, length-two (letter ∷ []) separator x y, length-le 3 _ hx, length-le 3 _ hy)
+
+-- 13 bytes for the first line of a text, 18 for that of a file, and 12 for each of 16,384 links
 abbrev pub mostText : ℕ
 mostText = 13 + 12 * 16384
 
+abbrev pub mostFile : ℕ
+mostFile = 18 + 12 * 16384
+
 module _ (n : ℕ) (starts neighbours : List ℕ) (acc : Accepted n starts neighbours) where
   pub text-few : length (textOf n starts neighbours) ≤ mostText
-  unfolding textOf surveyText
-  text-few =
-      let G : Graph = neighboursOf starts neighbours in
-      let m = length (ordered n G) in
-      let h = half-count _ _ _ acc in
-      let e = ap (λ (k : ℕ). length (lineOf 83 n k)) h in
-      omega (
-        arith,
-        length-append (lineOf 83 n (getD starts n 0 / 2)) (linkLines (ordered n G)),
-        e,
-        length-line 83 n m,
-        length-le 3 n (omega (arith, acc .size)),
-        length-le 4 m (omega (arith, h, acc .lists .few-links)),
-        lines-few n (acc .size) (ordered n G) [] (all-fresh n starts neighbours acc),
-        acc .lists .few-links,
-      )
+  unfolding textOf surveyText linkLines lineOf
+  text-few = whole-few (lineOf 76) (λ a b ha hb. two-few 76 44 a b (omega arith) (omega arith)) (83 ∷ []) 44 _ _ _ acc
+
+  pub file-few : length (exportOf n starts neighbours) ≤ mostFile
+  unfolding exportOf fileText headLine edgeLines edgeLine
+  file-few =
+      whole-few edgeLine (λ a b ha hb. two-few 101 32 (a + 1) (b + 1) (omega arith) (omega arith)) headWord 32 _ _ _ acc
 
   -- a buffer of so many bytes is never refused 12
   pub writing-enough : (buffer : List ℕ) → mostText ≤ length buffer
       → writing n starts neighbours buffer .answer ≡ answered (length (textOf n starts neighbours))
   writing-enough buffer h = ap (λ (r : AfterWriting). r .answer) (writing-answers _ _ _ acc _ (omega (arith, text-few)))
 
--- ---- the lists that reading fills
+  pub exporting-enough : (buffer : List ℕ) → mostFile ≤ length buffer
+      → exporting n starts neighbours buffer .answer ≡ answered (length (exportOf n starts neighbours))
+  exporting-enough buffer h = ap (λ (r : AfterWriting). r .answer) (exporting-answers _ _ _ acc _ (omega (arith, file-few)))
 
-links-not-eight : (n m : ℕ) (done : List (ℕ × ℕ)) (text : List ℕ) → readLinks n m done text ≡ refused 8 → ⊥
-unfolding readLinks linkOf readOn onLinks
-links-not-eight n zero done [] e = never (sym e)
-links-not-eight n zero done (c ∷ text) e = omega (arith, same-number 7 8 e)
-links-not-eight n (suc m) done [] e = omega (arith, same-number 7 8 e)
-links-not-eight n (suc m) done (c ∷ text) e = at (line 76 (c ∷ text)) (λ l. links-not-eight n m _ _) e
-  where
-    next : ℕ → ℕ → List ℕ → Outcome (List (ℕ × ℕ))
-    next a b rest = readLinks n m ((a, b) ∷ done) rest
+-- ---- the lists that reading and importing fill
 
-    P : Outcome (ℕ × ℕ × List ℕ) → Type 0
-    P o = readOn next o ≡ refused 8 → ⊥
+-- an outcome that is not refused 8
+data NotEight {A : Type 0} : Outcome A → Type 0 where
+  other : {k : ℕ} → T (not (eqb k 8)) → NotEight (refused k)
+  answers : {x : A} → NotEight (answered x)
 
-    more : (l : ℕ × ℕ × List ℕ) (o : Outcome (List (ℕ × ℕ))) → (o ≡ refused 8 → ⊥) → onLinks (l .0, l .1) o ≡ refused 8 → ⊥
-    more l (refused k) f e = f (ap refused (same-number _ _ e))
-    more l (answered x) f e = never (sym e)
+not-map : {A B : Type 0} (f : A → B) {o : Outcome A} → NotEight o → NotEight (mapAnswer f o)
+not-map f (other n) = other n
+not-map f answers = answers
 
-    at : (o : Option (ℕ × ℕ × List ℕ)) → ((l : ℕ × ℕ × List ℕ) → next (l .0) (l .1) (l .2) ≡ refused 8 → ⊥)
-        → readOn next (linkOf n (named done) o) ≡ refused 8 → ⊥
-    at missing rec = λ e. omega (arith, same-number 1 8 e)
-    at (some l) rec =
-        picked P (leb n (l .0) || leb n (l .1)) _ _ (λ _ e. omega (arith, same-number 4 8 e)) (λ _.
-        picked P (eqb (l .0) (l .1)) _ _ (λ _ e. omega (arith, same-number 5 8 e)) (λ _.
-        picked P (named done (l .0) (l .1)) _ _ (λ _ e. omega (arith, same-number 6 8 e))
-        (λ _. more l (next (l .0) (l .1) (l .2)) (rec l))))
+not-then : {A B : Type 0} {o : Outcome A} (f : A → Outcome B) → NotEight o → ((x : A) → NotEight (f x)) → NotEight (andThen o f)
+not-then f (other n) m = other n
+not-then f (answers {x}) m = m x
+
+not-read : (p q : ℕ) {o : Outcome Parsed} → NotEight o → readingOf p q o .answer ≡ refused 8 → ⊥
+unfolding readingOf
+not-read p q (other {k} n) e = T-not (eqb k 8) n (eq-T _ _ (same-number _ _ e))
+not-read p q answers e = never (sym e)
+
+not-limits : (p q : ℕ) → 1025 ≤ p → 32768 ≤ q → (f : ℕ × ℕ × List ℕ) → NotEight (limitsOf 1024 16384 p q f)
+unfolding limitsOf
+not-limits p q hp hq f =
+    picked NotEight (outside 1024 (f .0)) _ _ (λ _. other tt) (λ size.
+    picked NotEight (ltb 16384 (f .1)) _ _ (λ _. other tt) (λ few.
+    let room : (ltb p (f .0 + 1) || ltb q (2 * f .1)) ≡ false = or-false _ _
+    (le-ltb _ (f .0 + 1) (omega (arith, of-in-range _ (f .0) size .1)))
+    (le-ltb _ (2 * f .1) (omega (arith, ltb-false _ (f .1) few))) in
+    rw room answers))
+
+-- the link lines of a text, and the edge lines of a file
+not-link : (n : ℕ) (g : ℕ → ℕ → Bool) (o : Option (ℕ × ℕ × List ℕ)) → NotEight (linkOf n g o)
+unfolding linkOf
+not-link n g missing = other tt
+not-link n g (some l) =
+    picked NotEight (leb n (l .0) || leb n (l .1)) _ _ (λ _. other tt) (λ _.
+    picked NotEight (eqb (l .0) (l .1)) _ _ (λ _. other tt) (λ _.
+    picked NotEight (g (l .0) (l .1)) _ _ (λ _. other tt) (λ _. answers)))
+
+not-edge : (n : ℕ) (o : Option (ℕ × ℕ × List ℕ)) → NotEight (edgeOf n o)
+unfolding edgeOf
+not-edge n missing = other tt
+not-edge n (some l) =
+    picked NotEight (outside n (l .0) || outside n (l .1)) _ _ (λ _. other tt) (λ _.
+    picked NotEight (eqb (l .0) (l .1)) _ _ (λ _. other tt) (λ _. answers))
+
+not-links : (n m : ℕ) (done : List (ℕ × ℕ)) (text : List ℕ) → NotEight (readLinks n m done text)
+unfolding readLinks readOn onLinks
+not-links n zero done [] = answers
+not-links n zero done (c ∷ text) = other tt
+not-links n (suc m) done [] = other tt
+not-links n (suc m) done (c ∷ text) = not-then _ (not-link _ _ _) (λ l. not-map _ (not-links n m ((l .0, l .1) ∷ done) (l .2)))
+
+not-edges : (n m : ℕ) (text : List ℕ) → NotEight (readEdges n m text)
+unfolding readEdges readOn onLinks
+not-edges n zero [] = answers
+not-edges n zero (c ∷ text) = other tt
+not-edges n (suc m) text = not-then _ (not-edge _ _) (λ l. not-map _ (not-edges n m (l .2)))
 
 -- lists of 1,025 and 32,768 entries are never refused 8
 pub reading-enough : (text : List ℕ) (p q : ℕ) → 1025 ≤ p → 32768 ≤ q → reading text p q .answer ≡ refused 8 → ⊥
-unfolding reading parse parseLinks countsOf parsed readingOf
-reading-enough text p q hp hq = at (line 83 text)
+unfolding reading parse parseLinks parsed countsOf
+reading-enough text p q hp hq = not-read _ _ (not-then _ (first (line 83 text)) (λ f. not-map _ (not-links _ _ _ _)))
   where
-    of-parse : (o : Outcome Parsed) → (o ≡ refused 8 → ⊥) → readingOf p q o .answer ≡ refused 8 → ⊥
-    of-parse (refused k) f e = f (ap refused (same-number _ _ e))
-    of-parse (answered x) f e = never (sym e)
+    first : (o : Option (ℕ × ℕ × List ℕ)) → NotEight (countsOf 1024 16384 p q o)
+    first missing = other tt
+    first (some f) = not-limits _ _ hp hq f
 
-    of-links : (n : ℕ) (o : Outcome (List (ℕ × ℕ))) → (o ≡ refused 8 → ⊥) → parsed n o ≡ refused 8 → ⊥
-    of-links n (refused k) f e = f (ap refused (same-number _ _ e))
-    of-links n (answered x) f e = never (sym e)
-
-    P : Outcome (ℕ × ℕ × List ℕ) → Type 0
-    P o = readingOf p q (parseLinks o) .answer ≡ refused 8 → ⊥
-
-    at : (o : Option (ℕ × ℕ × List ℕ)) → P (countsOf 1024 16384 p q o)
-    at missing = λ e. omega (arith, same-number 1 8 e)
-    at (some f) =
-        picked P (outside 1024 (f .0)) _ _ (λ _ e. omega (arith, same-number 2 8 e)) (λ size.
-        picked P (ltb 16384 (f .1)) _ _ (λ _ e. omega (arith, same-number 3 8 e)) (λ few.
-        let room : (ltb p (f .0 + 1) || ltb q (2 * f .1)) ≡ false = or-false (ltb p (f .0 + 1)) _
-        (le-ltb _ (f .0 + 1) (omega (arith, of-in-range 1024 (f .0) size .1)))
-        (le-ltb _ (2 * f .1) (omega (arith, ltb-false 16384 (f .1) few))) in
-        rw room (of-parse _ (of-links (f .0) _ (links-not-eight _ _ _ _)))))
+pub importing-enough : (text : List ℕ) (p q : ℕ) → 1025 ≤ p → 32768 ≤ q → importing text p q .answer ≡ refused 8 → ⊥
+unfolding importing fileOf parsed headOf
+importing-enough text p q hp hq =
+    not-read _ _ (not-map _ (not-then _ (head (twoLine headWord 32 (uncommented text))) (λ f. not-map _ (not-edges _ _ _))))
+  where
+    head : (o : Option (ℕ × ℕ × List ℕ)) → NotEight (headOf p q o)
+    head missing = other tt
+    head (some f) = not-limits _ _ hp hq f
 
 -- ---- a walk, whatever the tables hold
 

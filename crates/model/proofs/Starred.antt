@@ -3,8 +3,8 @@
 -- Assumes nothing.
 use mathlib.Core.Path.{_≡_, refl}
 use mathlib.Core.List.{List, [], _∷_, map}
+use mathlib.Core.Option.{bind}
 use Prim.Native.Nat.{ℕ, _*_}
-use Prim.Native.Char.{code}
 use Prim.Native.String.{String}
 use lib.ListN.{replicate}
 use Rattle.model.specs.declared.Size.{Size}
@@ -15,7 +15,9 @@ use Rattle.model.specs.declared.Verdict.the-variants.{Long, Short}
 use Rattle.model.specs.Answers.{Outcome, refused, answered}
 use Rattle.model.specs.Basics.{none, from, upTo, has, any, all, keep, firstOf, gather, same, over}
 use Rattle.model.specs.Numbers.{isDigit, isNumber, valueFrom, valueOf}
-use Rattle.model.specs.SurveyText.{onFirst, split, onFront, cut, twoNumbers, withRest, lineIn, line}
+use Rattle.model.specs.Lines.{onFirst, split, onFront, cut, behind, afterEmpty, fieldsBehind, fieldLine}
+use Rattle.model.specs.Lines.{numbersIn, numberLine, twoLine}
+use Rattle.model.specs.SurveyText.{line}
 use Rattle.model.specs.Survey.{Graph, neighboursOf, ascending, badSize, isSurvey, accepting}
 use Rattle.model.specs.Threshold.{bitLength, threshold}
 use Rattle.model.specs.Hubs.{isHigh, isLow, closed, gain, best, greedy, hubs}
@@ -24,12 +26,13 @@ use Rattle.model.specs.Tables.{rowsOf, table, entryAt, fullTable, lowLin
 use Rattle.model.specs.Pair.{withRoute, taken, attaining, choose, pairBy, pair}
 use Rattle.model.specs.Walk.{before, next, steps, byLow, toHub, join, walkNodes}
 use Rattle.model.specs.TwoOrFour.{sources, verdictOf, testResult}
-use Rattle.model.specs.Reading.{named, onLinks, linkOf, readOn, readLinks, parsed, countsOf, parseLinks, parse}
+use Rattle.model.specs.Reading.{named, onLinks, linkOf, readOn, readLinks, parsed, limitsOf, countsOf, parseLinks, parse}
 use Rattle.model.specs.Reading.{graphOf, startsOf, neighboursFrom, AfterReading, readingOf, reading}
 use Rattle.model.specs.Building.{AfterBuilding, built, building}
 use Rattle.model.specs.Asking.{asking}
 use Rattle.model.specs.Walking.{AfterWalking, refuseWalk, fit, walkOf, walking}
 use Rattle.model.specs.Testing.{testing}
+use Rattle.model.proofs.Quoted.{bytes}
 
 course : String
 course = "S,6,6\nL,0,5\nL,1,5\nL,2,5\nL,3,5\nL,4,5\nL,1,2\n"
@@ -42,10 +45,6 @@ chain = "S,5,4\nL,0,1\nL,1,2\nL,2,3\nL,3,4\n"
 
 triangle : String
 triangle = "S,5,5\nL,0,1\nL,0,2\nL,1,2\nL,1,3\nL,2,4\n"
-
-bytes : String → List ℕ
-bytes String.[] = []
-bytes (String._∷_ c s) = code c ∷ bytes s
 
 -- what reading a text leaves, in lists of 8 and 16 entries, and what building from it leaves, in lists of none
 lists : String → AfterReading
@@ -124,10 +123,11 @@ starred =
 pub starred-cases : map (λ c. reply (c .0)) starred ≡ map (λ c. c .1) starred
 unfolding starred reply tables graph size nodesIn lists bytes triangle chain single course
     from upTo has any all keep firstOf gather same over isDigit isNumber valueFrom valueOf
-    onFirst split onFront cut twoNumbers withRest lineIn line neighboursOf linked ascending badSize isSurvey accepting
+    onFirst split onFront cut bind behind afterEmpty fieldsBehind fieldLine numbersIn numberLine twoLine line
+    neighboursOf linked ascending badSize isSurvey accepting
     bitLength threshold isHigh isLow closed gain best greedy hubs hubList reach fewest rowsOf table entryAt fullTable
     lowLinks lowTable sum via reportTable
     taken attaining choose pairBy pair before next steps byLow toHub join walkNodes sources verdictOf testResult
-    named onLinks linkOf readOn readLinks parsed countsOf parseLinks parse graphOf startsOf neighboursFrom readingOf reading
+    named onLinks linkOf readOn readLinks parsed limitsOf countsOf parseLinks parse graphOf startsOf neighboursFrom readingOf reading
     built building asking refuseWalk fit walkOf walking testing
 starred-cases = refl

@@ -111,7 +111,7 @@ named-sym (l ∷ ls) a b =
     ap₂ (λ (s t : Bool). s || t) (or-comm (eqb (l .0) a && eqb (l .1) b) _) (named-sym ls a b)
 
 -- one test of two equations
-both-equal : (x y u v : ℕ) → T (eqb x u && eqb y v) → (x ≡ u) × (y ≡ v)
+pub both-equal : (x y u v : ℕ) → T (eqb x u && eqb y v) → (x ≡ u) × (y ≡ v)
 both-equal x y u v t = (eqb→eq x u (and-l (eqb x u) (eqb y v) t), eqb→eq y v (and-r (eqb x u) (eqb y v) t))
 
 -- a pair that is named is the first link, this way or the other, or is named by a later one

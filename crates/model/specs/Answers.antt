@@ -5,7 +5,7 @@ use mathlib.Core.Bool.{Bool, true, false}
 use Prim.Native.Nat.{ℕ}
 use Rattle.model.specs.declared.Refusal.{Refusal}
 use Rattle.model.specs.declared.Refusal.the-variants.{Form, NodeCount, LinkCount, LineNode, EqualEnds, RepeatedLink, LineCount}
-use Rattle.model.specs.declared.Refusal.the-variants.{ShortList, NotSurvey, NoNode, NotAttained, ShortBuffer}
+use Rattle.model.specs.declared.Refusal.the-variants.{ShortList, NotSurvey, NoNode, NotAttained, ShortBuffer, FileForm}
 use Rattle.model.specs.declared.Size.{Size}
 use Rattle.model.specs.declared.Answer.{Answer}
 use Rattle.model.specs.declared.TestResult.{TestResult}
@@ -54,18 +54,19 @@ number NotSurvey = 9
 number NoNode = 10
 number NotAttained = 11
 number ShortBuffer = 12
+number FileForm = 13
 
 -- what the cases of a call's answer stand for: of acceptance, rule 10.6
 abbrev pub acceptAnswer : Accepting → Outcome (Unit {0})
 acceptAnswer (accepting.Refused r) = refused (number r)
 acceptAnswer accepting.Accepted = answered tt
 
--- of reading, rule 10.5
+-- of reading and importing, rules 10.5 and 13.7
 abbrev pub readAnswer : Reading → Outcome Size
 readAnswer (reading.Refused r) = refused (number r)
 readAnswer (reading.Read s) = answered s
 
--- of building, writing back, the listing and the threshold, rules 10.7, 10.11, 11.4 and 10.12
+-- of building, writing back, exporting, the listing and the threshold, rules 10.7, 10.11, 13.8, 11.4 and 10.12
 abbrev pub countAnswer : Counting → Outcome ℕ
 countAnswer (counting.Refused r) = refused (number r)
 countAnswer (counting.Count k) = answered k

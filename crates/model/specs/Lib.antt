@@ -7,6 +7,7 @@ pub mod Basics
 pub mod Answers
 -- sections 2 and 3: the survey text, and the two lists
 pub mod Numbers
+pub mod Lines
 pub mod SurveyText
 pub mod Survey
 -- sections 4 and 5, and 8 for chains: threshold, hubs and tables
@@ -30,3 +31,5 @@ pub mod Writing
 pub mod Listing
 -- section 9: what the answers mean, in terms of chains
 pub mod Demand
+-- section 13: DIMACS edge files
+pub mod Dimacs

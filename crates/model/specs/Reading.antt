@@ -13,14 +13,18 @@ use Rattle.model.specs.Basics.{if_then_else_, upTo, keep, gather, over}
 use Rattle.model.specs.SurveyText.{line}
 use Rattle.model.specs.Survey.{Graph, outside}
 
--- rule 10.2: n, m and the text after the first line, for any limits and for lists of p and q entries
-unfoldable pub countsOf : (mostNodes mostLinks p q : ℕ) → Option (ℕ × ℕ × List ℕ) → Outcome (ℕ × ℕ × List ℕ)
-countsOf mostNodes mostLinks p q missing = refused 1
-countsOf mostNodes mostLinks p q (some f) =
+-- rule 10.2, behind the line's form: n, m and the text after the first line, for any limits and for lists of p and q entries
+unfoldable pub limitsOf : (mostNodes mostLinks p q : ℕ) → ℕ × ℕ × List ℕ → Outcome (ℕ × ℕ × List ℕ)
+limitsOf mostNodes mostLinks p q f =
     if outside mostNodes (f .0) then refused 2
     else if ltb mostLinks (f .1) then refused 3
     else if ltb p (f .0 + 1) || ltb q (2 * f .1) then refused 8
     else answered f
+
+-- rule 10.2: the first line
+unfoldable pub countsOf : (mostNodes mostLinks p q : ℕ) → Option (ℕ × ℕ × List ℕ) → Outcome (ℕ × ℕ × List ℕ)
+countsOf mostNodes mostLinks p q missing = refused 1
+countsOf mostNodes mostLinks p q (some f) = limitsOf mostNodes mostLinks p q f
 
 -- rule 2.5: a and b are the ends of one of these links, either way round
 unfoldable pub named : List (ℕ × ℕ) → ℕ → ℕ → Bool

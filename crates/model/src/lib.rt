@@ -12,7 +12,7 @@ pub enum Refusal {
     NodeCount,
     // The count of links is above its limit.
     LinkCount,
-    // A line names a node of n or more.
+    // A line names a node of n or more; a line of a file, 0 or a node above n.
     LineNode,
     // Both ends of a line's link are equal.
     EqualEnds,
@@ -30,6 +30,8 @@ pub enum Refusal {
     NotAttained,
     // The lent text buffer is too short.
     ShortBuffer,
+    // A file is not in the stated form, or a line of it not in its place.
+    FileForm,
 }
 
 // The counts of nodes and links of a survey.

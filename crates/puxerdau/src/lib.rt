@@ -20,6 +20,7 @@ ghost use Rattle.model.specs.Walking.{walking};
 ghost use Rattle.model.specs.Testing.{testing};
 ghost use Rattle.model.specs.Listing.{listing, writingListing};
 ghost use Rattle.model.specs.Demand.{ReadRight, WriteRight, BuildRight, AskRight, WalkSound, WalkRight, TestRight};
+ghost use Rattle.model.specs.Dimacs.{importing, exporting, ImportRight, ExportRight};
 ghost use Rattle.listing_writing.specs.Length.{mostListing};
 ghost use Rattle.base_answer_codes.specs.Code.{noField, countField, sizeField, answerField, testField};
 ghost use Rattle.base_answer_codes.specs.Code.{decoded, noValue, countIn, sizeIn, answerIn, testIn, IsCode};
@@ -60,6 +61,35 @@ pub extern "C" fn puxerdau_write(
     ensures { λ r. ⌜ WriteRight n (now (starts .entry)) (now (neighbours .entry)) (writeDecoded r (now (buffer .exit))) ⌝ }
 {
     counting_code(survey_writing::write_survey(n, starts, neighbours, buffer))
+}
+
+// Reads a survey from a DIMACS edge file into two lists.
+#[no_mangle]
+pub extern "C" fn puxerdau_import(text: &[u8], starts: &mut [u32], neighbours: &mut [u16]) -> u64
+    ensures { λ r. ⌜ IsCode sizeField sizeIn
+        (importing (now (text .entry)) (length (now (starts .entry))) (length (now (neighbours .entry))) .answer) r ⌝ }
+    ensures { λ r. ⌜ readDecoded r (now (starts .exit)) (now (neighbours .exit))
+        ≡ importing (now (text .entry)) (length (now (starts .entry))) (length (now (neighbours .entry))) ⌝ }
+    ensures { λ r. ⌜ ImportRight (now (text .entry)) (readDecoded r (now (starts .exit)) (now (neighbours .exit))) ⌝ }
+{
+    reading_code(survey_importing::import_survey(text, starts, neighbours))
+}
+
+// Writes a survey as a DIMACS edge file into a buffer.
+#[no_mangle]
+pub extern "C" fn puxerdau_export(
+    n: usize,
+    starts: &[u32],
+    neighbours: &[u16],
+    buffer: &mut [u8],
+) -> u64
+    ensures { λ r. ⌜ IsCode countField countIn
+        (exporting n (now (starts .entry)) (now (neighbours .entry)) (now (buffer .entry)) .answer) r ⌝ }
+    ensures { λ r. ⌜ writeDecoded r (now (buffer .exit))
+        ≡ exporting n (now (starts .entry)) (now (neighbours .entry)) (now (buffer .entry)) ⌝ }
+    ensures { λ r. ⌜ ExportRight n (now (starts .entry)) (now (neighbours .entry)) (writeDecoded r (now (buffer .exit))) ⌝ }
+{
+    counting_code(survey_writing::export_survey(n, starts, neighbours, buffer))
 }
 
 // Whether the lists are a survey's: the refusals that all calls over a survey share.

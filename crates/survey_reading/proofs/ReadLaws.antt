@@ -10,12 +10,12 @@ use Rattle.base_lists.proofs.Filling.{filled-own}
 use Rattle.model.specs.Answers.{Outcome, refused, answered, number}
 use Rattle.model.specs.declared.Refusal.{Refusal}
 use Rattle.model.specs.declared.Reading.the-variants as read
-use Rattle.model.specs.Basics.{upTo, has, over}
+use Rattle.model.specs.Basics.{upTo, has}
 use Rattle.model.specs.SurveyText.{line}
 use Rattle.model.specs.Reading.{named, readLinks, parsed, countsOf, parseLinks, parse, graphOf, startsOf, neighboursFrom}
 use Rattle.model.specs.Reading.{AfterReading, readReturned, readingOf, reading}
 use Rattle.model.proofs.Lists.{keep-same, keep-below, of-upTo}
-use Rattle.model.proofs.Links.{Within, AllFresh, of-first-taken, links-sound}
+use Rattle.model.proofs.Links.{Within, AllFresh, of-first-taken}
 use Rattle.model.specs.Demand.{ReadRight}
 use Rattle.model.proofs.Outcomes.{promised}
 use Rattle.model.proofs.ReadBack.{named-below, reading-right}
@@ -28,20 +28,15 @@ use Rattle.survey_reading_lines.specs.declared.LineSays.the-variants as says
 use Rattle.survey_reading_lines.specs.declared.Links.{Links}
 use Rattle.survey_reading_lists.specs.MatrixRows.{rowsIn}
 use Rattle.survey_reading_lines.specs.declared.Links.the-variants as links
+use Rattle.survey_reading.specs.LinksWritten.{HasRoom, afterLinks}
 
 -- lists that are all zero, as a refusal leaves them
-read-refused : (p q : ℕ) (r : Refusal) {s x : List ℕ} → s ≡ replicate p 0 → x ≡ replicate q 0
+pub read-refused : (p q : ℕ) (r : Refusal) {s x : List ℕ} → s ≡ replicate p 0 → x ≡ replicate q 0
     → readReturned (read.Refused r) s x ≡ readingOf p q (refused (number r))
 unfolding readingOf
 read-refused p q r hs hx = rw (hs, hx)
 
 -- ---- the two lists
-
--- what is left where the two lists are those of the matrix
-abbrev left : (n m p q : ℕ) → List ℕ → AfterReading
-left n m p q ws =
-    readReturned (read.Read (record { nodes = n; links = m }))
-    (over (startsOf n (rowsIn ws)) (replicate p 0)) (over (neighboursFrom n (rowsIn ws)) (replicate q 0))
 
 -- the matrix has the rows of the links' graph
 module _ (n : ℕ) (size : n ≤ 1024) (ws : List ℕ) (ls : List (ℕ × ℕ)) (held : Holds ws ls) (fresh : AllFresh n [] ls) where
@@ -63,48 +58,37 @@ module _ (n : ℕ) (size : n ≤ 1024) (ws : List ℕ) (ls : List (ℕ × ℕ)) 
   few-entries : length (neighboursFrom n (rowsIn ws)) ≡ 2 * length ls
   few-entries = ap length same-neighbours ∙ neighbours-length n (graphOf n ls) ∙ links-total _ _ fresh
 
-  lists-read : (p q : ℕ) → left n (length ls) p q ws ≡ readingOf p q (answered (record { nodes = n; links = ls }))
+  lists-read : (p q : ℕ)
+      → afterLinks n (links.Taken (length ls)) ws (replicate p 0) (replicate q 0) ≡ readingOf p q (answered (record { nodes = n; links = ls }))
   unfolding readingOf
   lists-read p q = rw (same-starts, same-neighbours)
 
--- what reading answers and leaves where the link lines were read into a matrix
-pub record Filled (n m p q : ℕ) (t ws : List ℕ) : Type 0 where
-  pub long : length ws ≡ 16384
-  pub few : length (neighboursFrom n (rowsIn ws)) ≡ 2 * m
-  pub is : left n m p q ws ≡ readingOf p q (parsed n (readLinks n m [] t))
+-- links that are all new, and not too many
+pub record AreNew (n most : ℕ) (ls : List (ℕ × ℕ)) : Type 0 where
+  pub fresh : AllFresh n [] ls
+  pub few : length ls ≤ most
 
--- refused, the lists stay all zero
-pub links-refused : (n m : ℕ) (t ws : List ℕ) {w : Links} → Told (readLinks n m [] t) w ws → {r : Refusal} → w ≡ links.Refused r
-    → (p q : ℕ) {s x : List ℕ} → s ≡ replicate p 0 → x ≡ replicate q 0
-    → readReturned (read.Refused r) s x ≡ readingOf p q (parsed n (readLinks n m [] t))
+-- link lines, which say o, were read into a matrix: its links have room in lists of p and q entries, and give there what reading states
+pub record LinksRead (n p q : ℕ) (o : Outcome (List (ℕ × ℕ))) (w : Links) (ws : List ℕ) : Type 0 where
+  pub room : HasRoom n q w ws
+  pub is : {s x : List ℕ} → s ≡ replicate p 0 → x ≡ replicate q 0 → afterLinks n w ws s x ≡ readingOf p q (parsed n o)
+
+pub links-read : (n m p q : ℕ) (o : Outcome (List (ℕ × ℕ))) (w : Links) (ws : List ℕ) → n ≤ 1024 → m ≤ 16384 → 2 * m ≤ q
+    → ((ls : List (ℕ × ℕ)) → o ≡ answered ls → AreNew n m ls) → Told o w ws → LinksRead n p q o w ws
 unfolding parsed
-links-refused n m t ws told {r} e p q hs hx =
-    read-refused p q r hs hx ∙ ap (λ (o : Outcome (List (ℕ × ℕ))). readingOf p q (parsed n o)) (at (readLinks n m [] t) (rw e at told))
-  where
-    at : (o : Outcome (List (ℕ × ℕ))) → Told o (links.Refused r) ws → refused (number r) ≡ o
-    at (refused k) h = ap refused h
-    at (answered ls) h = absurd (let z : _≡_ {A = ℕ} 0 1 = cc in omega arith)
-
-pub links-taken : {n m p q : ℕ} {t ws : List ℕ} {w : Links} → Told (readLinks n m [] t) w ws → w ≡ links.Taken → n ≤ 1024
-    → Filled n m p q t ws
-unfolding parsed
-links-taken {n} {m} {p} {q} {t} {ws} told e size = at (readLinks n m [] t) refl (rw e at told)
-  where
-    at : (o : Outcome (List (ℕ × ℕ))) → readLinks n m [] t ≡ o → Told o links.Taken ws → Filled n m p q t ws
-    at (refused k) h f = absurd f
-    at (answered ls) h f =
-        let g = links-sound n m [] t ls h in
-        record {
-          long = f .1 .long;
-          few = few-entries n size ws ls (f .1) (g .fresh) ∙ ap (λ (k : ℕ). 2 * k) (g .count);
-          is = rw (h, ← g .count) (lists-read n size ws ls (f .1) (g .fresh) p q);
-        }
-
--- lists that were all zero before the rows were written
-pub read-written : {n m p q : ℕ} {t ws : List ℕ} → Filled n m p q t ws → {s₀ x₀ s x : List ℕ} → s₀ ≡ replicate p 0 → x₀ ≡ replicate q 0
-    → s ≡ over (startsOf n (rowsIn ws)) s₀ → x ≡ over (neighboursFrom n (rowsIn ws)) x₀
-    → readReturned (read.Read (record { nodes = n; links = m })) s x ≡ readingOf p q (parsed n (readLinks n m [] t))
-read-written f hs hx es ex = rw (es, ex, hs, hx) (f .is)
+links-read n m p q (refused k) (links.Refused r) ws size most room new told = record {
+  room = λ i e. absurd (let z : _≡_ {A = ℕ} 0 1 = cc in omega arith);
+  is = λ hs hx. read-refused p q r hs hx ∙ ap (λ (k : ℕ). readingOf p q (refused k)) told;
+}
+links-read n m p q (refused k) (links.Taken i) ws size most room new told = absurd told
+links-read n m p q (answered ls) w ws size most room new told =
+    let a = new ls refl in
+    let held = told .1 in
+    let entries = few-entries n size ws ls held (a .fresh) in
+    record {
+      room = λ i e. (held .long, omega (arith, entries, a .few), omega (arith, entries, a .few));
+      is = λ hs hx. rw (told .0, hs, hx) (lists-read n size ws ls held (a .fresh) p q);
+    }
 
 -- ---- the whole text, read into lists that were cleared
 
@@ -116,10 +100,10 @@ module _ {s₀ x₀ s x : List ℕ} (z : Cleared s₀ x₀ s x) where
   pub cleared-own : (s ≡ replicate (length s) 0) × (x ≡ replicate (length x) 0)
   cleared-own = (filled-own 0 (length s₀) (z .starts), filled-own 0 (length x₀) (z .neighbours))
 
-  same-s : length s ≡ length s₀
+  pub same-s : length s ≡ length s₀
   same-s = ap length (z .starts) ∙ length-replicate _ _
 
-  same-x : length x ≡ length x₀
+  pub same-x : length x ≡ length x₀
   same-x = ap length (z .neighbours) ∙ length-replicate _ _
 
 module _ (N M : ℕ) (text : List ℕ) {s₀ x₀ s x : List ℕ} (z : Cleared s₀ x₀ s x) {w : LineSays}

@@ -1,6 +1,7 @@
 // Reading a survey from its text.
 use model::Reading;
 use model::Size;
+use survey_reading_lines::Limits;
 use survey_reading_lines::LineSays;
 use survey_reading_lines::Links;
 ghost use mathlib.Core.Path.{_≡_};
@@ -9,6 +10,28 @@ ghost use Prim.Native.Nat.{_+_, _*_, _≤_};
 ghost use lib.ListN.{length, replicate, drop};
 ghost use Rattle.model.specs.Reading.{readLinks, parsed, parse, readReturned, readingOf, reading};
 ghost use Rattle.model.specs.Demand.{ReadRight};
+ghost use Rattle.survey_reading.specs.LinksWritten.{HasRoom, afterLinks};
+
+// Writes both lists where the links were taken into the matrix; refused, they stay as they are.
+pub fn write_links(
+    links: Links,
+    bits: &[u64],
+    n: usize,
+    starts: &mut [u32],
+    neighbours: &mut [u16],
+) -> Reading
+    requires { ⌜ (n ≤ 1024) × (n + 1 ≤ length (now starts)) × HasRoom n (length (now neighbours)) links (now bits) ⌝ }
+    ensures { λ r. ⌜ readReturned r (now (starts .exit)) (now (neighbours .exit))
+        ≡ afterLinks n links (now (bits .entry)) (now (starts .entry)) (now (neighbours .entry)) ⌝ }
+{
+    match links {
+        Links::Refused(r) => Reading::Refused(r),
+        Links::Taken(m) => {
+            survey_reading_lists::write_lists(bits, n, starts, neighbours);
+            Reading::Read(Size { nodes: n, links: m })
+        }
+    }
+}
 
 // Reads the link lines from a place on and writes both lists, which are all zero; refused, they stay so.
 fn read_lists(
@@ -26,13 +49,8 @@ fn read_lists(
         (parsed n (readLinks n m [] (drop at (now (text .entry))))) ⌝ }
 {
     let mut bits = [0u64; 16384];
-    match survey_reading_lines::read_links(text, at, n, m, &mut bits) {
-        Links::Refused(r) => Reading::Refused(r),
-        Links::Taken => {
-            survey_reading_lists::write_lists(&bits, n, starts, neighbours);
-            Reading::Read(Size { nodes: n, links: m })
-        }
-    }
+    let links = survey_reading_lines::read_links(text, at, n, m, &mut bits);
+    write_links(links, &bits, n, starts, neighbours)
 }
 
 // Reads a survey within limits on its counts.
@@ -50,13 +68,13 @@ pub fn read_within(
 {
     base_lists::fill32(starts, 0);
     base_lists::fill16(neighbours, 0);
-    match survey_reading_lines::first_line(
-        text,
-        most_nodes,
-        most_links,
-        starts.len(),
-        neighbours.len(),
-    ) {
+    let limits = Limits {
+        nodes: most_nodes,
+        links: most_links,
+        starts: starts.len(),
+        neighbours: neighbours.len(),
+    };
+    match survey_reading_lines::first_line(text, limits) {
         LineSays::Refused(r) => Reading::Refused(r),
         LineSays::Pair(n, m, at) => read_lists(text, at, n, m, starts, neighbours),
     }

@@ -76,12 +76,12 @@ module _ (s : List ℕ) (at n : ℕ) (E : Edges) where
 
 -- ---- the links in the matrix
 
-none-held : Holds (replicate 16384 0) []
+pub none-held : Holds (replicate 16384 0) []
 unfolding named
 none-held = record { long = length-replicate {A = ℕ} _ 0; says = λ a b ha hb. ap (λ (E : Edges). E a b) edges-none }
 
 -- a link put in both ways round
-held-more : (ws ws′ ws″ : List ℕ) {ls : List (ℕ × ℕ)} (a b : ℕ) → a < 1024 → b < 1024
+pub held-more : (ws ws′ ws″ : List ℕ) {ls : List (ℕ × ℕ)} (a b : ℕ) → a < 1024 → b < 1024
     → Holds ws ls → length ws″ ≡ length ws
     → member ws′ ≡ inserted (member ws) (1024 * a + b) → member ws″ ≡ inserted (member ws′) (1024 * b + a)
     → Holds ws″ ((a, b) ∷ ls)
@@ -113,16 +113,21 @@ behind (l ∷ done) ls = behind done (l ∷ ls)
 unfoldable pub after : List (ℕ × ℕ) → Outcome (List (ℕ × ℕ)) → Outcome (List (ℕ × ℕ))
 after done o = mapAnswer (behind done) o
 
-after-on : (done : List (ℕ × ℕ)) (l : ℕ × ℕ) (o : Outcome (List (ℕ × ℕ))) → after done (onLinks l o) ≡ after (l ∷ done) o
+pub after-on : (done : List (ℕ × ℕ)) (l : ℕ × ℕ) (o : Outcome (List (ℕ × ℕ))) → after done (onLinks l o) ≡ after (l ∷ done) o
 unfolding after behind onLinks
 after-on done l (refused k) = refl
 after-on done l (answered ls) = refl
 
 -- before the first line
-after-none : (o : Outcome (List (ℕ × ℕ))) → after [] o ≡ o
+pub after-none : (o : Outcome (List (ℕ × ℕ))) → after [] o ≡ o
 unfolding after behind
 after-none (refused k) = refl
 after-none (answered ls) = refl
+
+pub behind-length : (done ls : List (ℕ × ℕ)) → length (behind done ls) ≡ length done + length ls
+unfolding behind
+behind-length [] ls = omega arith
+behind-length (l ∷ done) ls = behind-length done (l ∷ ls) ∙ omega arith
 
 behind-named : (done ls : List (ℕ × ℕ)) (a b : ℕ) → named (behind done ls) a b ≡ (named done a b || named ls a b)
 unfolding behind named
@@ -131,7 +136,8 @@ behind-named (l ∷ done) ls a b =
     let X = (eqb (l .0) a && eqb (l .1) b) || (eqb (l .0) b && eqb (l .1) a) in
     behind-named done (l ∷ ls) a b ∙ or-turned (named done a b) X (named ls a b)
 
-behind-held : {ws : List ℕ} {done : List (ℕ × ℕ)} → Holds ws done → Holds ws (behind done [])
+-- links given before, in the order of their lines
+pub behind-held : {ws : List ℕ} {done : List (ℕ × ℕ)} → Holds ws done → Holds ws (behind done [])
 unfolding named
 behind-held {done = done} h = record {
   long = h .long;
@@ -207,6 +213,7 @@ module _ (n m k : ℕ) (done : List (ℕ × ℕ)) (s : List ℕ) (at : ℕ) (h :
 
 pub record Progress (n m : ℕ) (s : List ℕ) (at : ℕ) (ws : List ℕ) (next k : ℕ) : Type 0 where
   pub done : List (ℕ × ℕ)
+  pub counted : length done ≡ k
   pub within : k ≤ m
   pub held : Holds ws done
   pub rest : after done (readLinks n (m - k) done (drop next s)) ≡ readLinks n m [] (drop at s)
@@ -214,6 +221,7 @@ pub record Progress (n m : ℕ) (s : List ℕ) (at : ℕ) (ws : List ℕ) (next 
 pub progress-none : (n m : ℕ) (s : List ℕ) (at : ℕ) {ws : List ℕ} → ws ≡ replicate 16384 0 → Progress n m s at ws at 0
 progress-none n m s at e = record {
   done = [];
+  counted = refl;
   within = omega arith;
   held = rw e none-held;
   rest = let z : m - 0 ≡ m = omega arith in after-none _ ∙ rw z;
@@ -228,25 +236,23 @@ module _ {n m : ℕ} {s : List ℕ} {at : ℕ} {ws : List ℕ} {next k : ℕ} (f
       → Told (readLinks n m [] (drop at s)) (links.Refused r) ws
   progress-refused h r e = rw (← p .rest, next-refused n (p .done) (edgesIn ws) agrees m k h (drop next s) e) refl
 
-  -- it is taken, and the link put in both ways round
-  pub progress-taken : k < m → {a b : ℕ} (e : ℕ) (ws′ ws″ : List ℕ)
-      → linkIn n (edgesIn ws) (drop next s) ≡ answered (a, b, drop e s)
-      → length ws″ ≡ length ws → member ws′ ≡ inserted (member ws) (1024 * a + b)
-      → member ws″ ≡ inserted (member ws′) (1024 * b + a)
-      → Progress n m s at ws″ e (k + 1)
-  progress-taken h {a} {b} e ws′ ws″ l long one two =
-      let g = link-below n (edgesIn ws) (drop next s) l in
-      record {
-        done = (a, b) ∷ p .done;
-        within = omega arith;
-        held = held-more ws ws′ ws″ a b (omega (arith, g .0)) (omega (arith, g .1)) (p .held) long one two;
-        rest = sym (next-taken n (p .done) (edgesIn ws) agrees m k h (drop next s) l) ∙ p .rest;
-      }
+  -- it is taken, and the link put into the matrix
+  pub progress-taken : k < m → {a b : ℕ} (e : ℕ) (ws′ : List ℕ) → linkIn n (edgesIn ws) (drop next s) ≡ answered (a, b, drop e s)
+      → ((ls : List (ℕ × ℕ)) → Holds ws ls → Holds ws′ ((a, b) ∷ ls)) → Progress n m s at ws′ e (k + 1)
+  progress-taken h {a} {b} e ws′ l more = record {
+    done = (a, b) ∷ p .done;
+    counted = omega (arith, p .counted);
+    within = omega arith;
+    held = more (p .done) (p .held);
+    rest = sym (next-taken n (p .done) (edgesIn ws) agrees m k h (drop next s) l) ∙ p .rest;
+  }
 
   -- all lines are taken, and the text goes on
   pub progress-more : m ≤ k → next < length s → Told (readLinks n m [] (drop at s)) (links.Refused LineCount) ws
   progress-more h l = rw (← p .rest, last-more n m k (p .done) s next h l) refl
 
   -- or ends
-  pub progress-done : m ≤ k → length s ≤ next → Told (readLinks n m [] (drop at s)) links.Taken ws
-  progress-done h l = rw (← p .rest, last-end n m k (p .done) s next h l) (refl, behind-held (p .held))
+  pub progress-done : m ≤ k → length s ≤ next → Told (readLinks n m [] (drop at s)) (links.Taken m) ws
+  progress-done h l =
+      rw (← p .rest, last-end n m k (p .done) s next h l)
+      (ap links.Taken (omega (arith, p .within, p .counted, behind-length (p .done) [])), behind-held (p .held))

@@ -31,6 +31,6 @@ lineAnswer s (says.Refused r) = refused (number r)
 
 -- the link lines were read into the matrix, or refused
 abbrev pub Told : Outcome (List (ℕ × ℕ)) → Links → List ℕ → Type 0
-Told (answered ls) r ws = (r ≡ links.Taken) × Holds ws ls
+Told (answered ls) r ws = (r ≡ links.Taken (length ls)) × Holds ws ls
 Told (refused k) (links.Refused r) ws = number r ≡ k
-Told (refused k) links.Taken ws = ⊥
+Told (refused k) (links.Taken m) ws = ⊥

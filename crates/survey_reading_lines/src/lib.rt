@@ -2,13 +2,13 @@
 use model::Refusal;
 use text_reading::Line;
 ghost use mathlib.Core.Path.{_≡_};
-ghost use mathlib.Core.List.{[]};
-ghost use Prim.Native.Nat.{_≤_};
+ghost use mathlib.Core.List.{List, [], _∷_};
+ghost use Prim.Native.Nat.{ℕ, _≤_, _<_};
 ghost use lib.ListN.{length, replicate, drop};
 ghost use Rattle.model.specs.SurveyText.{line};
-ghost use Rattle.model.specs.Reading.{readLinks, countsOf};
+ghost use Rattle.model.specs.Reading.{readLinks, limitsOf, countsOf};
 ghost use Rattle.base_nodeset.specs.Matrix.{edgesIn};
-ghost use Rattle.survey_reading_lines.specs.LinesRead.{linkIn, lineAnswer, Told};
+ghost use Rattle.survey_reading_lines.specs.LinesRead.{Holds, linkIn, lineAnswer, Told};
 
 // What a line of a survey text says: its two numbers and the place after it.
 pub enum LineSays {
@@ -16,10 +16,35 @@ pub enum LineSays {
     Refused(Refusal),
 }
 
-// What the link lines say: all were taken, or not.
+// What the link lines say: all were taken, and the matrix has so many links; or not.
 pub enum Links {
-    Taken,
+    Taken(usize),
     Refused(Refusal),
+}
+
+// The most nodes and links that a text may have, and the lengths of the lists that it is read into.
+pub struct Limits {
+    pub nodes: usize,
+    pub links: usize,
+    pub starts: usize,
+    pub neighbours: usize,
+}
+
+// Whether the matrix has a link.
+pub fn has_link(bits: &[u64], a: usize, b: usize) -> bool
+    requires { ⌜ (length (now bits) ≡ 16384) × (a < 1024) × (b < 1024) ⌝ }
+    ensures { λ r. ⌜ r ≡ edgesIn (now (bits .entry)) a b ⌝ }
+{
+    base_nodeset::contains(bits, 1024 * a + b)
+}
+
+// Puts a link into the matrix, both ways round.
+pub fn insert_link(bits: &mut [u64], a: usize, b: usize)
+    requires { ⌜ (length (now bits) ≡ 16384) × (a < 1024) × (b < 1024) ⌝ }
+    ensures { λ _. ⌜ ((links : List (ℕ × ℕ)) → Holds (now (bits .entry)) links → Holds (now (bits .exit)) ((a, b) ∷ links)) ⌝ }
+{
+    base_nodeset::insert(bits, 1024 * a + b);
+    base_nodeset::insert(bits, 1024 * b + a);
 }
 
 // The link line at a place, where the matrix has the links given before.
@@ -30,7 +55,7 @@ fn link_at(text: &[u8], at: usize, n: usize, bits: &[u64]) -> LineSays
     if text.len() <= at {
         return LineSays::Refused(Refusal::LineCount);
     }
-    let Line::Pair(a, b, next) = text_reading::line_at(text, at, 76) else {
+    let Line::Pair(a, b, next) = text_reading::pair_at(text, at, b"L", b',') else {
         return LineSays::Refused(Refusal::Form);
     };
     let near = (a < n as u64) & (b < n as u64);
@@ -40,12 +65,10 @@ fn link_at(text: &[u8], at: usize, n: usize, bits: &[u64]) -> LineSays
     if a == b {
         return LineSays::Refused(Refusal::EqualEnds);
     }
-    let u = a as usize;
-    let v = b as usize;
-    if base_nodeset::contains(bits, 1024 * u + v) {
+    if has_link(bits, a as usize, b as usize) {
         return LineSays::Refused(Refusal::RepeatedLink);
     }
-    LineSays::Pair(u, v, next)
+    LineSays::Pair(a as usize, b as usize, next)
 }
 
 // Reads m link lines from a place on into the empty matrix, and the end of the text behind them.
@@ -59,8 +82,7 @@ pub fn read_links(text: &[u8], at: usize, n: usize, m: usize, bits: &mut [u64]) 
         match link_at(text, next, n, bits) {
             LineSays::Refused(r) => return Links::Refused(r),
             LineSays::Pair(a, b, e) => {
-                base_nodeset::insert(bits, 1024 * a + b);
-                base_nodeset::insert(bits, 1024 * b + a);
+                insert_link(bits, a, b);
                 next = e;
             }
         }
@@ -69,33 +91,43 @@ pub fn read_links(text: &[u8], at: usize, n: usize, m: usize, bits: &mut [u64]) 
     if next < text.len() {
         return Links::Refused(Refusal::LineCount);
     }
-    Links::Taken
+    Links::Taken(m)
 }
 
-// The first line, within limits, for lists of p and q entries.
-pub fn first_line(text: &[u8], most_nodes: usize, most_links: usize, p: usize, q: usize) -> LineSays
-    requires { ⌜ («most_nodes» ≤ 1024) × («most_links» ≤ 16384) ⌝ }
-    ensures { λ r. ⌜ lineAnswer (now (text .entry)) r ≡ countsOf «most_nodes» «most_links» p q (line 83 (now (text .entry))) ⌝ }
+// The counts that a first line says, if they are within the limits; the line ends before a place.
+pub fn within_limits(nodes: u64, links: u64, next: usize, limits: Limits) -> LineSays
+    requires { ⌜ (limits .nodes ≤ 1024) × (limits .links ≤ 16384) ⌝ }
+    ensures { λ r. ⌜ ((text : List ℕ) → lineAnswer text r
+        ≡ limitsOf (limits .nodes) (limits .links) (limits .starts) (limits .neighbours) (nodes, links, drop next text)) ⌝ }
 {
-    let Line::Pair(nodes, count, at) = text_reading::line_at(text, 0, 83) else {
-        return LineSays::Refused(Refusal::Form);
-    };
     if nodes < 1 {
         return LineSays::Refused(Refusal::NodeCount);
     }
-    if (most_nodes as u64) < nodes {
+    if (limits.nodes as u64) < nodes {
         return LineSays::Refused(Refusal::NodeCount);
     }
-    if (most_links as u64) < count {
+    if (limits.links as u64) < links {
         return LineSays::Refused(Refusal::LinkCount);
     }
     let n = nodes as usize;
-    let m = count as usize;
-    if p < n + 1 {
+    let m = links as usize;
+    if limits.starts < n + 1 {
         return LineSays::Refused(Refusal::ShortList);
     }
-    if q < 2 * m {
+    if limits.neighbours < 2 * m {
         return LineSays::Refused(Refusal::ShortList);
     }
-    LineSays::Pair(n, m, at)
+    LineSays::Pair(n, m, next)
+}
+
+// The first line, within limits.
+pub fn first_line(text: &[u8], limits: Limits) -> LineSays
+    requires { ⌜ (limits .nodes ≤ 1024) × (limits .links ≤ 16384) ⌝ }
+    ensures { λ r. ⌜ lineAnswer (now (text .entry)) r
+        ≡ countsOf (limits .nodes) (limits .links) (limits .starts) (limits .neighbours) (line 83 (now (text .entry))) ⌝ }
+{
+    let Line::Pair(nodes, links, next) = text_reading::pair_at(text, 0, b"S", b',') else {
+        return LineSays::Refused(Refusal::Form);
+    };
+    within_limits(nodes, links, next, limits)
 }

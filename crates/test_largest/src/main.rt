@@ -56,7 +56,7 @@ fn build_and_test(n: usize, starts: &[u32], neighbours: &[u16]) {
 
 fn run_calls(text: &[u8], starts: &mut [u32; STARTS], neighbours: &mut [u16; NEIGHBOURS]) {
     let answer = survey_reading::read_survey(text, starts, neighbours);
-    print_read(answer, starts, neighbours);
+    print_read(b'R', answer, starts, neighbours);
     build_and_test(node_count(answer), starts, neighbours);
 }
 

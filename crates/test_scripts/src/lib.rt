@@ -12,7 +12,9 @@ use model::Testing;
 use text_reading::Line;
 ghost use mathlib.Core.Path.{_≡_};
 ghost use Prim.Native.Nat.{_%_, min};
-ghost use Rattle.test_scripts.specs.Commands.{lineAt, commandLine};
+ghost use lib.ListN.{length};
+ghost use Rattle.model.specs.Reading.{readReturned};
+ghost use Rattle.test_scripts.specs.Commands.{lineAt, commandLine, readBy};
 ghost use Rattle.test_scripts.specs.Sums.{checksum, replaced};
 
 // A line of the script: its letter, its numbers and the place after it.
@@ -29,8 +31,15 @@ pub fn read_command(script: &[u8], at: usize) -> Command
 {
     if at < script.len() {
         let letter = script[at];
-        if let Line::Pair(x, y, next) = text_reading::line_at(script, at, letter) {
-            return Command { letter, x, y, next };
+        if letter != 0 {
+            if let Line::Pair(x, y, next) = text_reading::pair_at(
+                script,
+                at,
+                &script[at..at + 1],
+                b',',
+            ) {
+                return Command { letter, x, y, next };
+            }
         }
     }
     Command {
@@ -113,12 +122,12 @@ pub fn print_entries(letter: u8, list: &[u16], k: u64) {
     io::write_all(1, b"\n");
 }
 
-pub fn print_read(answer: Reading, starts: &[u32], neighbours: &[u16]) {
+pub fn print_read(letter: u8, answer: Reading, starts: &[u32], neighbours: &[u16]) {
     let s = sum32(starts);
     let t = sum16(neighbours);
     match answer {
-        Reading::Refused(r) => print_line(b'R', &[refusal_number(r) as u64, 0, 0, s, t]),
-        Reading::Read(size) => print_line(b'R', &[0, size.nodes as u64, size.links as u64, s, t]),
+        Reading::Refused(r) => print_line(letter, &[refusal_number(r) as u64, 0, 0, s, t]),
+        Reading::Read(size) => print_line(letter, &[0, size.nodes as u64, size.links as u64, s, t]),
     }
 }
 
@@ -156,20 +165,32 @@ pub fn print_tested(answer: Testing) {
     }
 }
 
-// Reads a text into the first c.x starts and c.y neighbours. The next line says the text's length, and the text follows it. Returns
-// the place after the text.
+// Reads a text, or, by the letter I, a file.
+fn read_by(letter: u8, text: &[u8], starts: &mut [u32], neighbours: &mut [u16]) -> Reading
+    ensures { λ r. ⌜ readReturned r (now (starts .exit)) (now (neighbours .exit))
+        ≡ readBy letter (now (text .entry)) (length (now (starts .entry))) (length (now (neighbours .entry))) ⌝ }
+{
+    if letter == b'I' {
+        return survey_importing::import_survey(text, starts, neighbours);
+    }
+    survey_reading::read_survey(text, starts, neighbours)
+}
+
+// Reads a text or a file into the first c.x starts and c.y neighbours. The next line says the text's length, and the text follows it.
+// Returns the place after the text.
 pub fn run_read(script: &[u8], c: Command, starts: &mut [u32], neighbours: &mut [u16]) -> usize {
     let p = at_most(c.x, starts.len());
     let q = at_most(c.y, neighbours.len());
     let k = read_command(script, c.next);
     let start = at_most(k.next as u64, script.len());
     let end = start + at_most(k.x, script.len() - start);
-    let answer = survey_reading::read_survey(
+    let answer = read_by(
+        c.letter,
         &script[start..end],
         &mut starts[..p],
         &mut neighbours[..q],
     );
-    print_read(answer, starts, neighbours);
+    print_read(c.letter, answer, starts, neighbours);
     end
 }
 

@@ -1,9 +1,11 @@
-// Runs a script of reading, acceptance and writing back from standard input (crate `test_scripts` says what a script is):
+// Runs a script of reading, importing, acceptance, writing back and exporting from standard input (crate `test_scripts` says what a script is):
 //   R,p,q  K,k,0  k bytes   reads the bytes as a text into the first p starts and q neighbours
+//   I,p,q  K,k,0  k bytes   imports the bytes as a DIMACS edge file into them
 //   S,i,x                   start i becomes x
 //   E,i,x                   neighbour i becomes x
 //   A,n,0  L,p,q            acceptance of n nodes with the first p starts and q neighbours
 //   W,n,b  L,p,q            writes them back into the first b bytes of the buffer
+//   X,n,b  L,p,q            exports them into it
 use base_refusals::refusal_number;
 use model::Accepting;
 use model::Counting;
@@ -15,6 +17,11 @@ use test_scripts::run_read;
 use test_scripts::set16;
 use test_scripts::set32;
 use test_scripts::sum8;
+ghost use mathlib.Core.Path.{_≡_};
+ghost use lib.Dec.{eqb};
+ghost use Rattle.model.specs.Basics.{if_then_else_};
+ghost use Rattle.model.specs.Writing.{writing, writeReturned};
+ghost use Rattle.model.specs.Dimacs.{exporting};
 
 const INPUT: usize = 262144;
 
@@ -35,6 +42,18 @@ fn run_accept(script: &[u8], c: Command, starts: &[u32], neighbours: &[u16]) -> 
     l.next
 }
 
+// Writes a survey's text, or, by the letter X, its file.
+fn write_by(letter: u8, n: usize, starts: &[u32], neighbours: &[u16], buffer: &mut [u8]) -> Counting
+    ensures { λ r. ⌜ writeReturned r (now (buffer .exit))
+        ≡ (if eqb letter 88 then exporting n (now (starts .entry)) (now (neighbours .entry)) (now (buffer .entry))
+        else writing n (now (starts .entry)) (now (neighbours .entry)) (now (buffer .entry))) ⌝ }
+{
+    if letter == b'X' {
+        return survey_writing::export_survey(n, starts, neighbours, buffer);
+    }
+    survey_writing::write_survey(n, starts, neighbours, buffer)
+}
+
 fn run_write(
     script: &[u8],
     c: Command,
@@ -46,7 +65,8 @@ fn run_write(
     let p = at_most(l.x, starts.len());
     let q = at_most(l.y, neighbours.len());
     let b = at_most(c.y, buffer.len());
-    let answer = survey_writing::write_survey(
+    let answer = write_by(
+        c.letter,
         c.x as usize,
         &starts[..p],
         &neighbours[..q],
@@ -69,7 +89,7 @@ fn step(
     buffer: &mut [u8; BUFFER],
 ) -> usize {
     let c = read_command(script, at);
-    if c.letter == b'R' {
+    if (c.letter == b'R') | (c.letter == b'I') {
         return run_read(script, c, starts, neighbours);
     }
     if c.letter == b'S' {
@@ -81,7 +101,7 @@ fn step(
     if c.letter == b'A' {
         return run_accept(script, c, starts, neighbours);
     }
-    if c.letter == b'W' {
+    if (c.letter == b'W') | (c.letter == b'X') {
         return run_write(script, c, starts, neighbours, buffer);
     }
     c.next

@@ -1,3 +1,4 @@
 pub mod Runs
 pub mod Scanning
+pub mod Shapes
 pub mod ReaderSteps

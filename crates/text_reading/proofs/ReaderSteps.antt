@@ -27,8 +27,8 @@ use denote.Slice.{sliceVal, ShrSlice, shr-slice-copy}
 use denote.Steps.{owned, peeks, heard}
 use denote.Struct.Declared.{Declared}
 use denote.Struct.Laws.{Laws}
-use Rattle.text_reading.specs.Scan.{lineBy, found}
-use Rattle.text_reading.specs.declared.Line.{Line}
+use Rattle.text_reading.specs.Scan.{lineBy, foundNumbers}
+use Rattle.text_reading.specs.declared.Numbers.{Numbers}
 use Rattle.text_reading.proofs.LineReader as T
 use Rattle.text_reading.proofs.LineReader.Laws as T′
 
@@ -49,9 +49,9 @@ readerLaws κs = T′.the-laws (namedLft 1 0 tt κs)
 abbrev pub Reader : Lfts 1 → RattleType
 Reader κs = T.the-row (namedLft 1 0 tt κs)
 
--- what is said of the line l, found by its letter at the place n of the text s
-abbrev pub SaidLine : RefT (List ℕ) → ℕ → ℕ → Line → Type 0
-SaidLine s n letter l = found (now s) l ≡ lineBy letter (drop n (now s))
+-- what is said of the numbers l, found by their line's shape at the place n of the text s
+abbrev pub SaidLine : RefT (List ℕ) → ℕ → RefT (List ℕ) → ℕ → ℕ → Numbers → Type 0
+SaidLine s n w c k l = foundNumbers (now s) k l ≡ lineBy (now w) c k (drop n (now s))
 
 -- the token of the signature's one lifetime
 abbrev pub token : {M : Type 1} {𝓤 : URA M} → Lft → Share → Item 𝓤
@@ -101,28 +101,31 @@ module _ {M : Type 1} {𝓤 : URA M} {H : Heap 𝓤} {A : Atoms 𝓤} {K : Type 
         split t $ move t (1 ∷ []) $ use1 W (raw (fact 𝓤 (φ x))) (said x) $ heard t (φ x) (λ e.
         split t $ move t (1 ∷ []) $ peeks t R (Is R) (shows 𝓤 H A R) x (u ∷ []) (λ is. k x e is)))
 
-  -- five locals are allocated: the last one's room is at the head
-  module _ {τ₀ τ₁ τ₂ τ₃ τ₄ : Ty} where
-    pub alloc5 : K → {h₀ h₁ h₂ h₃ h₄ : Home} {Kt : Env 𝓤 H → Goal 𝓤 H}
-        → ((b₀ b₁ b₂ b₃ b₄ : ℕ) → Seq K W (
-        ‵ (froom τ₄ b₄ zero) ∷ ‵ (fdies τ₄ b₄) ∷ ‵ (froom τ₃ b₃ zero) ∷ ‵ (fdies τ₃ b₃) ∷ ‵ (froom τ₂ b₂ zero) ∷ ‵ (fdies τ₂ b₂)
-        ∷ ‵ (froom τ₁ b₁ zero) ∷ ‵ (fdies τ₁ b₁) ∷ ‵ (froom τ₀ b₀ zero) ∷ ‵ (fdies τ₀ b₀) ∷ Γ)
-        (Kt ((τ₀, b₀) ∷ (τ₁, b₁) ∷ (τ₂, b₂) ∷ (τ₃, b₃) ∷ (τ₄, b₄) ∷ [])))
-        → Seq K W Γ (allocs (here τ₀ h₀ ∷ here τ₁ h₁ ∷ here τ₂ h₂ ∷ here τ₃ h₃ ∷ here τ₄ h₄ ∷ []) Kt)
-    alloc5 t k =
-        alloc1 t (λ b₀. alloc1 t (λ b₁. alloc1 t (λ b₂. alloc1 t (λ b₃. alloc1 t (λ b₄. alloc0 t $ k b₀ b₁ b₂ b₃ b₄)))))
+  -- seven locals are allocated: the last one's room is at the head
+  module _ {τ₀ τ₁ τ₂ τ₃ τ₄ τ₅ τ₆ : Ty} where
+    pub alloc7 : K → {h₀ h₁ h₂ h₃ h₄ h₅ h₆ : Home} {Kt : Env 𝓤 H → Goal 𝓤 H}
+        → ((b₀ b₁ b₂ b₃ b₄ b₅ b₆ : ℕ) → Seq K W (
+        ‵ (froom τ₆ b₆ zero) ∷ ‵ (fdies τ₆ b₆) ∷ ‵ (froom τ₅ b₅ zero) ∷ ‵ (fdies τ₅ b₅) ∷ ‵ (froom τ₄ b₄ zero) ∷ ‵ (fdies τ₄ b₄)
+        ∷ ‵ (froom τ₃ b₃ zero) ∷ ‵ (fdies τ₃ b₃) ∷ ‵ (froom τ₂ b₂ zero) ∷ ‵ (fdies τ₂ b₂) ∷ ‵ (froom τ₁ b₁ zero) ∷ ‵ (fdies τ₁ b₁)
+        ∷ ‵ (froom τ₀ b₀ zero) ∷ ‵ (fdies τ₀ b₀) ∷ Γ)
+        (Kt ((τ₀, b₀) ∷ (τ₁, b₁) ∷ (τ₂, b₂) ∷ (τ₃, b₃) ∷ (τ₄, b₄) ∷ (τ₅, b₅) ∷ (τ₆, b₆) ∷ [])))
+        → Seq K W Γ (allocs (here τ₀ h₀ ∷ here τ₁ h₁ ∷ here τ₂ h₂ ∷ here τ₃ h₃ ∷ here τ₄ h₄ ∷ here τ₅ h₅ ∷ here τ₆ h₆ ∷ []) Kt)
+    alloc7 t k =
+        alloc1 t (λ b₀. alloc1 t (λ b₁. alloc1 t (λ b₂. alloc1 t (λ b₃. alloc1 t (λ b₄. alloc1 t (λ b₅. alloc1 t (λ b₆.
+        alloc0 t $ k b₀ b₁ b₂ b₃ b₄ b₅ b₆)))))))
 
 module _ {M : Type 1} {𝓤 : URA M} {H : Heap 𝓤} {A : Atoms 𝓤} {K : Type 0} {W : Given 𝓤 H A} {i j k : Item 𝓤} where
-  -- the result stands in its local and all five locals are written: it is read, and they are freed
-  pub leaves5 : K → {C : Calls 𝓤 H} {Λ : Loops 𝓤 H} {Kf : Val → SProp 𝓤} {τ₀ τ₁ τ₂ τ₃ τ₄ : Ty} {b₀ b₁ b₂ b₃ b₄ : ℕ} {v₀ v₁ v₂ v₃ v₄ : Val}
-      → Step K W (i ∷ j ∷ k ∷ []) (prop (Kf v₀))
-      (i ∷ j ∷ k ∷ ‵ (fat fullShare τ₄ b₄ zero v₄) ∷ ‵ (fdies τ₄ b₄) ∷ ‵ (fat fullShare τ₃ b₃ zero v₃) ∷ ‵ (fdies τ₃ b₃)
+  -- the result stands in its local and all seven locals are written: it is read, and they are freed
+  pub leaves7 : K → {C : Calls 𝓤 H} {Λ : Loops 𝓤 H} {Kf : Val → SProp 𝓤} {τ₀ τ₁ τ₂ τ₃ τ₄ τ₅ τ₆ : Ty} {b₀ b₁ b₂ b₃ b₄ b₅ b₆ : ℕ}
+      {v₀ v₁ v₂ v₃ v₄ v₅ v₆ : Val} → Step K W (i ∷ j ∷ k ∷ []) (prop (Kf v₀))
+      (i ∷ j ∷ k ∷ ‵ (fat fullShare τ₆ b₆ zero v₆) ∷ ‵ (fdies τ₆ b₆) ∷ ‵ (fat fullShare τ₅ b₅ zero v₅) ∷ ‵ (fdies τ₅ b₅)
+      ∷ ‵ (fat fullShare τ₄ b₄ zero v₄) ∷ ‵ (fdies τ₄ b₄) ∷ ‵ (fat fullShare τ₃ b₃ zero v₃) ∷ ‵ (fdies τ₃ b₃)
       ∷ ‵ (fat fullShare τ₂ b₂ zero v₂) ∷ ‵ (fdies τ₂ b₂) ∷ ‵ (fat fullShare τ₁ b₁ zero v₁) ∷ ‵ (fdies τ₁ b₁)
       ∷ ‵ (fat fullShare τ₀ b₀ zero v₀) ∷ ‵ (fdies τ₀ b₀) ∷ [])
-      (runs C Λ ((τ₀, b₀) ∷ (τ₁, b₁) ∷ (τ₂, b₂) ∷ (τ₃, b₃) ∷ (τ₄, b₄) ∷ []) return
-      (atRet ((τ₀, b₀) ∷ (τ₁, b₁) ∷ (τ₂, b₂) ∷ (τ₃, b₃) ∷ (τ₄, b₄) ∷ []) Kf))
-  leaves5 t = step (λ s.
-      returns t (look t 11 refl) $
-      forget t 3 refl $ forget t 5 refl $ forget t 7 refl $ forget t 9 refl $ forget t 11 refl $
-      move t (11 ∷ 12 ∷ []) $ free1 t $ move t (9 ∷ 10 ∷ []) $ free1 t $ move t (7 ∷ 8 ∷ []) $ free1 t $ move t (5 ∷ 6 ∷ []) $ free1 t $
-      move t (3 ∷ 4 ∷ []) $ free1 t $ free0 t $ s)
+      (runs C Λ ((τ₀, b₀) ∷ (τ₁, b₁) ∷ (τ₂, b₂) ∷ (τ₃, b₃) ∷ (τ₄, b₄) ∷ (τ₅, b₅) ∷ (τ₆, b₆) ∷ []) return
+      (atRet ((τ₀, b₀) ∷ (τ₁, b₁) ∷ (τ₂, b₂) ∷ (τ₃, b₃) ∷ (τ₄, b₄) ∷ (τ₅, b₅) ∷ (τ₆, b₆) ∷ []) Kf))
+  leaves7 t = step (λ s.
+      returns t (look t 15 refl) $
+      forget t 3 refl $ forget t 5 refl $ forget t 7 refl $ forget t 9 refl $ forget t 11 refl $ forget t 13 refl $ forget t 15 refl $
+      move t (15 ∷ 16 ∷ []) $ free1 t $ move t (13 ∷ 14 ∷ []) $ free1 t $ move t (11 ∷ 12 ∷ []) $ free1 t $ move t (9 ∷ 10 ∷ []) $ free1 t $
+      move t (7 ∷ 8 ∷ []) $ free1 t $ move t (5 ∷ 6 ∷ []) $ free1 t $ move t (3 ∷ 4 ∷ []) $ free1 t $ free0 t $ s)

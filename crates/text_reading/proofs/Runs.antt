@@ -1,21 +1,21 @@
 -- The digits that a text begins with.
 -- Assumes nothing.
-use mathlib.Core.Path.{_≡_, refl, ap, _∙_}
+use mathlib.Core.Path.{_≡_, refl, sym, ap, _∙_}
 use mathlib.Core.Logic.{_⊎_, inl, inr, ⊎-elim}
 use mathlib.Core.Bool.{not, and-false}
 use mathlib.Core.List.{List, [], _∷_, _++_}
-use Prim.Native.Nat.{ℕ, _+_, _-_, _*_, _^_, _≤_, _<_}
+use Prim.Native.Nat.{ℕ, zero, suc, _+_, _-_, _*_, _^_, _≤_, _<_}
 use native.Mathlib.Nat.{pow-suc, pow-le-pow-right, zero-lt-suc, lt-of-lt-of-le}
 use native.Mathlib.Numerals.{add-one}
 use native.Mathlib.Omega.{arith}
 use borrow.Author.Tests.{lt-leb}
 use lib.Dec.{T, leb, not-T}
-use lib.ListN.{length, getD, drop, drop-of-length-le}
+use lib.ListN.{length, getD, take, drop, drop-of-length-le}
 use Rattle.model.specs.Basics.{all}
-use Rattle.model.specs.Numbers.{isDigit, valueFrom}
+use Rattle.model.specs.Numbers.{isDigit, valueFrom, valueOf}
 use Rattle.model.proofs.Loops.{drop-next}
 use Rattle.model.proofs.Tests.{and-l, and-r, and-i, passes, T-true, T-false}
-use Rattle.model.proofs.Numbers.{digit-bounds, bounds-digit}
+use Rattle.model.proofs.Numbers.{bounds-digit}
 use Rattle.text_reading.specs.Scan.{run}
 
 abbrev pub Digits : List ℕ → Type 0
@@ -70,52 +70,61 @@ pub run-rest : (t : List ℕ) → NoDigit (drop (length (run t)) t)
 run-rest [] = rw run-nil tt
 run-rest (b ∷ t) = run-cases (λ r. NoDigit (drop (length r) (b ∷ t))) b t (λ d. run-rest t) (λ d. d)
 
--- ---- by places: what a loop over a text asks
+-- the digits among the first bytes are the first of the digits
+pub run-take : (k : ℕ) (t : List ℕ) → run (take k t) ≡ take k (run t)
+run-take zero t = run-nil
+run-take (suc k) [] = run-nil ∙ ap (take (suc k)) (sym run-nil)
+run-take (suc k) (b ∷ t) =
+    ⊎-elim
+    (λ d. run-digit b (take k t) d ∙ ap (λ (x : List ℕ). b ∷ x) (run-take k t) ∙ ap (take (suc k)) (sym (run-digit b t d)))
+    (λ no. let d = not-T (isDigit b) no in run-stop b (take k t) d ∙ ap (take (suc k)) (sym (run-stop b t d)))
+    (passes (isDigit b))
+
+-- ---- by places: what a loop over some bytes asks
 
 not-digit : (b : ℕ) → (b < 48) ⊎ (57 < b) → T (not (isDigit b))
 unfolding isDigit
 not-digit b (inl h) = rw (lt-leb 48 b h) tt
 not-digit b (inr h) = rw (lt-leb b 57 h, and-false (leb 48 b)) tt
 
--- a turn of the loop that reads digits: the next byte is a digit, the rest are, and the value goes on
-pub record Turn (t : List ℕ) (i v : ℕ) : Type 0 where
-  pub low : 48 ≤ getD t i 0
-  pub high : getD t i 0 ≤ 57
-  pub rest : Digits (drop (i + 1) t)
-  pub goes-on : valueFrom (v * 10 + (getD t i 0 - 48)) (drop (i + 1) t) ≡ valueFrom v (drop i t)
+-- the first i of the bytes t are digits, of value v
+pub record Read (t : List ℕ) (v i : ℕ) : Type 0 where
+  pub within : i ≤ length t
+  pub small : v < 10 ^ i
+  pub says : valueFrom v (run (drop i t)) ≡ valueOf (run t)
+  pub counts : i + length (run (drop i t)) ≡ length (run t)
 
-module _ (t : List ℕ) (i : ℕ) (h : i < length t) where
-  -- the byte at place i, and what comes after it
+pub read-none : (t : List ℕ) → Read t 0 0
+unfolding valueOf
+read-none t = record { within = omega arith; small = omega arith; says = refl; counts = omega arith }
+
+module _ {t : List ℕ} {v i : ℕ} (r : Read t v i) where
+  -- the byte at place i
   abbrev b : ℕ
   b = getD t i 0
 
-  abbrev rest : List ℕ
-  rest = drop (i + 1) t
-
-  pub run-at-digit : 48 ≤ b → b ≤ 57 → i + 1 + length (run rest) ≡ i + length (run (drop i t))
-  run-at-digit l g =
-      rw (drop-next t i h, run-digit b rest (bounds-digit b l g)) (omega arith)
-
-  pub run-at-stop : (b < 48) ⊎ (57 < b) → i ≡ i + length (run (drop i t))
-  run-at-stop s = rw (drop-next t i h, run-stop b rest (not-digit b s)) (omega arith)
-
-  pub turn : {v : ℕ} → Digits (drop i t) → Turn t i v
-  unfolding all valueFrom
-  turn a =
-      let every : Digits (b ∷ rest) = rw (drop-next t i h) at a in
-      let d = digit-bounds b (and-l (isDigit b) (all isDigit rest) every) in
+  pub read-next : i < length t → 48 ≤ b → b ≤ 57 → Read t (v * 10 + (b - 48)) (i + 1)
+  unfolding valueFrom
+  read-next h l g =
+      let next : run (drop i t) ≡ b ∷ run (drop (i + 1) t) = ap run (drop-next t i h) ∙ run-digit b (drop (i + 1) t) (bounds-digit b l g) in
       record {
-        low = d .0;
-        high = d .1;
-        rest = and-r (isDigit b) (all isDigit rest) every;
-        goes-on = rw (drop-next t i h);
+        within = omega arith;
+        small = rw (add-one, pow-suc) (omega (arith, r .small));
+        says = ap (valueFrom v) (sym next) ∙ r .says;
+        counts = omega (arith, r .counts, ap length next);
       }
 
-pub run-at-end : (t : List ℕ) {i : ℕ} → length t ≤ i → i ≡ i + length (run (drop i t))
-run-at-end t h = rw (drop-of-length-le t h, run-nil) (omega arith)
+  -- all digits were read
+  all-read : run (drop i t) ≡ [] → (v ≡ valueOf (run t)) × (i ≡ length (run t))
+  unfolding valueFrom
+  all-read e = (ap (valueFrom v) (sym e) ∙ r .says, omega (arith, r .counts, ap length e))
 
-pub pow-turn : {v : ℕ} (i : ℕ) {d : ℕ} → v < 10 ^ i → d ≤ 9 → v * 10 + d < 10 ^ (i + 1)
-pow-turn i h k = rw (add-one, pow-suc) (omega arith)
+  pub read-stop : i < length t → (b < 48) ⊎ (57 < b) → (v ≡ valueOf (run t)) × (i ≡ length (run t))
+  read-stop h s = all-read (ap run (drop-next t i h) ∙ run-stop b (drop (i + 1) t) (not-digit b s))
 
-pub pow-nine : {v : ℕ} (i : ℕ) → v < 10 ^ i → i < 10 → v < 1000000000
-pow-nine i h k = lt-of-lt-of-le h (pow-le-pow-right {n = 10} (zero-lt-suc 9) {i = i} {j = 9} (omega arith))
+  pub read-end : length t ≤ i → (v ≡ valueOf (run t)) × (i ≡ length (run t))
+  read-end h = all-read (ap run (drop-of-length-le t h) ∙ run-nil)
+
+  -- ten digits fit 64 bits, and one more does too
+  pub read-small : i ≤ 10 → v < 10 ^ 10
+  read-small h = lt-of-lt-of-le (r .small) (pow-le-pow-right {n = 10} (zero-lt-suc 9) {i = i} {j = 10} h)

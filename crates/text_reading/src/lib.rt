@@ -1,16 +1,28 @@
-// Numbers and lines, read from a text.
+// Numbers and lines, read from a text. A line has a shape: a first word, a separator in front of each number, and a count of numbers.
 ghost use mathlib.Core.Path.{_≡_};
-ghost use Prim.Native.Nat.{_+_, _≤_, _<_};
+ghost use Prim.Native.Nat.{_+_, _-_, _≤_, min};
 ghost use lib.Dec.{T};
 ghost use lib.ListN.{length, drop};
-ghost use Rattle.model.specs.Basics.{all};
-ghost use Rattle.model.specs.Numbers.{isDigit, valueOf};
-ghost use Rattle.model.specs.SurveyText.{line};
-ghost use Rattle.text_reading.specs.Scan.{run, numberAt, hasByte, lineBy, found};
+ghost use Rattle.model.specs.Numbers.{valueOf};
+ghost use Rattle.model.specs.Lines.{numberLine};
+ghost use Rattle.text_reading.specs.Scan.{run, numberAt, hasByte, LineEnd, begins, fieldFirst, numbersFirst, isShape, lineBy, pairBy};
+ghost use Rattle.text_reading.specs.Scan.{foundNumber, foundNumbers, found};
 
 // A number and the place after it.
 pub enum Number {
     Value(u64, usize),
+    Malformed,
+}
+
+// The value of some digits, and their count.
+struct Digits {
+    value: u64,
+    count: usize,
+}
+
+// The last three of some numbers, and the place after them. Where there are fewer, the first places say nothing.
+pub enum Numbers {
+    Last(u64, u64, u64, usize),
     Malformed,
 }
 
@@ -20,56 +32,56 @@ pub enum Line {
     Malformed,
 }
 
-// The place after the digits that start at a place.
-fn digits_end(text: &[u8], at: usize) -> usize
-    ensures { λ r. ⌜ r ≡ at + length (run (drop at (now (text .entry)))) ⌝ }
+// The digits that at most eleven bytes begin with: their value and their count.
+fn leading_digits(part: &[u8]) -> Digits
+    requires { ⌜ length (now part) ≤ 11 ⌝ }
+    ensures { λ r. ⌜ (r .value ≡ valueOf (run (now (part .entry)))) × (r .count ≡ length (run (now (part .entry)))) ⌝ }
 {
-    let mut i = at;
-    while i < text.len() {
-        let b = text[i];
+    let mut value: u64 = 0;
+    let mut count = 0;
+    while count < part.len() {
+        let b = part[count];
         if b < 48 {
-            return i;
+            return Digits { value, count };
         }
         if 57 < b {
-            return i;
+            return Digits { value, count };
         }
-        i += 1;
+        value = value * 10 + (b - 48) as u64;
+        count += 1;
     }
-    i
+    Digits { value, count }
 }
 
-// The number that at most ten digits say.
-fn value(text: &[u8]) -> u64
-    requires { ⌜ (length (now text) ≤ 10) × T (all isDigit (now text)) ⌝ }
-    ensures { λ r. ⌜ r ≡ valueOf (now (text .entry)) ⌝ }
+// The place eleven bytes after a place, or the end of the text.
+fn eleven_on(length: usize, at: usize) -> usize
+    requires { ⌜ at ≤ length ⌝ }
+    ensures { λ r. ⌜ r ≡ at + min 11 (length - at) ⌝ }
 {
-    let mut v: u64 = 0;
-    let mut i = 0;
-    while i < text.len() {
-        v = v * 10 + (text[i] - 48) as u64;
-        i += 1;
+    if length - at < 11 {
+        return length;
     }
-    v
+    at + 11
 }
 
 // The number at a place: one to ten digits without a leading zero, 0 itself excepted.
 pub fn parse_number(text: &[u8], at: usize) -> Number
     ensures { λ r. ⌜ r ≡ numberAt (now (text .entry)) at ⌝ }
 {
-    let end = digits_end(text, at);
-    if end == at {
+    if text.len() <= at {
         return Number::Malformed;
     }
-    let count = end - at;
-    if 10 < count {
+    let digits = leading_digits(&text[at..eleven_on(text.len(), at)]);
+    if digits.count == 0 {
         return Number::Malformed;
     }
-    if 1 < count {
-        if text[at] == 48 {
-            return Number::Malformed;
-        }
+    if 10 < digits.count {
+        return Number::Malformed;
     }
-    Number::Value(value(&text[at..end]), end)
+    if (1 < digits.count) & (text[at] == 48) {
+        return Number::Malformed;
+    }
+    Number::Value(digits.value, at + digits.count)
 }
 
 // Whether byte b stands at a place.
@@ -83,40 +95,108 @@ pub fn has_byte(text: &[u8], at: usize, b: u8) -> bool
     }
 }
 
-// The line at a place: the letter, a comma, a number, a comma, a number, a line feed.
-fn parse_line(text: &[u8], at: usize, letter: u8) -> Line
-    requires { ⌜ 44 < letter ⌝ }
-    ensures { λ r. ⌜ found (now (text .entry)) r ≡ line letter (drop at (now (text .entry))) ⌝ }
+// The place of the first line feed from a place on, or the end of the text.
+pub fn line_end(text: &[u8], at: usize) -> usize
+    ensures { λ r. ⌜ LineEnd (now (text .entry)) at r ⌝ }
 {
-    if !has_byte(text, at, letter) {
-        return Line::Malformed;
+    let mut i = at;
+    while i < text.len() {
+        if text[i] == 10 {
+            return i;
+        }
+        i += 1;
     }
-    if !has_byte(text, at + 1, 44) {
-        return Line::Malformed;
-    }
-    let Number::Value(a, i) = parse_number(text, at + 2) else {
-        return Line::Malformed;
-    };
-    if !has_byte(text, i, 44) {
-        return Line::Malformed;
-    }
-    let Number::Value(b, j) = parse_number(text, i + 1) else {
-        return Line::Malformed;
-    };
-    if !has_byte(text, j, 10) {
-        return Line::Malformed;
-    }
-    Line::Pair(a, b, j + 1)
+    i
 }
 
-// The same for any letter: no line is found for a letter that is not above the comma.
-pub fn scan_line(text: &[u8], at: usize, letter: u8) -> Line
-    ensures { λ r. ⌜ found (now (text .entry)) r ≡ lineBy letter (drop at (now (text .entry))) ⌝ }
+// Whether a word stands at a place.
+fn has_word(text: &[u8], at: usize, word: &[u8]) -> bool
+    ensures { λ r. ⌜ r ≡ begins (now (word .entry)) (drop at (now (text .entry))) ⌝ }
 {
-    if letter <= 44 {
-        return Line::Malformed;
+    let mut i = 0;
+    while i < word.len() {
+        if !has_byte(text, at + i, word[i]) {
+            return false;
+        }
+        i += 1;
     }
-    parse_line(text, at, letter)
+    true
+}
+
+// The separator at a place, and the number after it.
+fn field_at(text: &[u8], at: usize, separator: u8) -> Number
+    ensures { λ r. ⌜ foundNumber (now (text .entry)) r ≡ fieldFirst separator (drop at (now (text .entry))) ⌝ }
+{
+    if !has_byte(text, at, separator) {
+        return Number::Malformed;
+    }
+    parse_number(text, at + 1)
+}
+
+// The numbers from a place on, at most three, each after the separator.
+fn numbers_at(text: &[u8], at: usize, separator: u8, count: usize) -> Numbers
+    requires { ⌜ count ≤ 3 ⌝ }
+    ensures { λ r. ⌜ foundNumbers (now (text .entry)) count r ≡ numbersFirst separator count (drop at (now (text .entry))) ⌝ }
+{
+    let mut x = 0;
+    let mut y = 0;
+    let mut z = 0;
+    let mut next = at;
+    let mut k = 0;
+    while k < count {
+        let Number::Value(v, end) = field_at(text, next, separator) else {
+            return Numbers::Malformed;
+        };
+        x = y;
+        y = z;
+        z = v;
+        next = end;
+        k += 1;
+    }
+    Numbers::Last(x, y, z, next)
+}
+
+// The line at a place, by its shape: the numbers, and the place after the line feed.
+fn parse_line(text: &[u8], at: usize, word: &[u8], separator: u8, count: usize) -> Numbers
+    requires { ⌜ T (isShape (now word) separator count) ⌝ }
+    ensures { λ r. ⌜ foundNumbers (now (text .entry)) count r ≡ numberLine (now (word .entry)) separator count (drop at (now (text .entry))) ⌝ }
+{
+    if !has_word(text, at, word) {
+        return Numbers::Malformed;
+    }
+    let Numbers::Last(x, y, z, end) = numbers_at(text, at + word.len(), separator, count) else {
+        return Numbers::Malformed;
+    };
+    if !has_byte(text, end, 10) {
+        return Numbers::Malformed;
+    }
+    Numbers::Last(x, y, z, end + 1)
+}
+
+// Whether a line may have such a shape.
+fn is_shape(word: &[u8], separator: u8, count: usize) -> bool
+    ensures { λ r. ⌜ r ≡ isShape (now (word .entry)) separator count ⌝ }
+{
+    if line_end(word, 0) < word.len() {
+        return false;
+    }
+    (separator < 48) & (separator != 10) & (count <= 3)
+}
+
+// The same for any shape. A shape that no line may have finds none.
+pub fn scan_line<'a>(
+    text: &'a [u8],
+    at: usize,
+    word: &'a [u8],
+    separator: u8,
+    count: usize,
+) -> Numbers
+    ensures { λ r. ⌜ foundNumbers (now (text .entry)) count r ≡ lineBy (now (word .entry)) separator count (drop at (now (text .entry))) ⌝ }
+{
+    if !is_shape(word, separator, count) {
+        return Numbers::Malformed;
+    }
+    parse_line(text, at, word, separator, count)
 }
 
 // The line reader: the text, and the start of the next line.
@@ -132,16 +212,33 @@ pub fn lines_from<'a>(text: &'a [u8], at: usize) -> LineReader<'a>
     LineReader { text, at }
 }
 
-// The next line, by its letter.
-pub fn next_line<'a>(r: LineReader<'a>, letter: u8) -> Line
-    ensures { λ l. ⌜ found (now (r .entry .text)) l ≡ lineBy letter (drop (r .entry .at) (now (r .entry .text))) ⌝ }
+// The next line, by its shape.
+pub fn next_line<'a>(r: LineReader<'a>, word: &'a [u8], separator: u8, count: usize) -> Numbers
+    ensures { λ l. ⌜ foundNumbers (now (r .entry .text)) count l
+        ≡ lineBy (now (word .entry)) separator count (drop (r .entry .at) (now (r .entry .text))) ⌝ }
 {
-    scan_line(r.text, r.at, letter)
+    scan_line(r.text, r.at, word, separator, count)
 }
 
 // The line at a place, through the reader: plain parameters, so that callers need no proof by hand.
-pub fn line_at(text: &[u8], at: usize, letter: u8) -> Line
-    ensures { λ r. ⌜ found (now (text .entry)) r ≡ lineBy letter (drop at (now (text .entry))) ⌝ }
+pub fn line_at<'a>(
+    text: &'a [u8],
+    at: usize,
+    word: &'a [u8],
+    separator: u8,
+    count: usize,
+) -> Numbers
+    ensures { λ r. ⌜ foundNumbers (now (text .entry)) count r ≡ lineBy (now (word .entry)) separator count (drop at (now (text .entry))) ⌝ }
 {
-    next_line(lines_from(text, at), letter)
+    next_line(lines_from(text, at), word, separator, count)
+}
+
+// The line of two numbers at a place.
+pub fn pair_at<'a>(text: &'a [u8], at: usize, word: &'a [u8], separator: u8) -> Line
+    ensures { λ r. ⌜ found (now (text .entry)) r ≡ pairBy (now (word .entry)) separator (drop at (now (text .entry))) ⌝ }
+{
+    match line_at(text, at, word, separator, 2) {
+        Numbers::Last(_, a, b, end) => Line::Pair(a, b, end),
+        Numbers::Malformed => Line::Malformed,
+    }
 }

@@ -1,10 +1,10 @@
 // Numbers and lines as text, written into a buffer.
 ghost use mathlib.Core.Path.{_≡_};
-ghost use Prim.Native.Nat.{ℕ, _+_, _≤_, _<_};
-ghost use mathlib.Core.List.{[], _∷_};
+ghost use Prim.Native.Nat.{ℕ, _+_, _*_, _^_, _≤_, _<_};
+ghost use mathlib.Core.List.{[], _∷_, map};
 ghost use lib.ListN.{length};
 ghost use Rattle.model.specs.Numbers.{digits};
-ghost use Rattle.model.specs.SurveyText.{lineOf};
+ghost use Rattle.model.specs.Lines.{fieldsText, numberLineOf};
 ghost use Rattle.base_lists.specs.Written.{Wrote};
 
 pub fn digit_count(x: u32) -> usize
@@ -19,12 +19,19 @@ pub fn digit_count(x: u32) -> usize
     n
 }
 
-// The length of a line of two numbers.
-pub fn line_length(a: u32, b: u32) -> usize
-    ensures { λ r. ⌜ ((letter : ℕ) → r ≡ length (lineOf letter a b)) ⌝ }
-    ensures { λ r. ⌜ r ≤ 24 ⌝ }
+// The length of a line: a word, a separator in front of each number, and the line feed.
+pub fn line_length(word: &[u8], numbers: &[u32]) -> usize
+    requires { ⌜ length (now word) + 11 * length (now numbers) + 1 < 2 ^ 64 ⌝ }
+    ensures { λ r. ⌜ ((separator : ℕ) → r ≡ length (numberLineOf (now (word .entry)) separator (now (numbers .entry)))) ⌝ }
+    ensures { λ r. ⌜ r ≤ length (now (word .entry)) + 11 * length (now (numbers .entry)) + 1 ⌝ }
 {
-    digit_count(a) + digit_count(b) + 4
+    let mut total = word.len() + 1;
+    let mut i = 0;
+    while i < numbers.len() {
+        total += digit_count(numbers[i]) + 1;
+        i += 1;
+    }
+    total
 }
 
 // Writes a byte at a place, and returns the next place.
@@ -84,22 +91,35 @@ pub fn write_number(buf: &mut [u8], at: usize, x: u32) -> usize
     write_digits(buf, at, x)
 }
 
-// Writes a comma and a number at a place, and returns the place after them.
-pub fn write_field(buf: &mut [u8], at: usize, x: u32) -> usize
-    requires { ⌜ at + length (44 ∷ digits x) ≤ length (now buf) ⌝ }
-    ensures { λ r. ⌜ Wrote (now (buf .entry)) (now (buf .exit)) at r (44 ∷ digits x) ⌝ }
+// Writes a separator and a number at a place, and returns the place after them.
+pub fn write_field(buf: &mut [u8], at: usize, separator: u8, x: u32) -> usize
+    requires { ⌜ at + length (separator ∷ digits x) ≤ length (now buf) ⌝ }
+    ensures { λ r. ⌜ Wrote (now (buf .entry)) (now (buf .exit)) at r (separator ∷ digits x) ⌝ }
 {
-    let i = write_byte(buf, at, 44);
+    let i = write_byte(buf, at, separator);
     write_number(buf, i, x)
 }
 
-// Writes the line of two numbers at a place, and returns the place after it.
-pub fn write_line(buf: &mut [u8], at: usize, letter: u8, a: u32, b: u32) -> usize
-    requires { ⌜ at + length (lineOf letter a b) ≤ length (now buf) ⌝ }
-    ensures { λ r. ⌜ Wrote (now (buf .entry)) (now (buf .exit)) at r (lineOf letter a b) ⌝ }
+// Writes numbers at a place, a separator in front of each, then the line feed, and returns the place after it.
+fn write_fields(buf: &mut [u8], at: usize, separator: u8, numbers: &[u32]) -> usize
+    requires { ⌜ at + length (fieldsText separator (map digits (now numbers))) ≤ length (now buf) ⌝ }
+    ensures { λ r. ⌜ Wrote (now (buf .entry)) (now (buf .exit)) at r (fieldsText separator (map digits (now (numbers .entry)))) ⌝ }
 {
-    let i = write_byte(buf, at, letter);
-    let i = write_field(buf, i, a);
-    let i = write_field(buf, i, b);
-    write_byte(buf, i, 10)
+    let mut pos = at;
+    let mut i = 0;
+    while i < numbers.len() {
+        pos = write_field(buf, pos, separator, numbers[i]);
+        i += 1;
+    }
+    write_byte(buf, pos, 10)
+}
+
+// Writes a line at a place, and returns the place after it: a word, a separator in front of each number, and the line feed.
+pub fn write_line(buf: &mut [u8], at: usize, word: &[u8], separator: u8, numbers: &[u32]) -> usize
+    requires { ⌜ at + length (numberLineOf (now word) separator (now numbers)) ≤ length (now buf) ⌝ }
+    ensures { λ r. ⌜ Wrote (now (buf .entry)) (now (buf .exit)) at r
+        (numberLineOf (now (word .entry)) separator (now (numbers .entry))) ⌝ }
+{
+    base_lists::copy8(word, buf, at);
+    write_fields(buf, at + word.len(), separator, numbers)
 }

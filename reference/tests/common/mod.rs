@@ -4,9 +4,16 @@
 // Each test file uses a part of this module.
 #![allow(dead_code)]
 
+pub mod reading;
+
 use reference::{build, read, Route, NONE};
 
 pub const COURSE: &str = "S,6,6\nL,0,5\nL,1,5\nL,2,5\nL,3,5\nL,4,5\nL,1,2\n";
+
+/// The course survey as a planners' file with comments, and each link from
+/// both ends.
+pub const COURSE_FILE: &str = "c the course survey\np edge 6 12\ne 1 6\ne 2 6\ne 2 3\nc lamp 3\n\
+    e 3 2\ne 3 6\ne 4 6\ne 5 6\nc\ne 6 1\ne 6 2\ne 6 3\ne 6 4\ne 6 5\nc end\n";
 
 /// Stands for "no chain" in the distance matrix; two of them still add up.
 pub const UNJOINED: usize = 1_000_000;
@@ -99,6 +106,11 @@ impl Sample {
         text_of(self.n, &self.links())
     }
 
+    /// The file as it is exported.
+    pub fn file(&self) -> String {
+        file_of(self.n, &self.links())
+    }
+
     /// The same graph with its nodes numbered anew.
     pub fn renumbered(&self, random: &mut Random) -> Sample {
         let mut numbers: Vec<usize> = (0..self.n).collect();
@@ -114,6 +126,72 @@ impl Sample {
 pub fn text_of(n: usize, links: &[(usize, usize)]) -> String {
     let lines = links.iter().map(|(a, b)| format!("L,{a},{b}\n"));
     format!("S,{n},{}\n", links.len()) + &lines.collect::<String>()
+}
+
+/// A planners' file, without comments.
+pub fn file_of(n: usize, links: &[(usize, usize)]) -> String {
+    let lines = links
+        .iter()
+        .map(|(a, b)| format!("e {} {}\n", a + 1, b + 1));
+    format!("p edge {n} {}\n", links.len()) + &lines.collect::<String>()
+}
+
+/// Puts the links into any order, their ends either way round.
+pub fn disorder(random: &mut Random, links: &mut [(usize, usize)]) {
+    random.shuffle(links);
+    for link in links {
+        if random.percent(50) {
+            *link = (link.1, link.0);
+        }
+    }
+}
+
+/// A planners' file of the sample: its lines in any order, ends either way
+/// round, links repeated with the given chance, and some comments.
+pub fn disordered_file(
+    random: &mut Random,
+    sample: &Sample,
+    repeated: usize,
+    comments: usize,
+) -> Vec<u8> {
+    let mut links = sample.links();
+    for place in 0..links.len() {
+        if random.percent(repeated) {
+            links.push(links[place]);
+        }
+    }
+    disordered_file_of(random, sample.n, links, comments)
+}
+
+/// A planners' file of the links, in any order, and some comments.
+pub fn disordered_file_of(
+    random: &mut Random,
+    n: usize,
+    mut links: Vec<(usize, usize)>,
+    comments: usize,
+) -> Vec<u8> {
+    const COMMENTS: [&[u8]; 5] = [
+        b"c\n",
+        b"cx\n",
+        b"c lamps of the hall\n",
+        b"ce 1 2\n",
+        b"c \xff\0 p edge 1 1\r\n",
+    ];
+    disorder(random, &mut links);
+    let file = file_of(n, &links);
+    let mut lines: Vec<&[u8]> = file.as_bytes().split_inclusive(|&b| b == b'\n').collect();
+    for _ in 0..comments {
+        let place = random.below(lines.len() + 1);
+        lines.insert(place, COMMENTS[random.below(COMMENTS.len())]);
+    }
+    lines.concat()
+}
+
+/// The value of a number in the stated form.
+pub fn number(field: &str) -> Option<u64> {
+    let value: u64 = field.parse().ok()?;
+    // Printing again shows signs and leading zeros.
+    (value.to_string() == field && field.len() <= 10).then_some(value)
 }
 
 pub fn from_links(name: &str, n: usize, links: &[(usize, usize)]) -> Sample {

@@ -1,9 +1,10 @@
-//! One round: all calls on variants of one graph, its text, its lists and its tables.
+//! One round: all calls on variants of one graph, its text, its file, its lists and its tables.
 
 use crate::lent::Lent;
 use crate::lists::{self, Lists};
 use crate::tables::Tables;
-use crate::{many, texts, Counts};
+use crate::texts::Form;
+use crate::{files, many, texts, Counts};
 use comparison::common::{Random, Sample};
 use comparison::{codes, header, proved};
 
@@ -23,10 +24,12 @@ const fn call(name: &'static str, turns: usize, refusals: &'static [usize]) -> C
     }
 }
 
-pub const CALLS: [Call; 9] = [
+pub const CALLS: [Call; 11] = [
     call("threshold", 1, &[2]),
     call("read", 10, &[1, 2, 3, 4, 5, 6, 7, 8]),
     call("write", 6, &[2, 8, 9, 12]),
+    call("import", 10, &[2, 3, 4, 5, 8, 13]),
+    call("export", 6, &[2, 8, 9, 12]),
     call("accept", 6, &[2, 8, 9]),
     call("build", 4, &[2, 8, 9]),
     call("ask", 10, &[2, 8, 10, 11]),
@@ -50,6 +53,32 @@ pub struct Round<'a> {
 }
 
 type Outcome = Result<u64, String>;
+
+/// Reading a text, or importing a file, by the proved library and by the second implementation.
+type ProvedReading = fn(&[u8], &mut [u32], &mut [u16]) -> u64;
+type Reading = fn(&[u8], &mut [u32], &mut [u16]) -> Result<(usize, usize), u8>;
+
+/// Writing a text, or exporting a file.
+type ProvedWriting = fn(usize, &[u32], &[u16], &mut [u8]) -> u64;
+type Writing = fn(usize, &[u32], &[u16], &mut [u8]) -> Result<usize, u8>;
+
+/// What both made of a text or a file.
+#[derive(PartialEq)]
+struct Read {
+    code: u64,
+    answer: Result<(usize, usize), u8>,
+    starts: Vec<u32>,
+    neighbours: Vec<u16>,
+}
+
+/// What both were lent and what they left in the buffer.
+struct Written {
+    code: u64,
+    answer: Result<usize, u8>,
+    n: usize,
+    lists: Lists,
+    buffer: Vec<u8>,
+}
 
 impl<'a> Round<'a> {
     pub fn new(random: &'a mut Random, sample: Sample) -> Self {
@@ -86,7 +115,11 @@ impl<'a> Round<'a> {
                 let code = self.call(place, counts).map_err(|fault| {
                     format!("{} on graph {}: {fault}", call.name, self.sample.name)
                 })?;
-                counts.calls[place][header::REFUSAL.of(code) as usize] += 1;
+                let refusal = header::REFUSAL.of(code) as usize;
+                if refusal != 0 && !call.refusals.contains(&refusal) {
+                    return Err(format!("{} was refused {refusal}", call.name));
+                }
+                counts.calls[place][refusal] += 1;
             }
         }
         Ok(())
@@ -104,13 +137,15 @@ impl<'a> Round<'a> {
     fn call(&mut self, place: usize, counts: &mut Counts) -> Outcome {
         match place {
             0 => self.threshold(),
-            1 => self.read(),
+            1 => self.read(counts),
             2 => self.write(),
-            3 => self.accept(),
-            4 => self.build(counts),
-            5 => self.ask(),
-            6 => self.walk(),
-            7 => self.test(),
+            3 => self.import(counts),
+            4 => self.export(counts),
+            5 => self.accept(),
+            6 => self.build(counts),
+            7 => self.ask(),
+            8 => self.walk(),
+            9 => self.test(),
             _ => self.list(counts),
         }
     }
@@ -145,66 +180,169 @@ impl<'a> Round<'a> {
 
     fn text(&mut self) -> Vec<u8> {
         let valid = texts::valid(self.random, &self.sample);
+        self.damaged(&texts::TEXT, valid)
+    }
+
+    fn file(&mut self) -> Vec<u8> {
+        let mut file = files::valid(self.random, &self.sample);
+        if self.random.percent(30) {
+            file = files::damaged(self.random, &file, self.sample.n);
+        }
+        self.damaged(&files::FILE, file)
+    }
+
+    /// The text as it is, damaged, or junk in its place.
+    fn damaged(&mut self, form: &Form, text: Vec<u8>) -> Vec<u8> {
         match self.random.below(2000) {
-            0 => texts::junk(self.random, JUNK_LONG),
+            0 => texts::junk(self.random, form, JUNK_LONG),
             1..=200 => {
                 let length = self.random.below(300);
-                texts::junk(self.random, length)
+                texts::junk(self.random, form, length)
             }
-            201..=800 => valid,
-            _ => texts::damaged(self.random, &valid),
+            201..=800 => text,
+            _ => texts::damaged(self.random, form, &text),
         }
     }
 
-    fn read(&mut self) -> Outcome {
-        let text = self.text();
-        let (nodes, links) = (self.sample.n, self.neighbours.len());
+    /// Lengths of the two lists for a text or a file with the survey's nodes and so many link ends.
+    fn list_lengths(&mut self, ends: usize) -> (usize, usize) {
+        let nodes = self.sample.n;
         // mostly long enough for a text that names some more nodes and links, so that its lines are judged
-        let (p, q) = if self.random.percent(70) {
+        if self.random.percent(70) {
             (
                 nodes + 1 + self.random.below(40),
-                links + self.random.below(40),
+                ends + self.random.below(40),
             )
         } else {
             (
                 lists::length(self.random, nodes + 1),
-                lists::length(self.random, links),
+                lists::length(self.random, ends),
             )
-        };
+        }
+    }
+
+    /// Reads a text, or imports a file, by both into lists of the given lengths.
+    fn read_by_both(
+        &mut self,
+        text: &[u8],
+        (p, q): (usize, usize),
+        proved: ProvedReading,
+        reading: Reading,
+    ) -> Result<Read, String> {
         let mut starts = lists::garbage32(self.random, p);
         let mut neighbours = lists::garbage16(self.random, q);
-        let lent = Lent::new(self.random, &text);
+        let lent = Lent::new(self.random, text);
         let mut lent_starts = Lent::new(self.random, &starts);
         let mut lent_neighbours = Lent::new(self.random, &neighbours);
-        let code = proved::read(
+        let code = proved(
             lent.list(),
             lent_starts.list_mut(),
             lent_neighbours.list_mut(),
         );
-        let answer = reference::read(&text, &mut starts, &mut neighbours);
+        let answer = reading(text, &mut starts, &mut neighbours);
         codes::size(answer).check(code)?;
-        lent.check("text", &text)?;
+        lent.check("text", text)?;
         lent_starts.check("starts", &starts)?;
         lent_neighbours.check("neighbours", &neighbours)?;
-        Ok(code)
+        Ok(Read {
+            code,
+            answer,
+            starts,
+            neighbours,
+        })
     }
 
-    fn write(&mut self) -> Outcome {
+    /// Writes lists, a survey's or damaged ones, by both into a buffer of about the needed length.
+    fn write_by_both(
+        &mut self,
+        needed: usize,
+        proved: ProvedWriting,
+        writing: Writing,
+    ) -> Result<Written, String> {
         let n = lists::node_count(self.random, self.sample.n);
         let lists = self.lists();
-        let needed = self.sample.text().len();
         let length = lists::length(self.random, needed);
         let mut buffer = lists::garbage8(self.random, length);
         let starts = Lent::new(self.random, &lists.starts);
         let neighbours = Lent::new(self.random, &lists.neighbours);
         let mut lent = Lent::new(self.random, &buffer);
-        let code = proved::write(n, starts.list(), neighbours.list(), lent.list_mut());
-        let answer = reference::write(n, &lists.starts, &lists.neighbours, &mut buffer);
+        let code = proved(n, starts.list(), neighbours.list(), lent.list_mut());
+        let answer = writing(n, &lists.starts, &lists.neighbours, &mut buffer);
         codes::count(answer).check(code)?;
         starts.check("starts", &lists.starts)?;
         neighbours.check("neighbours", &lists.neighbours)?;
         lent.check("buffer", &buffer)?;
-        Ok(code)
+        Ok(Written {
+            code,
+            answer,
+            n,
+            lists,
+            buffer,
+        })
+    }
+
+    /// A text that was read is imported too, as the file of the same lines, and must give the same lists.
+    fn read(&mut self, counts: &mut Counts) -> Outcome {
+        let text = self.text();
+        let lengths = self.list_lengths(self.neighbours.len());
+        let read = self.read_by_both(&text, lengths, proved::read, reference::read)?;
+        if read.answer.is_ok() {
+            let file = files::of_text(&text);
+            if self.import_by_both(&file, lengths)? != read {
+                return Err("the file of the same survey leaves something else".into());
+            }
+            counts.read_and_imported += 1;
+        }
+        Ok(read.code)
+    }
+
+    fn write(&mut self) -> Outcome {
+        let needed = self.sample.text().len();
+        let written = self.write_by_both(needed, proved::write, reference::write)?;
+        Ok(written.code)
+    }
+
+    fn import_by_both(&mut self, file: &[u8], lengths: (usize, usize)) -> Result<Read, String> {
+        self.read_by_both(file, lengths, proved::import, reference::import)
+    }
+
+    fn import(&mut self, counts: &mut Counts) -> Outcome {
+        let file = self.file();
+        // now and then only what the links that are kept would need
+        let ends = if self.random.percent(90) {
+            2 * files::link_lines(&file)
+        } else {
+            self.neighbours.len()
+        };
+        let lengths = self.list_lengths(ends);
+        let read = self.import_by_both(&file, lengths)?;
+        if let Some(kind) = files::kind(&file, lengths, read.answer) {
+            counts.files[kind] += 1;
+        }
+        Ok(read.code)
+    }
+
+    /// A file that was exported is imported again, and must give the lists that it was made of.
+    fn export(&mut self, counts: &mut Counts) -> Outcome {
+        let needed = self.sample.file().len();
+        let written = self.write_by_both(needed, proved::export, reference::export)?;
+        if let Ok(length) = written.answer {
+            let Lists { starts, neighbours } = &written.lists;
+            let (starts, ends) = (&starts[..=written.n], starts[written.n] as usize);
+            let lengths = (
+                starts.len() + self.random.below(3),
+                ends + self.random.below(3),
+            );
+            let read = self.import_by_both(&written.buffer[..length], lengths)?;
+            if read.answer != Ok((written.n, ends / 2))
+                || read.starts[..starts.len()] != *starts
+                || read.neighbours[..ends] != neighbours[..ends]
+            {
+                return Err("imported again, it is another survey".into());
+            }
+            counts.exported_and_imported += 1;
+        }
+        Ok(written.code)
     }
 
     fn accept(&mut self) -> Outcome {

@@ -1,10 +1,12 @@
 //! Compares every call of the proved library with the second implementation: `compare CASES SEED`.
 //!
 //! A case is one call of both on the same input. Answers are compared, as numbers and as the header reads them, and every lent list
-//! whole, between guard words. A run of many cases also has to meet every refusal that a call can give, and every kind of survey that
-//! building does something else for.
+//! whole, between guard words. No call may give a refusal that is not one of its own. A text that was read is imported as a file too, and
+//! a file that was exported is imported again; both must leave the same lists. A run of many cases also has to meet every refusal that a
+//! call can give, every kind of survey that building does something else for, and every kind of file.
 
 mod calls;
+mod files;
 mod lent;
 mod lists;
 mod many;
@@ -21,7 +23,7 @@ use std::time::{Duration, Instant};
 const MANY: u64 = 50_000;
 
 /// How often there was an answer (place 0) or a refusal with a number.
-type Row = [u64; 13];
+type Row = [u64; 14];
 
 #[derive(Default)]
 pub struct Counts {
@@ -30,6 +32,11 @@ pub struct Counts {
     pub listings: Row,
     /// How often building was answered on each kind of survey.
     pub kinds: [u64; many::KINDS.len()],
+    /// How often importing met each kind of file.
+    pub files: [u64; files::KINDS.len()],
+    /// How often a text was read, and the same survey imported.
+    pub read_and_imported: u64,
+    pub exported_and_imported: u64,
 }
 
 impl Counts {
@@ -37,7 +44,7 @@ impl Counts {
         self.calls.iter().flatten().sum()
     }
 
-    /// The refusals that a call can give, or a listing name, and the kinds for building, that were not met.
+    /// The refusals that a call can give, or a listing name, and the kinds for building and importing, that were not met.
     fn unmet(&self) -> Vec<String> {
         let calls = CALLS.iter().map(|call| (call.name, call.refusals));
         let named = calls.chain([("listing", &LISTED[..])]);
@@ -50,9 +57,15 @@ impl Counts {
                 }
             }
         }
-        for (kind, count) in many::KINDS.iter().zip(self.kinds) {
+        let surveys = many::KINDS.map(|kind| format!("build on {kind}"));
+        let files = files::KINDS.map(|kind| format!("import of {kind}"));
+        let both = ["read and imported", "exported and imported"].map(String::from);
+        let names = surveys.into_iter().chain(files).chain(both);
+        let both = [self.read_and_imported, self.exported_and_imported];
+        let counts = self.kinds.into_iter().chain(self.files).chain(both);
+        for (name, count) in names.zip(counts) {
             if count == 0 {
-                unmet.push(format!("build on {kind}"));
+                unmet.push(name);
             }
         }
         unmet
@@ -75,7 +88,7 @@ fn main() -> ExitCode {
             println!("{cases} cases agree, seed {seed}");
             let unmet = counts.unmet();
             if unmet.is_empty() {
-                println!("each call met each of its refusals, and building each kind of survey");
+                println!("each call met each of its refusals, building each kind of survey, and importing each kind of file");
                 return ExitCode::SUCCESS;
             }
             println!("not met: {}", unmet.join("; "));
@@ -171,7 +184,7 @@ fn choose_graph(random: &mut Random) -> Sample {
 
 fn print_counts(counts: &Counts) {
     print!("{:10}{:>9}", "call", "answered");
-    (1..13).for_each(|number| print!("{number:>8}"));
+    (1..counts.listings.len()).for_each(|number| print!("{number:>8}"));
     println!();
     for (call, row) in CALLS.iter().zip(&counts.calls) {
         print_row(call.name, row);
@@ -182,8 +195,16 @@ fn print_counts(counts: &Counts) {
     print_row("listing", &counts.listings);
     println!("the surveys on which building was answered, by their nodes and by the links that a search goes among low nodes:");
     for (kind, count) in many::KINDS.iter().zip(counts.kinds) {
-        println!("{kind:40}{count:>9}");
+        println!("{kind:50}{count:>9}");
     }
+    println!("the files that importing met, those that were accepted or refused 13 and some refused 3 or 8:");
+    for (kind, count) in files::KINDS.iter().zip(counts.files) {
+        println!("{kind:50}{count:>9}");
+    }
+    println!(
+        "{} texts were read and imported as files, {} files exported and imported again",
+        counts.read_and_imported, counts.exported_and_imported
+    );
 }
 
 fn print_row(name: &str, row: &Row) {

@@ -60,11 +60,11 @@ fn node_count(random: &mut Random) -> usize {
 pub fn choose(random: &mut Random) -> Sample {
     let n = node_count(random);
     let s = reference::threshold(n).expect("1 to 1,024 nodes");
-    let sample = match random.below(12) {
+    let sample = match random.below(14) {
         0 => common::path(n),
         1 => common::cycle(n),
         2 => long_tree(random, n),
-        3 => tail(random, n),
+        3 | 12 => tail(random, n),
         4 => two_paths(n, 1 + random.below(3)),
         5 => two_paths(n, 1 + random.below(n)),
         6 => common::complete_and_path(n, s + random.below(20)),
@@ -72,7 +72,7 @@ pub fn choose(random: &mut Random) -> Sample {
         8 => common::blocks(n, n / 32),
         9 => common::joined_blocks(n, n / (2 + random.below(12))),
         // all nodes are high; with 511 nodes that would be too many links
-        10 if n < 511 => ring(n, s.div_ceil(2)),
+        10 | 11 if n < 511 => ring(n, s.div_ceil(2)),
         _ => {
             let (links, high) = (2 * n + random.below(4 * n), random.below(n / 8));
             graphs::with_high(random, n, links, high)

@@ -1,6 +1,33 @@
-//! Survey texts: valid, damaged and hostile.
+//! Survey texts: valid, damaged and hostile. Planners' files are damaged in the same ways.
 
-use comparison::common::{Random, Sample};
+use comparison::common::{self, Random, Sample};
+
+/// How lines give the counts and the links of a survey.
+pub struct Form {
+    pub counts: &'static str,
+    pub link: &'static str,
+    pub separator: u8,
+    /// What is put into a text to damage it.
+    pub bytes: &'static [u8],
+}
+
+pub const TEXT: Form = Form {
+    counts: "S",
+    link: "L",
+    separator: b',',
+    bytes: b"SL,0123456789\n\r -+.x\0\xff/:",
+};
+
+impl Form {
+    pub fn line(&self, word: &str, x: usize, y: usize) -> String {
+        format!("{word}{0}{x}{0}{y}\n", char::from(self.separator))
+    }
+
+    fn fields<'a>(&self, line: &'a [u8]) -> Vec<&'a [u8]> {
+        let line = line.strip_suffix(b"\n").unwrap_or(line);
+        line.split(|&c| c == self.separator).collect()
+    }
+}
 
 /// Numbers that a reader may take wrongly.
 const NUMBERS: [&str; 24] = [
@@ -30,55 +57,52 @@ const NUMBERS: [&str; 24] = [
     "+1",
 ];
 
-const BYTES: &[u8] = b"SL,0123456789\n\r -+.x\0\xff/:";
-
 /// The survey's text, its lines in any order and the ends of links either way round.
 pub fn valid(random: &mut Random, sample: &Sample) -> Vec<u8> {
     let mut links = sample.links();
-    random.shuffle(&mut links);
-    for link in &mut links {
-        if random.percent(50) {
-            *link = (link.1, link.0);
-        }
-    }
-    comparison::common::text_of(sample.n, &links).into_bytes()
+    common::disorder(random, &mut links);
+    common::text_of(sample.n, &links).into_bytes()
 }
 
 /// The text with one to three faults, some of which leave it a survey.
-pub fn damaged(random: &mut Random, text: &[u8]) -> Vec<u8> {
+pub fn damaged(random: &mut Random, form: &Form, text: &[u8]) -> Vec<u8> {
     let mut text = text.to_vec();
     for _ in 0..1 + random.below(3) {
         text = match random.below(3) {
-            0 => damage_bytes(random, text),
-            1 => damage_lines(random, text),
-            _ => damage_number(random, text),
+            0 => damage_bytes(random, form, text),
+            1 => damage_lines(random, form, text),
+            _ => damage_number(random, form, text),
         };
     }
     text
 }
 
-fn damage_bytes(random: &mut Random, mut text: Vec<u8>) -> Vec<u8> {
+fn damage_bytes(random: &mut Random, form: &Form, mut text: Vec<u8>) -> Vec<u8> {
     let place = random.below(text.len() + 1);
+    let byte = form.bytes[random.below(form.bytes.len())];
     match random.below(6) {
         0 if place < text.len() => text[place] ^= 1 << random.below(8),
         1 => text.truncate(place),
         2 if place < text.len() => {
             text.remove(place);
         }
-        3 => text.insert(place, BYTES[random.below(BYTES.len())]),
+        3 => text.insert(place, byte),
         4 => {
             text.pop();
         }
-        _ => text.push(BYTES[random.below(BYTES.len())]),
+        _ => text.push(byte),
     }
     text
 }
 
-fn damage_lines(random: &mut Random, text: Vec<u8>) -> Vec<u8> {
-    let mut lines: Vec<Vec<u8>> = text
-        .split_inclusive(|&c| c == b'\n')
+pub fn lines_of(text: &[u8]) -> Vec<Vec<u8>> {
+    text.split_inclusive(|&c| c == b'\n')
         .map(<[u8]>::to_vec)
-        .collect();
+        .collect()
+}
+
+fn damage_lines(random: &mut Random, form: &Form, text: Vec<u8>) -> Vec<u8> {
+    let mut lines = lines_of(&text);
     if lines.is_empty() {
         return text;
     }
@@ -90,28 +114,25 @@ fn damage_lines(random: &mut Random, text: Vec<u8>) -> Vec<u8> {
             lines.remove(i);
         }
         3 => lines[i] = lines[j].clone(),
-        4 => lines[i] = turned(&lines[j]),
-        5 => lines.push(turned(&lines[j])),
+        4 => lines[i] = turned(form, &lines[j]),
+        5 => lines.push(turned(form, &lines[j])),
         _ => lines[i].insert(0, b'\n'),
     }
     lines.concat()
 }
 
 /// A link line with its ends the other way round.
-fn turned(line: &[u8]) -> Vec<u8> {
-    let fields: Vec<&[u8]> = line.trim_ascii_end().split(|&c| c == b',').collect();
-    match fields[..] {
-        [letter, a, b] => [letter, b",", b, b",", a, b"\n"].concat(),
+fn turned(form: &Form, line: &[u8]) -> Vec<u8> {
+    let separator = &[form.separator][..];
+    match form.fields(line)[..] {
+        [word, a, b] => [word, separator, b, separator, a, b"\n"].concat(),
         _ => line.to_vec(),
     }
 }
 
 /// Puts another number into a field of some line.
-fn damage_number(random: &mut Random, text: Vec<u8>) -> Vec<u8> {
-    let mut lines: Vec<Vec<u8>> = text
-        .split_inclusive(|&c| c == b'\n')
-        .map(<[u8]>::to_vec)
-        .collect();
+fn damage_number(random: &mut Random, form: &Form, text: Vec<u8>) -> Vec<u8> {
+    let mut lines = lines_of(&text);
     if lines.is_empty() {
         return text;
     }
@@ -120,33 +141,31 @@ fn damage_number(random: &mut Random, text: Vec<u8>) -> Vec<u8> {
     } else {
         random.below(lines.len())
     };
-    let mut fields: Vec<Vec<u8>> = lines[i]
-        .trim_ascii_end()
-        .split(|&c| c == b',')
-        .map(<[u8]>::to_vec)
-        .collect();
+    let fields = form.fields(&lines[i]);
+    let mut fields: Vec<Vec<u8>> = fields.into_iter().map(<[u8]>::to_vec).collect();
     let place = random.below(fields.len());
     fields[place] = match random.below(3) {
         0 => NUMBERS[random.below(NUMBERS.len())].into(),
         1 => random.below(40).to_string().into_bytes(),
         _ => fields[random.below(fields.len())].clone(),
     };
-    lines[i] = [&fields.join(&b','), &b"\n"[..]].concat();
+    lines[i] = [&fields.join(&form.separator), &b"\n"[..]].concat();
     lines.concat()
 }
 
 /// Bytes that are no survey, or only begin as one.
-pub fn junk(random: &mut Random, length: usize) -> Vec<u8> {
+pub fn junk(random: &mut Random, form: &Form, length: usize) -> Vec<u8> {
     let kind = random.below(6);
-    let line = format!("L,{},{}\n", random.below(30), random.below(30));
+    let line = form.line(form.link, random.below(30), random.below(30));
     let mut text = match kind {
-        0 => format!("S,{},{}\n", random.below(1100), random.below(20000)).into_bytes(),
-        1 => b"S,1024,16384\n".to_vec(),
-        _ => Vec::new(),
-    };
+        0 => form.line(form.counts, random.below(1100), random.below(20000)),
+        1 => form.line(form.counts, 1024, 16384),
+        _ => String::new(),
+    }
+    .into_bytes();
     while text.len() < length {
         match kind {
-            0 | 2 => text.push(BYTES[random.below(BYTES.len())]),
+            0 | 2 => text.push(form.bytes[random.below(form.bytes.len())]),
             1 | 3 => text.extend(line.as_bytes()),
             4 => text.push(b'0' + random.below(10) as u8),
             _ => text.push(random.next() as u8),

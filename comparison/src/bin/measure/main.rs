@@ -4,6 +4,7 @@
 //! The repetitions, of which the least time counts, are made in several passes over all implementations.
 
 mod exact;
+mod files;
 
 use comparison::common::Sample;
 use comparison::timing::{self, least, Lent, Times, CALLS};
@@ -39,8 +40,11 @@ fn main() {
     print_table(&rows);
     print_growth(&rows);
     print_listings(budget);
+    let files = files::measure_all(budget);
+    files::print(&files);
     print_targets(&rows);
     print_least(&rows);
+    files::print_least(&files);
 }
 
 /// Whether the careful version answers as the second implementation does, on this survey.
@@ -336,7 +340,7 @@ fn ratio(row: &Row, call: usize) -> f64 {
     careful[call] / proved[call]
 }
 
-fn verdict(name: &str, value: f64, bound: f64, at_least: bool) {
+pub fn verdict(name: &str, value: f64, bound: f64, at_least: bool) {
     let met = if at_least {
         value >= bound
     } else {

@@ -1,11 +1,12 @@
 -- `listing_writing::list_tables` meets its contract: the tables that building leaves are those of the listing.
 -- Assumes nothing.
 use mathlib.Core.Path.{_≡_, ap}
-use mathlib.Core.List.{List, _++_}
+use mathlib.Core.List.{List, [], _∷_, _++_}
 use Prim.Native.Nat.{ℕ, _+_, _≤_}
 use native.Mathlib.Omega.{arith}
 use borrow.Author.Needs.{needs}
 use lib.ListN.{length, length-append}
+use Rattle.model.specs.Lines.{numberLineOf}
 use Rattle.model.specs.SurveyText.{lineOf}
 use Rattle.model.specs.Survey.{Graph, neighboursOf}
 use Rattle.model.specs.Threshold.{threshold}
@@ -33,7 +34,7 @@ module _ (c : tie.After-build-tables) where
   report = c .build-tables .last .1 .1 .1 .1 .1 .1 .0
 
   abbrev first : List ℕ
-  first = lineOf 82 (start .args .n) (c .build-tables .result)
+  first = numberLineOf (82 ∷ []) 44 (start .args .n ∷ c .build-tables .result ∷ [])
 
   abbrev pairs : List ℕ
   pairs = pairLines (start .args .n) full low report
@@ -45,6 +46,7 @@ module _ (c : tie.After-build-tables) where
 
   -- the first line and the pairs' lines from the tables are the listing
   listed : first ++ pairs ≡ listingOf (start .args .n) (threshold (start .args .n)) G
+  unfolding lineOf
   listed = listing-by-tables tables
 
   -- and both fit the buffer
@@ -53,7 +55,7 @@ module _ (c : tie.After-build-tables) where
 
 -- the place where the tables were built, from behind the first line
 abbrev built : tie.After-write-line → tie.After-build-tables
-built c = c .before .before .before .before .before .before .before .before .before
+built c = c .before .before .before .before .before .before .before .before .before .before .before
 
 threshold-at-requires : tie.Need-threshold-at-requires
 threshold-at-requires c κs = search needs
@@ -64,14 +66,20 @@ slice-aggregate-build-tables c = search needs
 build-tables-requires : tie.Need-build-tables-requires
 build-tables-requires c κs = search needs
 
-cast-write-line : tie.Need-cast-write-line
-cast-write-line c = search needs
+slice-aggregate-write-line : tie.Need-slice-aggregate-write-line
+slice-aggregate-write-line c = search needs
 
-cast-write-line-2 : tie.Need-cast-write-line-2
-cast-write-line-2 c = omega (arith, count-few (tables (c .before .before .before .before .before .before .before .before)))
+cast-t26 : tie.Need-cast-t26
+cast-t26 c = search needs
+
+cast-t27 : tie.Need-cast-t27
+cast-t27 c = omega (arith, count-few (tables (c .before .before .before .before .before .before .before .before .before)))
+
+slice-aggregate-write-line-2 : tie.Need-slice-aggregate-write-line-2
+slice-aggregate-write-line-2 c = search needs
 
 write-line-requires : tie.Need-write-line-requires
-write-line-requires c κs = omega (arith, room (c .before .before .before .before .before .before .before .before))
+write-line-requires c κs = omega (arith, room (c .before .before .before .before .before .before .before .before .before .before))
 
 write-pairs-requires : tie.Need-write-pairs-requires
 write-pairs-requires c κs =
@@ -105,8 +113,10 @@ list-tables-spec =
     threshold-at-requires
     slice-aggregate-build-tables
     build-tables-requires
-    cast-write-line
-    cast-write-line-2
+    slice-aggregate-write-line
+    cast-t26
+    cast-t27
+    slice-aggregate-write-line-2
     write-line-requires
     write-pairs-requires
     same-length

@@ -8,10 +8,9 @@ use native.Mathlib.Omega.{arith}
 use borrow.Author.Needs.{needs}
 use borrow.Author.Tests.{not-true, not-false}
 use lib.ListN.{length, drop}
+use Rattle.model.specs.Basics.{has}
 use Rattle.model.specs.SurveyText.{line}
-use Rattle.text_reading.specs.Scan.{found}
-use Rattle.base_nodeset.specs.Matrix.{edgesIn}
-use Rattle.base_nodeset.proofs.Matrix.{edge-bit}
+use Rattle.text_reading.specs.Scan.{isShape, found}
 use Rattle.survey_reading_lines.proofs.LinkLaws.{both-below, link-end, link-malformed, link-far, link-loop, link-again, link-new}
 use Rattle.survey_reading_lines.proofs.link_at.Statement.{statement}
 use Rattle.survey_reading_lines.proofs.link_at.Tie as tie
@@ -19,7 +18,7 @@ use Rattle.survey_reading_lines.proofs.link_at.Tie as tie
 -- the line has the right form: its two numbers, and the place after it
 module _ (c : tie.After-a) where
   abbrev start : tie.Start
-  start = c .before .before .before .before .before .before
+  start = c .before .before .before .before .before .before .before
 
   abbrev text : List ℕ
   text = start .args .text .now
@@ -31,25 +30,24 @@ module _ (c : tie.After-a) where
   b = c .a .given .0 .1 .0
 
   begun : start .args .at < length text
-  begun = c .before .before .before .if1 .left
+  begun = c .before .before .before .before .if1 .left
 
   read : line 76 (drop (start .args .at) text) ≡ some (a, b, drop (c .a .given .0 .1 .1 .0) text)
-  read = sym (c .before .before .line-at .ensures) ∙ ap (found _) (c .a .given .1)
+  unfolding line isShape has
+  read = sym (c .before .before .pair-at .ensures) ∙ ap (found _) (c .a .given .1)
 
 -- once both numbers are tested
 below : (c : tie.Else2) → (let said = c .before .before in (a said < start said .args .n) × (b said < start said .args .n))
 below c = both-below (not-false _ (c .if2 .left))
 
--- the matrix shows whether the link was given before
-given : (c : tie.After-contains) → (let said = c .before .before .before .before in
-    edgesIn (start said .args .bits .now) (a said) (b said) ≡ c .contains .result)
-given c = edge-bit _ _ _ (omega (arith, below (c .before .before))) ∙ sym (c .contains .ensures)
-
 returns : tie.Need-returns
 returns c = link-end _ _ _ _ (c .if1 .taken)
 
-line-at-requires : tie.Need-line-at-requires
-line-at-requires c κs = search needs
+slice-aggregate-pair-at : tie.Need-slice-aggregate-pair-at
+slice-aggregate-pair-at c = search needs
+
+pair-at-requires : tie.Need-pair-at-requires
+pair-at-requires c κs = search needs
 
 enum-known-a : tie.Need-enum-known-a
 enum-known-a c = search needs
@@ -58,9 +56,10 @@ enum-told : tie.Need-enum-told
 enum-told c = search needs
 
 returns-2 : tie.Need-returns-2
+unfolding line isShape has
 returns-2 c =
-    let line = c .before .before in
-    link-malformed _ _ _ _ (line .before .if1 .left) (sym (line .line-at .ensures) ∙ ap (found _) (c .enum-told .given .1))
+    let call = c .before .before in
+    link-malformed _ _ _ _ (call .before .before .if1 .left) (sym (call .pair-at .ensures) ∙ ap (found _) (c .enum-told .given .1))
 
 returns-3 : tie.Need-returns-3
 returns-3 c =
@@ -72,40 +71,33 @@ returns-4 c =
     let said = c .before .before .before in
     link-loop _ _ _ _ (begun said) (read said) (below (c .before)) (c .if3 .taken)
 
-mul-contains : tie.Need-mul-contains
-mul-contains c = omega (arith, below (c .before))
-
-add-contains : tie.Need-add-contains
-add-contains c = omega (arith, below (c .before))
-
-contains-requires : tie.Need-contains-requires
-contains-requires c κs = omega (arith, below (c .before))
+has-link-requires : tie.Need-has-link-requires
+has-link-requires c κs = omega (arith, below (c .before))
 
 returns-5 : tie.Need-returns-5
 returns-5 c =
     let different = c .before .before in
     let said = different .before .before .before in
-    link-again _ _ _ _ (begun said) (read said) (below (different .before)) (different .if3 .left) (given (c .before) ∙ c .if4 .taken)
+    link-again _ _ _ _ (begun said) (read said) (below (different .before)) (different .if3 .left) (sym (c .before .has-link .ensures) ∙ c .if4 .taken)
 
 returns-6 : tie.Need-returns-6
 returns-6 c =
     let different = c .before .before in
     let said = different .before .before .before in
-    link-new _ _ _ _ (begun said) (read said) (below (different .before)) (different .if3 .left) (given (c .before) ∙ c .if4 .left)
+    link-new _ _ _ _ (begun said) (read said) (below (different .before)) (different .if3 .left) (sym (c .before .has-link .ensures) ∙ c .if4 .left)
 
 pub link-at-spec : {M : Type 1} → statement M
 link-at-spec =
     tie.close
     (tie.spec
     returns
-    line-at-requires
+    slice-aggregate-pair-at
+    pair-at-requires
     enum-known-a
     enum-told
     returns-2
     returns-3
     returns-4
-    mul-contains
-    add-contains
-    contains-requires
+    has-link-requires
     returns-5
     returns-6)

@@ -73,23 +73,10 @@ returns c =
 enum-known-a : tie.Need-enum-known-a Inv-loop μ-loop
 enum-known-a c = search needs
 
-mul-insert : tie.Need-mul-insert Inv-loop μ-loop
-mul-insert c = omega (arith, below (c .before .before))
-
-add-insert : tie.Need-add-insert Inv-loop μ-loop
-add-insert c = omega (arith, below (c .before .before))
-
-insert-requires : tie.Need-insert-requires Inv-loop μ-loop
-insert-requires c κs = omega (arith, below (c .before .before))
-
-mul-insert-2 : tie.Need-mul-insert-2 Inv-loop μ-loop
-mul-insert-2 c = omega (arith, below (c .before .before .before .before .before .before))
-
-add-insert-2 : tie.Need-add-insert-2 Inv-loop μ-loop
-add-insert-2 c = omega (arith, below (c .before .before .before .before .before .before))
-
-insert-requires-2 : tie.Need-insert-requires-2 Inv-loop μ-loop
-insert-requires-2 c κs = omega (arith, below (c .before .before .before .before .before .before))
+insert-link-requires : tie.Need-insert-link-requires Inv-loop μ-loop
+insert-link-requires c κs =
+    let said = c .before .before in
+    (loop said .loop .inv .held .long, omega (arith, below said, few (loop said)), omega (arith, below said, few (loop said)))
 
 add-k : tie.Need-add-k Inv-loop μ-loop
 add-k c = search needs
@@ -99,12 +86,10 @@ loop-less c = search needs
 
 loop-again : tie.Need-loop-again Inv-loop μ-loop
 loop-again c =
-    let turned = c .before .before in
-    let one = turned .before .before .before .before in
-    let line = one .before .before .before in
-    let turn = line .before .before .before .before in
-    progress-taken (few (loop line)) (loop line .loop .inv) (turn .loop-test .taken) _ _ _ (taken line)
-    (turned .insert2 .kept .0 ∙ one .insert .kept .0) (one .insert .ensures) (turned .insert2 .ensures)
+    let put = c .before .before in
+    let said = put .before .before .before in
+    let turn = said .before .before .before .before in
+    progress-taken (few (loop said)) (loop said .loop .inv) (turn .loop-test .taken) _ _ (taken said) (put .insert-link .ensures)
 
 same-length-2 : tie.Need-same-length-2 Inv-loop μ-loop
 same-length-2 c = long (c .before .before)
@@ -134,12 +119,7 @@ read-links-spec =
     same-length
     returns
     enum-known-a
-    mul-insert
-    add-insert
-    insert-requires
-    mul-insert-2
-    add-insert-2
-    insert-requires-2
+    insert-link-requires
     add-k
     loop-less
     loop-again

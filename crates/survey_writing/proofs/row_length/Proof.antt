@@ -9,10 +9,10 @@ use Rattle.survey_writing.proofs.row_length.Statement.{statement}
 use Rattle.survey_writing.proofs.row_length.Tie as tie
 
 abbrev Inv-loop : tie.InvT-loop
-Inv-loop a row total₀ i₀ total i = RowCounted a row total i
+Inv-loop form a row total₀ i₀ total i = RowCounted form a row total i
 
 abbrev μ-loop : tie.MeasureT-loop
-μ-loop a row total₀ i₀ total i = length row - i
+μ-loop form a row total₀ i₀ total i = length row - i
 
 loop-holds : tie.Need-loop-holds Inv-loop μ-loop
 loop-holds c = search needs

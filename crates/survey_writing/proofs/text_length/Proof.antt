@@ -9,10 +9,10 @@ use Rattle.survey_writing.proofs.text_length.Statement.{statement}
 use Rattle.survey_writing.proofs.text_length.Tie as tie
 
 abbrev Inv-loop : tie.InvT-loop
-Inv-loop n starts neighbours total₀ v₀ total v = TextCounted n starts neighbours total v
+Inv-loop form n starts neighbours total₀ v₀ total v = TextCounted form n starts neighbours total v
 
 abbrev μ-loop : tie.MeasureT-loop
-μ-loop n starts neighbours total₀ v₀ total v = n - v
+μ-loop form n starts neighbours total₀ v₀ total v = n - v
 
 -- the row that is counted is short
 row-few : (c : tie.After-own Inv-loop μ-loop) → length (c .own .result .now) ≤ 32768
@@ -20,21 +20,24 @@ row-few c =
     let start = c .before .before .before .before .before .before .before in
     rw (c .own .ensures) (own-few (start .pre) (c .before .loop-test .taken))
 
-cast-line-length : tie.Need-cast-line-length Inv-loop μ-loop
-cast-line-length c = search needs
+cast-first-length : tie.Need-cast-first-length Inv-loop μ-loop
+cast-first-length c = search needs
 
-mul-line-length : tie.Need-mul-line-length Inv-loop μ-loop
-mul-line-length c = search needs
+mul-first-length : tie.Need-mul-first-length Inv-loop μ-loop
+mul-first-length c = search needs
 
-shared-slice-read-line-length : tie.Need-shared-slice-read-line-length Inv-loop μ-loop
-shared-slice-read-line-length c = search needs
+shared-slice-read-first-length : tie.Need-shared-slice-read-first-length Inv-loop μ-loop
+shared-slice-read-first-length c = search needs
 
-line-length-requires : tie.Need-line-length-requires Inv-loop μ-loop
-line-length-requires c κs = omega arith
+first-length-requires : tie.Need-first-length-requires Inv-loop μ-loop
+first-length-requires c κs = omega arith
 
 loop-holds : tie.Need-loop-holds Inv-loop μ-loop
 loop-holds c =
-    text-none (c .before .before .before .before .pre) (c .line-length .ensures .0 83) (c .line-length .ensures .1)
+    text-none (c .before .before .before .before .pre) (c .first-length .ensures)
+
+cast-row-length : tie.Need-cast-row-length Inv-loop μ-loop
+cast-row-length c = search needs
 
 own-requires : tie.Need-own-requires Inv-loop μ-loop
 own-requires c κs = search needs
@@ -69,11 +72,12 @@ text-length-spec =
     (tie.spec
     Inv-loop
     μ-loop
-    cast-line-length
-    mul-line-length
-    shared-slice-read-line-length
-    line-length-requires
+    cast-first-length
+    mul-first-length
+    shared-slice-read-first-length
+    first-length-requires
     loop-holds
+    cast-row-length
     own-requires
     row-length-requires
     add-total

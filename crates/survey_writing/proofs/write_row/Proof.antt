@@ -11,11 +11,11 @@ use Rattle.survey_writing.proofs.write_row.Statement.{statement}
 use Rattle.survey_writing.proofs.write_row.Tie as tie
 
 abbrev Inv-loop : tie.InvT-loop
-Inv-loop a row buffer₀ at pos₀ i₀ buffer pos i =
-    (i ≤ length row) × Left buffer₀ buffer at pos (linesOf a row) (linesOf a (drop i row))
+Inv-loop form a row buffer₀ at pos₀ i₀ buffer pos i =
+    (i ≤ length row) × Left buffer₀ buffer at pos (linesOf form a row) (linesOf form a (drop i row))
 
 abbrev μ-loop : tie.MeasureT-loop
-μ-loop a row buffer₀ at pos₀ i₀ buffer pos i = length row - i
+μ-loop form a row buffer₀ at pos₀ i₀ buffer pos i = length row - i
 
 module _ (c : tie.In-loop Inv-loop μ-loop) where
   abbrev start : tie.Start Inv-loop μ-loop
@@ -26,14 +26,14 @@ module _ (c : tie.In-loop Inv-loop μ-loop) where
 
   -- the next line, and those after it
   abbrev line : List ℕ
-  line = linesOf (start .args .a) (getD row (c .before .loop .i) 0 ∷ [])
+  line = linesOf (start .args .form) (start .args .a) (getD row (c .before .loop .i) 0 ∷ [])
 
   abbrev rest : List ℕ
-  rest = linesOf (start .args .a) (drop (c .before .loop .i + 1) row)
+  rest = linesOf (start .args .form) (start .args .a) (drop (c .before .loop .i + 1) row)
 
   next : Left (start .args .buffer .now) (c .before .loop .buffer) (start .args .at) (c .before .loop .pos)
-      (linesOf (start .args .a) row) (line ++ rest)
-  next = rw (line-next _ _ _ (c .loop-test .taken)) at (c .before .loop .inv .1)
+      (linesOf (start .args .form) (start .args .a) row) (line ++ rest)
+  next = rw (line-next _ _ _ _ (c .loop-test .taken)) at (c .before .loop .inv .1)
 
 loop-holds : tie.Need-loop-holds Inv-loop μ-loop
 loop-holds c = (omega arith, left-all (c .before .before .pre .1))
@@ -65,7 +65,7 @@ same-length : tie.Need-same-length Inv-loop μ-loop
 same-length c = left-length (c .before .loop .inv .1)
 
 returns : tie.Need-returns Inv-loop μ-loop
-returns c = left-none (rw (line-end _ _ _ (c .loop-test .left)) at (c .before .loop .inv .1))
+returns c = left-none (rw (line-end _ _ _ _ (c .loop-test .left)) at (c .before .loop .inv .1))
 
 pub write-row-spec : {M : Type 1} → statement M
 write-row-spec =

@@ -9,37 +9,37 @@ use lib.ListN.{length}
 use Rattle.base_lists.proofs.Written.{wrote-room, wrote-length, wrote-then, wrote-over, Left, left-all, left-fits, left-more, left-length, left-none}
 use Rattle.model.specs.Survey.{Graph, neighboursOf}
 use Rattle.survey_writing.specs.LinkLines.{linesOf}
-use Rattle.survey_writing.proofs.LineLaws.{rowsFrom, firstLine, length-text, rows-next, rows-end, text-is}
+use Rattle.survey_writing.proofs.LineLaws.{rowsFrom, head, length-text, rows-next, rows-end, text-is}
 use Rattle.survey_writing.proofs.write_text.Statement.{statement}
 use Rattle.survey_writing.proofs.write_text.Tie as tie
 
 abbrev Inv-loop : tie.InvT-loop
-Inv-loop n starts neighbours buffer₀ pos₀ v₀ buffer pos v =
+Inv-loop form n starts neighbours buffer₀ pos₀ v₀ buffer pos v =
     let G : Graph = neighboursOf starts neighbours in
-    (v ≤ n) × Left buffer₀ buffer pos₀ pos (rowsFrom n G 0) (rowsFrom n G v)
+    (v ≤ n) × Left buffer₀ buffer pos₀ pos (rowsFrom form n G 0) (rowsFrom form n G v)
 
 abbrev μ-loop : tie.MeasureT-loop
-μ-loop n starts neighbours buffer₀ pos₀ v₀ buffer pos v = n - v
+μ-loop form n starts neighbours buffer₀ pos₀ v₀ buffer pos v = n - v
 
 -- the lines of the rows
 abbrev rows : (c : tie.Start Inv-loop μ-loop) → List ℕ
-rows c = rowsFrom (c .args .n) (neighboursOf (c .args .starts .now) (c .args .neighbours .now)) 0
+rows c = rowsFrom (c .args .form) (c .args .n) (neighboursOf (c .args .starts .now) (c .args .neighbours .now)) 0
 
 -- there is room for the first line and the rows
 all-room : (c : tie.Start Inv-loop μ-loop)
-    → 0 + length (firstLine (c .args .n) (c .args .starts .now)) + length (rows c) ≤ length (c .args .buffer .now)
-all-room c = omega (arith, length-text (c .args .n) (c .args .starts .now) (c .args .neighbours .now), c .pre .1)
+    → 0 + length (head (c .args .form) (c .args .n) (c .args .starts .now)) + length (rows c) ≤ length (c .args .buffer .now)
+all-room c = omega (arith, length-text (c .args .form) (c .args .n) (c .args .starts .now) (c .args .neighbours .now), c .pre .1)
 
 -- once the first line is written, there is room for the rows behind it
-module _ (c : tie.After-write-line Inv-loop μ-loop) where
+module _ (c : tie.After-write-first Inv-loop μ-loop) where
   abbrev start : tie.Start Inv-loop μ-loop
   start = c .before .before .before .before .before .before
 
-  room : c .write-line .result + length (rows start) ≤ length (c .write-line .last .0)
-  room = wrote-room (rows start) (all-room start) (c .write-line .ensures)
+  room : c .write-first .result + length (rows start) ≤ length (c .write-first .last .1 .1 .1 .0)
+  room = wrote-room (rows start) (all-room start) (c .write-first .ensures)
 
 module _ (c : tie.In-loop Inv-loop μ-loop) where
-  abbrev first : tie.After-write-line Inv-loop μ-loop
+  abbrev first : tie.After-write-first Inv-loop μ-loop
   first = c .before .before .before .before
 
   abbrev G : Graph
@@ -47,29 +47,32 @@ module _ (c : tie.In-loop Inv-loop μ-loop) where
 
   -- the lines of the next row, and those of the rows after it
   abbrev lines : List ℕ
-  lines = linesOf (c .before .loop .v) (G (c .before .loop .v))
+  lines = linesOf (start first .args .form) (c .before .loop .v) (G (c .before .loop .v))
 
   abbrev rest : List ℕ
-  rest = rowsFrom (start first .args .n) G (c .before .loop .v + 1)
+  rest = rowsFrom (start first .args .form) (start first .args .n) G (c .before .loop .v + 1)
 
-  next : Left (first .write-line .last .0) (c .before .loop .buffer) (first .write-line .result) (c .before .loop .pos)
+  next : Left (first .write-first .last .1 .1 .1 .0) (c .before .loop .buffer) (first .write-first .result) (c .before .loop .pos)
       (rows (start first)) (lines ++ rest)
-  next = rw (rows-next _ _ _ (c .loop-test .taken)) at (c .before .loop .inv .1)
+  next = rw (rows-next _ _ _ _ (c .loop-test .taken)) at (c .before .loop .inv .1)
 
-cast-write-line : tie.Need-cast-write-line Inv-loop μ-loop
-cast-write-line c = search needs
+cast-write-first : tie.Need-cast-write-first Inv-loop μ-loop
+cast-write-first c = search needs
 
-mul-write-line : tie.Need-mul-write-line Inv-loop μ-loop
-mul-write-line c = search needs
+mul-write-first : tie.Need-mul-write-first Inv-loop μ-loop
+mul-write-first c = search needs
 
-shared-slice-read-write-line : tie.Need-shared-slice-read-write-line Inv-loop μ-loop
-shared-slice-read-write-line c = search needs
+shared-slice-read-write-first : tie.Need-shared-slice-read-write-first Inv-loop μ-loop
+shared-slice-read-write-first c = search needs
 
-write-line-requires : tie.Need-write-line-requires Inv-loop μ-loop
-write-line-requires c κs = omega (arith, all-room (c .before .before .before .before .before))
+write-first-requires : tie.Need-write-first-requires Inv-loop μ-loop
+write-first-requires c κs = omega (arith, all-room (c .before .before .before .before .before))
 
 loop-holds : tie.Need-loop-holds Inv-loop μ-loop
 loop-holds c = (omega arith, left-all (room (c .before .before)))
+
+cast-write-row : tie.Need-cast-write-row Inv-loop μ-loop
+cast-write-row c = search needs
 
 own-requires : tie.Need-own-requires Inv-loop μ-loop
 own-requires c κs = search needs
@@ -96,15 +99,15 @@ same-length : tie.Need-same-length Inv-loop μ-loop
 same-length c =
     let first = c .before .before .before .before in
     left-length (c .before .loop .inv .1)
-    ∙ wrote-length (omega (arith, all-room (start first))) (first .write-line .ensures)
+    ∙ wrote-length (omega (arith, all-room (start first))) (first .write-first .ensures)
 
 returns : tie.Need-returns Inv-loop μ-loop
 returns c =
     let first = c .before .before .before .before in
     let args = start first .args in
-    let behind = left-none (rw (rows-end _ _ _ (c .loop-test .left)) at (c .before .loop .inv .1)) in
-    let all = wrote-then (all-room (start first)) (first .write-line .ensures) behind in
-    wrote-over _ (rw (← text-is (args .n) (args .starts .now) (args .neighbours .now)) at all) .0
+    let behind = left-none (rw (rows-end _ _ _ _ (c .loop-test .left)) at (c .before .loop .inv .1)) in
+    let all = wrote-then (all-room (start first)) (first .write-first .ensures) behind in
+    wrote-over _ (rw (← text-is (args .form) (args .n) (args .starts .now) (args .neighbours .now)) at all) .0
 
 pub write-text-spec : {M : Type 1} → statement M
 write-text-spec =
@@ -112,11 +115,12 @@ write-text-spec =
     (tie.spec
     Inv-loop
     μ-loop
-    cast-write-line
-    mul-write-line
-    shared-slice-read-write-line
-    write-line-requires
+    cast-write-first
+    mul-write-first
+    shared-slice-read-write-first
+    write-first-requires
     loop-holds
+    cast-write-row
     own-requires
     write-row-requires
     add-v

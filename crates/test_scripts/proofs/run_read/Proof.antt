@@ -27,29 +27,29 @@ at-most-requires-4 c κs = search needs
 add-end : tie.Need-add-end
 add-end c = search needs
 
-sub-read-survey : tie.Need-sub-read-survey
-sub-read-survey c = search needs
+sub-read-by : tie.Need-sub-read-by
+sub-read-by c = search needs
 
-part-read-survey-start : tie.Need-part-read-survey-start
-part-read-survey-start c = search needs
+part-read-by-start : tie.Need-part-read-by-start
+part-read-by-start c = search needs
 
-part-read-survey-end : tie.Need-part-read-survey-end
-part-read-survey-end c = search needs
+part-read-by-end : tie.Need-part-read-by-end
+part-read-by-end c = search needs
 
-slice-relend-prefix-read-survey : tie.Need-slice-relend-prefix-read-survey
-slice-relend-prefix-read-survey c = search needs
+slice-relend-prefix-read-by : tie.Need-slice-relend-prefix-read-by
+slice-relend-prefix-read-by c = search needs
 
-slice-aggregate-read-survey : tie.Need-slice-aggregate-read-survey
-slice-aggregate-read-survey c = simp length-take (omega arith)
+slice-aggregate-read-by : tie.Need-slice-aggregate-read-by
+slice-aggregate-read-by c = simp length-take (omega arith)
 
-slice-relend-prefix-read-survey-2 : tie.Need-slice-relend-prefix-read-survey-2
-slice-relend-prefix-read-survey-2 c = search needs
+slice-relend-prefix-read-by-2 : tie.Need-slice-relend-prefix-read-by-2
+slice-relend-prefix-read-by-2 c = search needs
 
-slice-aggregate-read-survey-2 : tie.Need-slice-aggregate-read-survey-2
-slice-aggregate-read-survey-2 c = simp length-take (omega arith)
+slice-aggregate-read-by-2 : tie.Need-slice-aggregate-read-by-2
+slice-aggregate-read-by-2 c = simp length-take (omega arith)
 
-read-survey-requires : tie.Need-read-survey-requires
-read-survey-requires c κs = search needs
+read-by-requires : tie.Need-read-by-requires
+read-by-requires c κs = search needs
 
 print-read-requires : tie.Need-print-read-requires
 print-read-requires c κs = search needs
@@ -74,14 +74,14 @@ run-read-spec =
     sub-at-most
     at-most-requires-4
     add-end
-    sub-read-survey
-    part-read-survey-start
-    part-read-survey-end
-    slice-relend-prefix-read-survey
-    slice-aggregate-read-survey
-    slice-relend-prefix-read-survey-2
-    slice-aggregate-read-survey-2
-    read-survey-requires
+    sub-read-by
+    part-read-by-start
+    part-read-by-end
+    slice-relend-prefix-read-by
+    slice-aggregate-read-by
+    slice-relend-prefix-read-by-2
+    slice-aggregate-read-by-2
+    read-by-requires
     print-read-requires
     same-length
     same-length-2

@@ -18,20 +18,20 @@ at-most-requires-2 c κs = search needs
 at-most-requires-3 : tie.Need-at-most-requires-3
 at-most-requires-3 c κs = search needs
 
-slice-aggregate-write-survey : tie.Need-slice-aggregate-write-survey
-slice-aggregate-write-survey c = simp length-take (omega arith)
+slice-aggregate-write-by : tie.Need-slice-aggregate-write-by
+slice-aggregate-write-by c = simp length-take (omega arith)
 
-slice-aggregate-write-survey-2 : tie.Need-slice-aggregate-write-survey-2
-slice-aggregate-write-survey-2 c = simp length-take (omega arith)
+slice-aggregate-write-by-2 : tie.Need-slice-aggregate-write-by-2
+slice-aggregate-write-by-2 c = simp length-take (omega arith)
 
-slice-relend-prefix-write-survey : tie.Need-slice-relend-prefix-write-survey
-slice-relend-prefix-write-survey c = search needs
+slice-relend-prefix-write-by : tie.Need-slice-relend-prefix-write-by
+slice-relend-prefix-write-by c = search needs
 
-slice-aggregate-write-survey-3 : tie.Need-slice-aggregate-write-survey-3
-slice-aggregate-write-survey-3 c = simp length-take (omega arith)
+slice-aggregate-write-by-3 : tie.Need-slice-aggregate-write-by-3
+slice-aggregate-write-by-3 c = simp length-take (omega arith)
 
-write-survey-requires : tie.Need-write-survey-requires
-write-survey-requires c κs = search needs
+write-by-requires : tie.Need-write-by-requires
+write-by-requires c κs = search needs
 
 sum8-requires : tie.Need-sum8-requires
 sum8-requires c κs = search needs
@@ -80,11 +80,11 @@ run-write-spec =
     at-most-requires
     at-most-requires-2
     at-most-requires-3
-    slice-aggregate-write-survey
-    slice-aggregate-write-survey-2
-    slice-relend-prefix-write-survey
-    slice-aggregate-write-survey-3
-    write-survey-requires
+    slice-aggregate-write-by
+    slice-aggregate-write-by-2
+    slice-relend-prefix-write-by
+    slice-aggregate-write-by-3
+    write-by-requires
     sum8-requires
     enum-known-answer
     refusal-number-requires
