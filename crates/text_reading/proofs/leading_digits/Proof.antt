@@ -3,7 +3,6 @@
 use mathlib.Core.Logic.{inl, inr}
 use Prim.Native.Nat.{_-_, _^_, _<_}
 use native.Mathlib.Omega.{arith}
-use borrow.Author.Needs.{needs}
 use lib.ListN.{length}
 use Rattle.text_reading.proofs.Runs.{Read, read-none, read-next, read-stop, read-end, read-small}
 use Rattle.text_reading.proofs.leading_digits.Statement.{statement}
