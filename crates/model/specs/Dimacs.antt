@@ -144,7 +144,8 @@ edgesAmong [] = []
 edgesAmong (comment bytes ∷ is) = edgesAmong is
 edgesAmong (edge a b ∷ is) = (a, b) ∷ edgesAmong is
 
--- rules 13.1 to 13.3: a text in form, of comments, the line `p edge n m`, then comments and the m lines of these links, in any mixture
+-- rules 13.1 to 13.3: a text in form, of comments, the line `p edge n m`, then comments and the m lines of these links, in any mixture.
+-- The links are of nodes from 0 and their lines of nodes from 1: a text that names node 0 is none
 pub record IsFile (text : List ℕ) (n : ℕ) (links : List (ℕ × ℕ)) : Type 0 where
   pub before : List (List ℕ)
   pub items : List Item
