@@ -54,7 +54,8 @@ static struct measured calls[] = {
     {"export", call_export, 0},       {"import", call_import, 0}, {"build", call_build, 0},   {"ask", call_ask, 0},
     {"test", call_test, 0},           {"list", call_list, 0},
 };
-static struct measured low_walk = {"walk by low nodes", call_walk, 0}, hub_walk = {"walk through a hub", call_walk, 0};
+static struct measured link_walk = {"walk by link", call_walk, 0}, low_walk = {"walk by low nodes", call_walk, 0};
+static struct measured hub_walk = {"walk through a hub", call_walk, 0};
 
 static void require(int holds, const char *what)
 {
@@ -130,6 +131,13 @@ static void measure_calls(size_t a, size_t b)
         measure(&calls[i]);
 }
 
+/* Measures the walk of the pair that is asked, which must be by the given route. */
+static void measure_walk(struct measured *measured, unsigned route)
+{
+    measure(measured);
+    require(puxerdau_route(answer) == route, "a walk by another route");
+}
+
 /* 1,024 nodes and 16,384 links: 64 high nodes with 256 links each. */
 static void measure_largest(void)
 {
@@ -138,7 +146,9 @@ static void measure_largest(void)
         for (unsigned k = 0; k < 256; k++)
             add_link(v, 64 + (15 * v + k) % 960);
     measure_calls(0, NODES - 1);
-    measure(&hub_walk);
+    measure_walk(&hub_walk, PUXERDAU_THROUGH);
+    to = 64 + 255; /* the last neighbour of node 0 */
+    measure_walk(&link_walk, PUXERDAU_LINK);
 }
 
 /* A path of 1,024 nodes. Its walk by low nodes has as many steps as a part of a walk can have. */
@@ -148,8 +158,8 @@ static void measure_path(void)
     for (unsigned v = 1; v < NODES; v++)
         add_link(v - 1, v);
     measure_calls(0, NODES - 1);
-    measure(&low_walk);
-    require(puxerdau_report(answer) == NODES - 1 && puxerdau_route(answer) == PUXERDAU_LOW, "another walk along the path");
+    measure_walk(&low_walk, PUXERDAU_LOW);
+    require(puxerdau_report(answer) == NODES - 1, "another walk along the path");
 }
 
 /* The path with altered tables, by which node 0 is a hub: both parts of a walk are as long as they can be. */
@@ -160,8 +170,8 @@ static void measure_altered_path(void)
     for (unsigned v = 0; v < NODES; v++)
         full[v] = (uint16_t)v;
     report[from * NODES + to] = (uint16_t)(from + to);
-    measure(&hub_walk);
-    require(puxerdau_report(answer) == from + to && puxerdau_route(answer) == PUXERDAU_THROUGH, "another walk through the hub");
+    measure_walk(&hub_walk, PUXERDAU_THROUGH);
+    require(puxerdau_report(answer) == from + to, "another walk through the hub");
     require(answer == call_ask(), "asking answers otherwise");
 }
 
@@ -194,6 +204,7 @@ int main(void)
     measure_listed();
     for (size_t i = 0; i < LENGTH(calls); i++)
         below &= print(&calls[i]);
+    below &= print(&link_walk);
     below &= print(&low_walk);
     below &= print(&hub_walk);
     printf("%s\n", below ? "each call used less" : "not each call used less");

@@ -41,6 +41,21 @@ static void print_walk(size_t a, size_t b)
     printf("\n");
 }
 
+static void print_route(uint64_t answer)
+{
+    switch (puxerdau_route(answer)) {
+    case PUXERDAU_LINK:
+        printf(" by link");
+        break;
+    case PUXERDAU_LOW:
+        printf(" by low nodes");
+        break;
+    case PUXERDAU_THROUGH:
+        printf(" through hub %u", puxerdau_hub(answer));
+        break;
+    }
+}
+
 static void print_pair(size_t a, size_t b)
 {
     uint64_t answer = puxerdau_survey_ask(&survey, &tables, a, b);
@@ -51,10 +66,8 @@ static void print_pair(size_t a, size_t b)
         return;
     }
     printf("%zu and %zu: report %u", a, b, puxerdau_report(answer));
-    if (puxerdau_route(answer) == PUXERDAU_THROUGH)
-        printf(" through hub %u\n", puxerdau_hub(answer));
-    else
-        printf(puxerdau_route(answer) == PUXERDAU_LOW ? " by low nodes\n" : "\n");
+    print_route(answer);
+    printf("\n");
     print_walk(a, b);
 }
 

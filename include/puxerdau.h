@@ -30,8 +30,8 @@
 extern "C" {
 #endif
 
-#define PUXERDAU_VERSION_MAJOR 1
-#define PUXERDAU_VERSION_MINOR 1
+#define PUXERDAU_VERSION_MAJOR 2
+#define PUXERDAU_VERSION_MINOR 0
 #define PUXERDAU_VERSION_PATCH 0
 #define PUXERDAU_QUOTED(x) #x
 #define PUXERDAU_DOTTED(a, b, c) PUXERDAU_QUOTED(a) "." PUXERDAU_QUOTED(b) "." PUXERDAU_QUOTED(c)
@@ -64,7 +64,7 @@ extern "C" {
 #define PUXERDAU_FRONT_LENGTH (24 * (PUXERDAU_MAX_LINKS + 1) + 1)
 
 /* Stack that is enough for any call but puxerdau_list, and for puxerdau_list: measured on the archive that the kit `rattle-kit-5b-plain`
- * (`rt version`) makes. puxerdau_read and puxerdau_import used about 131 kB; the most were 168,384 bytes, by puxerdau_walk, and 385,176. */
+ * (`rt version`) makes. puxerdau_read and puxerdau_import used about 131 kB; the most were 168,416 bytes, by puxerdau_walk, and 385,160. */
 #define PUXERDAU_STACK_BYTES 196608
 #define PUXERDAU_LIST_STACK_BYTES 524288
 
@@ -88,7 +88,8 @@ enum puxerdau_refusal_number {
     PUXERDAU_FILE_FORM = 13     /* a file is not in the stated form, or a line of it not in its place */
 };
 
-enum puxerdau_route_kind { PUXERDAU_ITSELF = 0, PUXERDAU_LOW = 1, PUXERDAU_THROUGH = 2, PUXERDAU_NO_ROUTE = 3 };
+/* How a report is attained. PUXERDAU_LINK came with version 2. */
+enum puxerdau_route_kind { PUXERDAU_ITSELF = 0, PUXERDAU_LOW = 1, PUXERDAU_THROUGH = 2, PUXERDAU_NO_ROUTE = 3, PUXERDAU_LINK = 4 };
 enum puxerdau_verdict_kind { PUXERDAU_PARTED = 0, PUXERDAU_LONG = 1, PUXERDAU_SHORT = 2 };
 
 /* The parts of an answer. Each is 0 in an answer that was refused, but for the refusal. */
@@ -130,18 +131,20 @@ uint64_t puxerdau_export(size_t n, const uint32_t *starts, size_t starts_length,
 /* Whether the two lists are a survey's. Refused 2, 8 or 9. */
 uint64_t puxerdau_accept(size_t n, const uint32_t *starts, size_t starts_length, const uint16_t *neighbours, size_t neighbours_length);
 
-/* Builds the tables: n * n entries each, row by row, and n entries of `hubs` (the hubs in the order chosen, then none). If refused
- * (2, 8 or 9), nothing is altered; else the lists are as they were past those entries. Answers the count of hubs. */
+/* Builds the tables: n * n entries each, row by row, and n entries of `hubs` (the hubs in the order chosen, then none). Linked nodes have
+ * 1 in `report`. If refused (2, 8 or 9), nothing is altered; else the lists are as they were past those entries. Answers the count of
+ * hubs. */
 uint64_t puxerdau_build(size_t n, const uint32_t *starts, size_t starts_length, const uint16_t *neighbours, size_t neighbours_length,
                         uint16_t *full, size_t full_length, uint16_t *low, size_t low_length, uint16_t *report, size_t report_length,
                         uint16_t *hubs, size_t hubs_length);
 
-/* The report of a and b with its route, and the hub if the route goes through one. Refused 2, 8, 10 or 11. */
+/* The report of a and b with its route, and the hub if the route goes through one. A report of 1 between different nodes is by
+ * PUXERDAU_LINK, whatever the other tables hold. Tables of earlier versions are asked and walked as they say. Refused 2, 8, 10 or 11. */
 uint64_t puxerdau_ask(size_t n, const uint16_t *full, size_t full_length, const uint16_t *low, size_t low_length,
                       const uint16_t *report, size_t report_length, size_t a, size_t b);
 
-/* Writes the walk of a and b: report + 1 nodes, then none. If refused (2, 8 to 11), or with no route, every entry is none. Answers
- * as asking does. */
+/* Writes the walk of a and b: report + 1 nodes, then none. By PUXERDAU_LINK these are a and b; where the two lists do not link them it is
+ * refused 11. If refused (2, 8 to 11), or with no route, every entry is none. Answers as asking does. */
 uint64_t puxerdau_walk(size_t n, const uint32_t *starts, size_t starts_length, const uint16_t *neighbours, size_t neighbours_length,
                        const uint16_t *full, size_t full_length, const uint16_t *low, size_t low_length, const uint16_t *report,
                        size_t report_length, size_t a, size_t b, uint16_t *walk, size_t walk_length);

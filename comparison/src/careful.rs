@@ -455,10 +455,25 @@ pub fn build(
         search(starts, neighbours, n, h, &mut full[h * n..(h + 1) * n]);
     }
     fill_low(n, s, starts, neighbours, &mut low[..size]);
+    fill_report(n, starts, neighbours, &chosen, full, low, report);
+    Ok(chosen.len())
+}
+
+/// Report row by row: the least of Low and the sums through hubs, but 0 at the node itself and 1 at its neighbours.
+#[inline(always)] // building is faster so
+fn fill_report(
+    n: usize,
+    starts: &[u32],
+    neighbours: &[u16],
+    hubs: &[u16],
+    full: &[u16],
+    low: &[u16],
+    report: &mut [u16],
+) {
     for a in 0..n {
         let row = &mut report[a * n..(a + 1) * n];
         row.copy_from_slice(&low[a * n..(a + 1) * n]);
-        for &h in &chosen {
+        for &h in hubs {
             let other = &full[h as usize * n..(h as usize + 1) * n];
             let x = other[a];
             for (entry, &y) in row.iter_mut().zip(other) {
@@ -466,8 +481,10 @@ pub fn build(
             }
         }
         row[a] = 0;
+        for &b in neighbours_of(starts, neighbours, a) {
+            row[b as usize] = 1;
+        }
     }
-    Ok(chosen.len())
 }
 
 /// Low from many sources at once, or where that goes deep from one low node after the other.
@@ -609,6 +626,8 @@ pub fn ask(
         Route::Itself
     } else if r == NONE {
         Route::NoRoute
+    } else if r == 1 {
+        Route::Link
     } else if low[a * n + b] == r {
         Route::Low
     } else {
@@ -645,6 +664,13 @@ fn part(
     (here == goal).then_some(nodes)
 }
 
+/// A link's two nodes, where the lists have it.
+fn link(starts: &[u32], neighbours: &[u16], a: usize, b: usize) -> Option<Vec<u16>> {
+    let row = neighbours_of(starts, neighbours, a);
+    let linked = row.binary_search(&(b as u16)).is_ok();
+    linked.then(|| vec![a as u16, b as u16])
+}
+
 #[allow(clippy::too_many_arguments)] // the lists are lent one by one
 pub fn walk(
     n: usize,
@@ -670,6 +696,7 @@ pub fn walk(
     let nodes = match answer.route {
         Route::NoRoute => Vec::new(),
         Route::Itself => vec![a as u16],
+        Route::Link => link(starts, neighbours, a, b).ok_or(11)?,
         Route::Low => part(starts, neighbours, threshold(n), |x| low[x * n + b], a, b).ok_or(11)?,
         Route::Through(h) => {
             let row = &full[h as usize * n..(h as usize + 1) * n];

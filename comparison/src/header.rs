@@ -46,7 +46,13 @@ pub const SEARCHES: Part = Part::new("searches", raw::header_searches);
 
 /// Whether the header's refusals are 1 to 13, and its routes, verdicts and none those of the second implementation.
 pub fn check_constants() -> Result<(), String> {
-    let routes = [Route::Itself, Route::Low, Route::Through(0), Route::NoRoute];
+    let routes = [
+        Route::Itself,
+        Route::Low,
+        Route::Through(0),
+        Route::NoRoute,
+        Route::Link,
+    ];
     let verdicts = [Verdict::Parted, Verdict::Long, Verdict::Short];
     let numbers = (1..=13)
         .chain(routes.map(Route::number))

@@ -27,6 +27,7 @@ pub struct Lent {
     pub report: Vec<u16>,
     pub hubs: Vec<u16>,
     pub walk: Vec<u16>,
+    /// The pairs that are asked and walked. They are not linked, so that an archive from before linked nodes reported 1 answers alike.
     pub pairs: Vec<(usize, usize)>,
 }
 
@@ -52,13 +53,23 @@ impl Lent {
             report: vec![1; n * n],
             hubs: vec![1; n],
             walk: vec![1; 2 * n],
-            pairs: (0..PAIRS)
-                .map(|_| (random.below(n), random.below(n)))
+            pairs: std::iter::repeat_with(|| (random.below(n), random.below(n)))
+                .filter(|&(a, b)| !sample.linked[a][b])
+                .take(PAIRS)
                 .collect(),
             starts,
             neighbours,
         }
     }
+}
+
+/// Pairs of linked nodes, some of them more than once where there are few links.
+pub fn linked_pairs(sample: &Sample) -> Vec<(usize, usize)> {
+    let mut random = Random::new(sample.n as u64);
+    let links = sample.links();
+    (0..PAIRS)
+        .map(|_| links[random.below(links.len())])
+        .collect()
 }
 
 /// The time given to each measurement, by the program's argument.
@@ -93,7 +104,7 @@ pub fn least(budget: Duration, mut call: impl FnMut()) -> f64 {
 macro_rules! times {
     ($lent:expr, $budget:expr, $module:path) => {{
         use std::hint::black_box;
-        use $crate::timing::{least, Lent, PAIRS};
+        use $crate::timing::{least, Lent};
         use $module as calls;
         let x: &mut Lent = $lent;
         let read = least($budget, || {
@@ -120,6 +131,22 @@ macro_rules! times {
                 &mut x.hubs,
             ));
         });
+        let [ask, walk] = $crate::pair_times!(x, $budget, $module);
+        let test = least($budget, || {
+            let _ = black_box(calls::test(x.n, &x.starts, &x.neighbours));
+        });
+        [read, write, accept, build, ask, walk, test]
+    }};
+}
+
+/// The times of asking and walking one of the pairs, with the tables as they are.
+#[macro_export]
+macro_rules! pair_times {
+    ($lent:expr, $budget:expr, $module:path) => {{
+        use std::hint::black_box;
+        use $crate::timing::{least, Lent};
+        use $module as calls;
+        let x: &mut Lent = $lent;
         let ask = least($budget, || {
             for &(a, b) in &x.pairs {
                 let _ = black_box(calls::ask(x.n, &x.full, &x.low, &x.report, a, b));
@@ -140,10 +167,7 @@ macro_rules! times {
                 ));
             }
         });
-        let test = least($budget, || {
-            let _ = black_box(calls::test(x.n, &x.starts, &x.neighbours));
-        });
-        let pairs = PAIRS as f64;
-        [read, write, accept, build, ask / pairs, walk / pairs, test]
+        let pairs = x.pairs.len() as f64;
+        [ask / pairs, walk / pairs]
     }};
 }

@@ -10,16 +10,18 @@ pub enum Route {
     Low,
     Through(u16),
     NoRoute,
+    Link,
 }
 
 impl Route {
-    /// Which of the four routes.
+    /// Which of the five routes.
     pub fn number(self) -> u16 {
         match self {
             Route::Itself => 0,
             Route::Low => 1,
             Route::Through(_) => 2,
             Route::NoRoute => 3,
+            Route::Link => 4,
         }
     }
 
@@ -27,7 +29,7 @@ impl Route {
     pub fn hub_number(self) -> u16 {
         match self {
             Route::Through(h) => h,
-            Route::Itself | Route::Low | Route::NoRoute => 0,
+            Route::Itself | Route::Low | Route::NoRoute | Route::Link => 0,
         }
     }
 }
@@ -71,6 +73,10 @@ fn find_route(
     if report == NONE {
         return Some(Route::NoRoute);
     }
+    // Whatever Low and Full hold: only a walk has the lists.
+    if report == 1 {
+        return Some(Route::Link);
+    }
     if low[a * n + b] == report {
         return Some(Route::Low);
     }
@@ -104,6 +110,7 @@ pub fn walk(
     let nodes = match answer.route {
         Route::NoRoute => Vec::new(),
         Route::Itself => vec![a],
+        Route::Link => walk_link(&graph, a, b)?,
         Route::Low => walk_low(&graph, low, a, b)?,
         Route::Through(h) => walk_through(&graph, full, h as usize, a, b)?,
     };
@@ -115,6 +122,15 @@ pub fn walk(
         *entry = v as u16;
     }
     Ok(answer)
+}
+
+/// The walk along the link of a and b.
+fn walk_link(graph: &Graph, a: usize, b: usize) -> Result<Vec<usize>, u8> {
+    if graph.is_linked(a, b) {
+        Ok(vec![a, b])
+    } else {
+        Err(11)
+    }
 }
 
 /// The walk from a to b over low nodes.

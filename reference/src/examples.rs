@@ -1,16 +1,11 @@
 //! The outcomes of the rules' examples that are not starred, one fact per
 //! line. NOTES.md describes the line format.
 
+use crate::common::{COURSE, SENT_BACK, SEPARATE_NODE};
 use reference::{ask, build, read, reports, walk, write, Answer, Route, NONE};
-
-const COURSE: &str = "S,6,6\nL,0,5\nL,1,5\nL,2,5\nL,3,5\nL,4,5\nL,1,2\n";
 
 /// The course survey's links in another order, some ends turned round.
 const COURSE_TURNED: &str = "S,6,6\nL,2,1\nL,5,4\nL,3,5\nL,5,0\nL,2,5\nL,5,1\n";
-
-/// The course survey with a seventh node that has no link. Node 0 is the
-/// hub, so pairs with node 6 have a none in their hub sum.
-const SEPARATE_NODE: &str = "S,7,6\nL,0,5\nL,1,5\nL,2,5\nL,3,5\nL,4,5\nL,1,2\n";
 
 /// A survey with its tables.
 struct Built {
@@ -39,6 +34,9 @@ pub fn all() -> Result<String, u8> {
     let course = built(COURSE)?;
     lines += &walked("course", &course, 0, 3)?;
     lines += &walked("course", &course, 5, 3)?;
+    let sent_back = built(SENT_BACK)?;
+    lines += &walked("sent-back", &sent_back, 0, 2)?;
+    lines += &walked("sent-back", &sent_back, 3, 2)?;
     lines += &low_table("course", &course);
     lines += &hub_list("course", &course);
     let separate_node = built(SEPARATE_NODE)?;
@@ -143,6 +141,7 @@ fn show_answer(answer: Answer) -> String {
     let report = show_entry(answer.report);
     match answer.route {
         Route::Itself => format!("{report},itself"),
+        Route::Link => format!("{report},link"),
         Route::Low => format!("{report},low"),
         Route::Through(h) => format!("{report},{h}"),
         Route::NoRoute => format!("{report},-"),

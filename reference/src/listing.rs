@@ -46,6 +46,7 @@ fn list_pairs(text: &[u8]) -> Result<String, u8> {
 /// The report and the route as two fields.
 fn show_answer(answer: Answer) -> String {
     match answer.route {
+        Route::Link => format!("{},link", answer.report),
         Route::Low => format!("{},low", answer.report),
         Route::Through(h) => format!("{},{h}", answer.report),
         Route::NoRoute => String::from("-,-"),

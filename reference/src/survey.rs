@@ -69,6 +69,10 @@ impl<'a> Graph<'a> {
         self.neighbours(v).len()
     }
 
+    pub fn is_linked(&self, a: usize, b: usize) -> bool {
+        self.neighbours(a).contains(&(b as u16))
+    }
+
     /// The fewest links from `start` to each node over nodes of `within`
     /// only; none where there is no such chain. `start` is in `within`.
     pub fn distances(&self, start: usize, within: &[bool]) -> Vec<u16> {
@@ -109,7 +113,7 @@ impl<'a> Graph<'a> {
         (0..self.n).all(|a| {
             self.neighbours(a)
                 .iter()
-                .all(|&b| self.neighbours(b as usize).contains(&(a as u16)))
+                .all(|&b| self.is_linked(b as usize, a))
         })
     }
 }

@@ -35,7 +35,7 @@ pub fn build(
     // Entries past the first n * n keep their values.
     fill_full(&graph, &chosen, full);
     fill_low(&graph, &low_nodes, low);
-    fill_report(n, &chosen, full, low, report);
+    fill_report(&graph, &chosen, full, low, report);
     hubs[..n].fill(NONE);
     for (place, &h) in chosen.iter().enumerate() {
         hubs[place] = h as u16;
@@ -110,12 +110,15 @@ fn fill_low(graph: &Graph, low_nodes: &[bool], low: &mut [u16]) {
     }
 }
 
-/// The least candidate of every pair, 0 on the diagonal.
-fn fill_report(n: usize, hubs: &[usize], full: &[u16], low: &[u16], report: &mut [u16]) {
+/// 0 on the diagonal, 1 for linked nodes, else the least candidate.
+fn fill_report(graph: &Graph, hubs: &[usize], full: &[u16], low: &[u16], report: &mut [u16]) {
+    let n = graph.node_count();
     for a in 0..n {
         for b in 0..n {
             report[a * n + b] = if a == b {
                 0
+            } else if graph.is_linked(a, b) {
+                1
             } else {
                 least_candidate(n, hubs, full, low, a, b)
             };

@@ -1,19 +1,16 @@
 //! Makes the script that the Rattle program `test_tables` is run on:
 //! the rules' examples, surveys of many shapes, wrong lengths and
-//! numbers, lists that are no survey's, and altered tables.
+//! numbers, lists that are no survey's, and altered or older tables.
 
 use crate::common::{
-    blocks, complete_and_path, cycle, from_links, joined_blocks, path, random_links, star, tree,
-    two_parts, Built, Random, Sample, COURSE,
+    blocks, complete_and_path, course, cycle, from_links, joined_blocks, path, random_links, star,
+    tree, two_parts, Built, Random, Sample, COURSE, SENT_BACK, SEPARATE_NODE,
 };
 use crate::test_surveys_input::{line, read_into};
 use crate::test_tables::{
     Numbers, FULL, HUBS, LENGTHS, LOW, NEIGHBOURS, NODES, REPORT, STARTS, WALK,
 };
 use reference::NONE;
-
-/// The course survey with a seventh node that has no link.
-const SEPARATE_NODE: &str = "S,7,6\nL,0,5\nL,1,5\nL,2,5\nL,3,5\nL,4,5\nL,1,2\n";
 
 /// Tables of at most so many nodes are printed whole.
 const MOST_PRINTED: usize = 40;
@@ -35,6 +32,14 @@ pub fn make() -> Vec<u8> {
         altered_tables(&mut maker, &sample, &mut random);
     }
     altered_by_hand(&mut maker);
+    for sample in [course(), path(4), blocks(5, 1), Sample::new("no link", 2)] {
+        all_ones(&mut maker, &sample);
+    }
+    for sample in [course(), star(10, 3), joined_blocks(12, 2)] {
+        before_links(&mut maker, &sample);
+    }
+    ones_by_hand(&mut maker);
+    zeros_by_hand(&mut maker);
     maker.script
 }
 
@@ -114,11 +119,11 @@ fn exact(n: usize, m: usize) -> Numbers {
 /// - rule 12.2, and the course survey: the listing of the course survey,
 ///   which is its hub count and the answers of all pairs; `S,1025,0`;
 ///   `S,2,16385`; `S,2,0`.
-/// - rule 12.3: the walks (0, 3) and (5, 3) of the course
-///   survey, along which 0 and 5 would send each other back; its table Low,
-///   where both ends of a link are low; its hub list; and a sum with a none
-///   in it, which the rules name no survey for: `SEPARATE_NODE` has
-///   Full(0, 6) none, and a sum that wraps would report 0 for (5, 6).
+/// - rule 12.3: the walks (0, 2) and (3, 2) of `SENT_BACK`, along which 0
+///   and 3 would send each other back; the course survey's table Low, where
+///   both ends of a link are low; its hub list; and a sum with a none in it,
+///   which the rules name no survey for: `SEPARATE_NODE` has Full(0, 6) none,
+///   and a sum that wraps would report 0 for (5, 6).
 ///
 /// The starred ones are run too: the course survey's hub, its report and
 /// walk (1, 3) and its report (5, 5); the tests of `S,1,0`, of the chain
@@ -130,6 +135,7 @@ fn examples(maker: &mut Maker) {
         (COURSE, 6, 6),
         ("S,2,0\n", 2, 0),
         (SEPARATE_NODE, 7, 6),
+        (SENT_BACK, 7, 6),
         ("S,1,0\n", 1, 0),
         (&chain, 5, 4),
         (five_nodes, 5, 5),
@@ -227,9 +233,8 @@ fn shapes(random: &mut Random) -> Vec<Sample> {
 
 /// Surveys for wrong and altered lists.
 fn small_shapes(random: &mut Random) -> Vec<Sample> {
-    let course = [(0, 5), (1, 5), (2, 5), (3, 5), (4, 5), (1, 2)];
     vec![
-        from_links("course", 6, &course),
+        course(),
         Sample::new("no link", 1),
         path(4),
         cycle(7),
@@ -452,16 +457,16 @@ fn altered_by_hand(maker: &mut Maker) {
         (b'L', 1, 3, none),
     ];
     alter(maker, &cycle(7), &longer_way);
-    // Sums of two entries of Full that need more than 16 bits: 1 and none
-    // if they wrapped. Then sums of 65,535 and 65,534.
+    // Sums of two entries of Full that need more than 16 bits: the report if
+    // they wrapped. Then sums of 65,535 and 65,534, and sums with a none.
     for (to_a, to_b, report) in [
-        (65534, 3, 1),
+        (65534, 4, 2),
         (32768, 32768, 0),
         (65534, 65534, 65532),
         (32767, 32768, 65535),
         (32767, 32767, 65534),
-        (none, 2, 1),
-        (2, none, 1),
+        (none, 3, 2),
+        (3, none, 2),
     ] {
         let entries = [
             (b'P', 0, 3, report),
@@ -495,19 +500,110 @@ fn altered_by_hand(maker: &mut Maker) {
     alter(maker, &sample, &[(b'L', 1, 3, 1)]);
 }
 
-/// Builds, changes entries (letter, row, column, entry), and asks and walks
-/// the pair (0, 3).
-fn alter(maker: &mut Maker, sample: &Sample, entries: &[(u8, usize, usize, usize)]) {
+/// An entry of a table: its letter, its row, its column, and what it becomes.
+type Entry = (u8, usize, usize, usize);
+
+/// Changes entries, then asks and walks the pair (0, 3).
+fn alter(maker: &mut Maker, sample: &Sample, entries: &[Entry]) {
+    // Refused 11 before the list's length is judged.
+    alter_pair(maker, sample, (0, 3), entries, &[2 * sample.n, 0]);
+}
+
+/// Builds, changes entries, and asks a pair and walks it into lists of the
+/// given lengths.
+fn alter_pair(
+    maker: &mut Maker,
+    sample: &Sample,
+    (a, b): (usize, usize),
+    entries: &[Entry],
+    lengths: &[usize],
+) {
     let n = sample.n;
     maker.read(&sample.text());
     maker.numbers(&exact(n, sample.links().len()));
     maker.build();
-    for &(letter, a, b, entry) in entries {
-        maker.put(letter, a * n + b, entry);
+    for &(letter, row, column, entry) in entries {
+        maker.put(letter, row * n + column, entry);
     }
-    maker.ask(0, 3);
-    maker.walk(0, 3);
-    // Refused 11 before the list's length is judged.
-    maker.number(WALK, 0);
-    maker.walk(0, 3);
+    maker.ask(a, b);
+    for &length in lengths {
+        maker.number(WALK, length);
+        maker.walk(a, b);
+    }
+}
+
+/// Lengths around the two entries that a link's walk wants.
+const LINK_LENGTHS: [usize; 4] = [0, 1, 2, 3];
+
+/// A report of 1 for every pair: asking has no lists, and a walk is refused
+/// 11 where they do not link the pair.
+fn all_ones(maker: &mut Maker, sample: &Sample) {
+    let n = sample.n;
+    maker.read(&sample.text());
+    maker.numbers(&exact(n, sample.links().len()));
+    maker.build();
+    let pairs = || (0..n * n).map(|place| (place / n, place % n));
+    for place in 0..n * n {
+        maker.put(b'P', place, 1);
+    }
+    for (a, b) in pairs() {
+        maker.ask(a, b);
+    }
+    for length in LINK_LENGTHS {
+        maker.number(WALK, length);
+        for (a, b) in pairs() {
+            maker.walk(a, b);
+        }
+    }
+}
+
+/// Tables from before linked nodes reported 1 are walked as they say.
+fn before_links(maker: &mut Maker, sample: &Sample) {
+    let n = sample.n;
+    let older = Built::of_sample(sample).before_links(sample);
+    maker.read(&sample.text());
+    maker.numbers(&exact(n, sample.links().len()));
+    maker.build();
+    for (a, b) in sample.links() {
+        let report = usize::from(older.report[a * n + b]);
+        maker.put(b'P', a * n + b, report);
+        maker.ask(a, b);
+        for length in [report + 1, report] {
+            maker.number(WALK, length);
+            maker.walk(a, b);
+        }
+    }
+}
+
+/// A report of 1 in the course survey's tables: at a node itself, and
+/// elsewhere where Low attains it, or a hub, or both, or neither.
+fn ones_by_hand(maker: &mut Maker) {
+    let (sample, none) = (course(), usize::from(NONE));
+    alter_pair(maker, &sample, (3, 3), &[(b'P', 3, 3, 1)], &LINK_LENGTHS);
+    for (a, b) in [(0, 5), (1, 2), (3, 5), (1, 3)] {
+        for low in [1, none] {
+            for to_itself in [0, none] {
+                let entries = [
+                    (b'P', a, b, 1),
+                    (b'L', a, b, low),
+                    (b'F', a, a, to_itself),
+                    (b'F', a, b, 1),
+                ];
+                alter_pair(maker, &sample, (a, b), &entries, &LINK_LENGTHS);
+            }
+        }
+    }
+}
+
+/// A report of 0 for different nodes, linked and not: nothing attains it, or
+/// Low does, or a hub.
+fn zeros_by_hand(maker: &mut Maker) {
+    for (a, b) in [(3, 5), (1, 2), (1, 3)] {
+        let zero = (b'P', a, b, 0);
+        let by_low = [zero, (b'L', a, b, 0)];
+        let by_hub = [zero, (b'F', 4, a, 0), (b'F', 4, b, 0)];
+        for entries in [&[zero][..], &by_low, &by_hub] {
+            alter_pair(maker, &course(), (a, b), entries, &LINK_LENGTHS);
+        }
+    }
 }

@@ -278,9 +278,9 @@ fn ask_refusal_order() {
     ] {
         assert_eq!(ask(6, full, low, report, a, b), Err(10));
     }
-    let ones = vec![1; 36];
-    assert_eq!(ask(6, full, low, &ones, 3, 3), Err(11));
-    assert_eq!(ask(6, full, low, &ones, 1, 3), Err(11));
+    let threes = vec![3; 36];
+    assert_eq!(ask(6, full, low, &threes, 3, 3), Err(11));
+    assert_eq!(ask(6, full, low, &threes, 1, 3), Err(11));
 }
 
 /// The refusal of a walk; the list must be all none when refused.

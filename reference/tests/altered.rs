@@ -12,6 +12,8 @@ struct Seen {
     no_route: usize,
     no_attaining_route: usize,
     failed_walk: usize,
+    written_link: usize,
+    failed_link: usize,
 }
 
 /// A value near the old one or at an edge of the range.
@@ -47,12 +49,11 @@ fn attain(random: &mut Random, built: &mut Built, a: usize, b: usize) {
     let n = built.n;
     let h = random.below(n);
     let sum = built.full[h * n + a].saturating_add(built.full[h * n + b]);
-    let report = if random.percent(50) {
-        built.low[a * n + b]
-    } else {
-        sum
+    built.report[a * n + b] = match random.below(5) {
+        0 => 1,
+        1 | 2 => built.low[a * n + b],
+        _ => sum,
     };
-    built.report[a * n + b] = report;
 }
 
 /// Asks and walks one pair, and compares with the second statement.
@@ -71,9 +72,11 @@ fn check_pair(
         return;
     };
     let nodes = expected_walk(sample, built, low_nodes, route, a, b);
+    let by_link = usize::from(route == Route::Link);
     let Some(nodes) = nodes else {
         check_refused_walk(built, a, b);
         seen.failed_walk += 1;
+        seen.failed_link += by_link;
         return;
     };
     let mut list = vec![3; 2 * built.n + 3];
@@ -90,6 +93,7 @@ fn check_pair(
     assert!(is_chain(sample, written, a, b, report), "{}", sample.name);
     check_short_list(built, a, b, report);
     seen.written += 1;
+    seen.written_link += by_link;
 }
 
 /// Refused 11 in a list that is long enough and in one that is not.
@@ -130,6 +134,7 @@ fn altered_tables() {
     println!("{seen:?}");
     assert!(seen.written > 10_000 && seen.no_route > 1000);
     assert!(seen.no_attaining_route > 1000 && seen.failed_walk > 1000);
+    assert!(seen.written_link > 1000 && seen.failed_link > 1000);
 }
 
 /// Tables that hold nothing but random values.
@@ -180,15 +185,16 @@ fn course_survey_altered() {
     altered.report[1] = 0;
     altered.low[1] = 0;
     assert_eq!(outcome(&altered, 0, 1), (Ok(Route::Low), Err(11)));
-    // Low from a high node: the route holds, and the one step leads to 0.
-    altered.report[5 * 6] = 1;
-    altered.low[5 * 6] = 1;
-    assert_eq!(outcome(&altered, 5, 0), (Ok(Route::Low), Ok(1)));
-    // Low to a high node: no low neighbour leads on.
-    altered.report[5] = 1;
-    altered.low[5] = 1;
+    // Low from a high node: the route holds, and the steps are 5, 1, 2.
+    altered.report[5 * 6 + 2] = 2;
+    altered.low[5 * 6 + 2] = 2;
+    assert_eq!(outcome(&altered, 5, 2), (Ok(Route::Low), Ok(2)));
+    // Low to a high node: from 2 no low neighbour leads on.
+    altered.report[6 + 5] = 2;
+    altered.low[6 + 5] = 2;
+    altered.low[2 * 6 + 5] = 1;
     altered.low[35] = 0;
-    assert_eq!(outcome(&altered, 0, 5), (Ok(Route::Low), Err(11)));
+    assert_eq!(outcome(&altered, 1, 5), (Ok(Route::Low), Err(11)));
 }
 
 /// A sum of two entries is not taken within 16 bits.

@@ -22,6 +22,8 @@ fn check_report(expected: &Expected, answer: Answer, a: usize, b: usize) {
     if distance < UNJOINED {
         let report = answer.report as usize;
         assert!(distance <= report && report <= distance + 2);
+        // Linked nodes report 1, so what reports 2 is two links apart.
+        assert!(report > 2 || report == distance);
     }
 }
 

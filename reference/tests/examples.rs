@@ -2,14 +2,14 @@
 
 mod common;
 
-use common::{from_links, Built, COURSE};
+use common::{from_links, Built, COURSE, SENT_BACK, SEPARATE_NODE};
 use reference::{read, reports, test, threshold, write, Answer, Route, Tested, Verdict, NONE};
 use std::io::Write;
 use std::process::{Command, Stdio};
 
-const COURSE_LISTING: &str = "R,6,1\nP,0,1,2,0\nP,0,2,2,0\nP,0,3,2,0\nP,0,4,2,0\nP,0,5,1,0\n\
-    P,1,2,1,low\nP,1,3,4,0\nP,1,4,4,0\nP,1,5,3,0\nP,2,3,4,0\nP,2,4,4,0\nP,2,5,3,0\n\
-    P,3,4,4,0\nP,3,5,3,0\nP,4,5,3,0\n";
+const COURSE_LISTING: &str = "R,6,1\nP,0,1,2,0\nP,0,2,2,0\nP,0,3,2,0\nP,0,4,2,0\n\
+    P,0,5,1,link\nP,1,2,1,link\nP,1,3,4,0\nP,1,4,4,0\nP,1,5,1,link\nP,2,3,4,0\nP,2,4,4,0\n\
+    P,2,5,1,link\nP,3,4,4,0\nP,3,5,1,link\nP,4,5,1,link\n";
 
 fn refusal_of(text: &str) -> u8 {
     read(text.as_bytes(), &mut [9; 1025], &mut [9; 32768]).unwrap_err()
@@ -87,21 +87,25 @@ fn course_reports_and_walks() {
     assert_eq!(built.ask(5, 5), Ok(itself));
     assert_eq!(built.full[5] + built.full[5], 2);
     assert_eq!(walk_nodes(&built, 5, 5), [5]);
-    assert_eq!(
-        built.ask(1, 2),
-        Ok(Answer {
-            report: 1,
-            route: Route::Low
-        })
-    );
-    assert_eq!(walk_nodes(&built, 1, 2), [1, 2]);
+    let link = Answer {
+        report: 1,
+        route: Route::Link,
+    };
+    for (a, b) in [(0, 5), (1, 2), (1, 5), (2, 5), (3, 5), (4, 5)] {
+        assert_eq!((built.ask(a, b), built.ask(b, a)), (Ok(link), Ok(link)));
+        assert_eq!(walk_nodes(&built, a, b), [a as u16, b as u16]);
+        assert_eq!(walk_nodes(&built, b, a), [b as u16, a as u16]);
+    }
 }
 
 #[test]
 fn course_errors() {
     let built = Built::of_text(COURSE);
     assert_eq!(walk_nodes(&built, 0, 3), [0, 5, 3]);
-    assert_eq!(walk_nodes(&built, 5, 3), [5, 0, 5, 3]);
+    assert_eq!(walk_nodes(&built, 5, 3), [5, 3]);
+    let sent_back = Built::of_text(SENT_BACK);
+    assert_eq!(walk_nodes(&sent_back, 0, 2), [0, 3, 5, 2]);
+    assert_eq!(walk_nodes(&sent_back, 3, 2), [3, 0, 3, 5, 2]);
     let mut low = vec![NONE; 36];
     for v in 0..5 {
         low[v * 6 + v] = 0;
@@ -110,7 +114,7 @@ fn course_errors() {
     low[2 * 6 + 1] = 1;
     assert_eq!(built.low, low);
     // With a seventh node apart, every hub sum with it holds a none.
-    let separate = Built::of_text(&COURSE.replace("S,6,6", "S,7,6"));
+    let separate = Built::of_text(SEPARATE_NODE);
     assert_eq!(separate.hub_count, 1);
     for v in 0..6 {
         let expected = Answer {

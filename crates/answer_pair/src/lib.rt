@@ -84,7 +84,11 @@ pub fn pair_answer(
     if r == NONE {
         return answer_by(NONE, Route::NoRoute);
     }
-    if entry_at(n, low, a, b) == r {
+    let l = entry_at(n, low, a, b);
+    if r == 1 {
+        return answer_by(1, Route::Link);
+    }
+    if l == r {
         return answer_by(r, Route::Low);
     }
     let h = attaining_hub(n, full, a, b, r);
@@ -109,7 +113,8 @@ pub fn tables_short(n: usize, full: &[u16], low: &[u16], report: &[u16]) -> bool
     report.len() < size
 }
 
-// Asking a pair: the report with its route. With the tables built from a survey it is not refused, and the report is allowed.
+// Asking a pair: the report with its route. With the tables built from a survey it is not refused, and the report is allowed, and 1 by
+// link exactly for linked nodes.
 pub fn ask(n: usize, full: &[u16], low: &[u16], report: &[u16], a: usize, b: usize) -> Asking
     ensures { λ r. ⌜ pairAnswer r ≡ asking n (now (full .entry)) (now (low .entry)) (now (report .entry)) a b ⌝ }
     ensures { λ r. ⌜ AskRight n (now (full .entry)) (now (low .entry)) (now (report .entry)) a b (pairAnswer r) ⌝ }

@@ -8,7 +8,7 @@ use lib.Bits.{and-mask}
 use Rattle.model.specs.declared.Refusal.{Refusal}
 use Rattle.model.specs.declared.Size.{Size}
 use Rattle.model.specs.declared.Route.{Route}
-use Rattle.model.specs.declared.Route.the-variants.{Itself, Low, Through, NoRoute}
+use Rattle.model.specs.declared.Route.the-variants.{Itself, Low, Through, NoRoute, Link}
 use Rattle.model.specs.declared.Answer.{Answer}
 use Rattle.model.specs.declared.Verdict.{Verdict}
 use Rattle.model.specs.declared.Verdict.the-variants.{Parted, Long, Short}
@@ -64,12 +64,14 @@ route-back Itself = refl
 route-back Low = refl
 route-back (Through h) = refl
 route-back NoRoute = refl
+route-back Link = refl
 
 route-small : (t : Route) → routeNumber t < 65536
 route-small Itself = omega arith
 route-small Low = omega arith
 route-small (Through h) = omega arith
 route-small NoRoute = omega arith
+route-small Link = omega arith
 
 pub pair-back : (x : Answer) → x .report < 65536 → answerIn (65536 * answerField x) ≡ x
 unfolding answerIn

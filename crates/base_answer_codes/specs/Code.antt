@@ -7,7 +7,7 @@ use lib.Bits.{bitAnd}
 use lib.Dec.{eqb}
 use Rattle.model.specs.declared.Size.{Size}
 use Rattle.model.specs.declared.Route.{Route}
-use Rattle.model.specs.declared.Route.the-variants.{Itself, Low, Through, NoRoute}
+use Rattle.model.specs.declared.Route.the-variants.{Itself, Low, Through, NoRoute, Link}
 use Rattle.model.specs.declared.Answer.{Answer}
 use Rattle.model.specs.declared.Verdict.{Verdict}
 use Rattle.model.specs.declared.Verdict.the-variants.{Parted, Long, Short}
@@ -43,6 +43,7 @@ routeNumber Itself = 0
 routeNumber Low = 1
 routeNumber (Through h) = 2
 routeNumber NoRoute = 3
+routeNumber Link = 4
 
 -- the hub that a route goes through, or 0
 abbrev pub hubNumber : Route → ℕ
@@ -50,6 +51,7 @@ hubNumber Itself = 0
 hubNumber Low = 0
 hubNumber (Through h) = h
 hubNumber NoRoute = 0
+hubNumber Link = 0
 
 -- three fields of 16 bits: the report, the route, its hub
 abbrev pub answerField : Answer → ℕ
@@ -85,7 +87,7 @@ unfoldable pub sizeIn : ℕ → Size
 sizeIn x = record { nodes = field 16 x; links = field 32 x }
 
 unfoldable pub routeIn : (number hub : ℕ) → Route
-routeIn k h = if eqb k 0 then Itself else if eqb k 1 then Low else if eqb k 2 then Through h else NoRoute
+routeIn k h = if eqb k 0 then Itself else if eqb k 1 then Low else if eqb k 2 then Through h else if eqb k 3 then NoRoute else Link
 
 -- the hub is `x >> 48`
 unfoldable pub answerIn : ℕ → Answer

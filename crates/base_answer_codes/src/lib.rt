@@ -46,13 +46,14 @@ pub fn reading_code(x: Reading) -> u64
 
 pub fn route_number(x: Route) -> u64
     ensures { λ r. ⌜ r ≡ routeNumber x ⌝ }
-    ensures bounded { λ r. ⌜ r < 4 ⌝ }
+    ensures bounded { λ r. ⌜ r < 5 ⌝ }
 {
     match x {
         Route::Itself => 0,
         Route::Low => 1,
         Route::Through(_) => 2,
         Route::NoRoute => 3,
+        Route::Link => 4,
     }
 }
 
@@ -66,6 +67,7 @@ pub fn hub_number(x: Route) -> u64
         Route::Low => 0,
         Route::Through(h) => h as u64,
         Route::NoRoute => 0,
+        Route::Link => 0,
     }
 }
 

@@ -3,7 +3,7 @@ use model::Answer;
 use model::Asking;
 use model::NONE;
 use model::Route;
-ghost use mathlib.Core.List.{[], _∷_};
+ghost use mathlib.Core.List.{_∷_};
 ghost use Prim.Native.Nat.{_+_, _*_, _≤_, _<_};
 ghost use lib.ListN.{length};
 ghost use Rattle.base_lists.specs.Written.{Wrote};
@@ -11,22 +11,13 @@ ghost use Rattle.model.specs.Answers.{answered};
 ghost use Rattle.model.specs.Listing.{reportText, routeText, pairLine, pairLines};
 ghost use Rattle.listing_lines.specs.RowText.{answerText, rowText};
 
-// Writes two bytes at a place, and returns the place after them.
-fn write_two(buffer: &mut [u8], at: usize, x: u8, y: u8) -> usize
-    requires { ⌜ at + 2 ≤ length (now buffer) ⌝ }
-    ensures { λ r. ⌜ Wrote (now (buffer .entry)) (now (buffer .exit)) at r (x ∷ y ∷ []) ⌝ }
-{
-    let i = text_writing::write_byte(buffer, at, x);
-    text_writing::write_byte(buffer, i, y)
-}
-
 // Writes a comma and a report at a place, and returns the place after them.
 fn write_report(buffer: &mut [u8], at: usize, report: u16) -> usize
     requires { ⌜ at + length (44 ∷ reportText report) ≤ length (now buffer) ⌝ }
     ensures { λ r. ⌜ Wrote (now (buffer .entry)) (now (buffer .exit)) at r (44 ∷ reportText report) ⌝ }
 {
     if report == NONE {
-        return write_two(buffer, at, 44, 45);
+        return text_writing::write_text(buffer, at, b",-");
     }
     text_writing::write_field(buffer, at, 44, report as u32)
 }
@@ -37,13 +28,11 @@ fn write_route(buffer: &mut [u8], at: usize, route: Route) -> usize
     ensures { λ r. ⌜ Wrote (now (buffer .entry)) (now (buffer .exit)) at r (44 ∷ routeText route) ⌝ }
 {
     match route {
-        Route::Itself => text_writing::write_byte(buffer, at, 44),
-        Route::Low => {
-            let i = write_two(buffer, at, 44, 108);
-            write_two(buffer, i, 111, 119)
-        }
+        Route::Itself => text_writing::write_text(buffer, at, b","),
+        Route::Low => text_writing::write_text(buffer, at, b",low"),
         Route::Through(h) => text_writing::write_field(buffer, at, 44, h as u32),
-        Route::NoRoute => write_two(buffer, at, 44, 45),
+        Route::NoRoute => text_writing::write_text(buffer, at, b",-"),
+        Route::Link => text_writing::write_text(buffer, at, b",link"),
     }
 }
 

@@ -12,7 +12,7 @@ use lib.Dec.{T, eqb, ltb}
 use lib.ListN.{length, length-append}
 use Rattle.model.specs.declared.Refusal.{Refusal}
 use Rattle.model.specs.declared.Route.{Route}
-use Rattle.model.specs.declared.Route.the-variants.{Itself, Low, Through, NoRoute}
+use Rattle.model.specs.declared.Route.the-variants.{Itself, Low, Through, NoRoute, Link}
 use Rattle.model.specs.declared.Answer.{Answer}
 use Rattle.model.specs.Answers.{Outcome, number, refused, answered}
 use Rattle.model.specs.Basics.{none, from, upTo, has, keep, gather}
@@ -49,15 +49,15 @@ report-few r h = ⊎-elim
     (eq-or r none)
 
 module _ (a b : ℕ) (ha : a < 1000) (hb : b < 1000) where
-  line-few : (r : ℕ) (t : Route) → (r < 1000) ⊎ (r ≡ none) → length (routeText t) ≤ 3
+  line-few : (r : ℕ) (t : Route) → length (reportText r) + length (routeText t) ≤ 6
       → length (pairLine (a, b) (answered (withRoute r t))) ≤ 18
   unfolding pairLine
-  line-few r t hr ht =
+  line-few r t h =
       let e5 = length-append (routeText t) (10 ∷ []) in
       let e4 = length-append (reportText r) (44 ∷ (routeText t ++ 10 ∷ [])) in
       let e3 = length-append (digits b) (44 ∷ (reportText r ++ 44 ∷ (routeText t ++ 10 ∷ []))) in
       let e2 = length-append (digits a) (44 ∷ (digits b ++ 44 ∷ (reportText r ++ 44 ∷ (routeText t ++ 10 ∷ [])))) in
-      omega (arith, e2, e3, e4, e5, report-few r hr, length-le 2 a (omega arith), length-le 2 b (omega arith))
+      omega (arith, e2, e3, e4, e5, length-le 2 a (omega arith), length-le 2 b (omega arith))
 
   choice-few : (r l h : ℕ) → (r < 1000) ⊎ (r ≡ none) → ((h ≡ none → ⊥) → h < 1000) → length (pairLine (a, b) (choose a b r l h)) ≤ 18
   unfolding choose pairLine routeText
@@ -65,10 +65,15 @@ module _ (a b : ℕ) (ha : a < 1000) (hb : b < 1000) where
       let P : Outcome Answer → Type 0 = λ o. length (pairLine (a, b) o) ≤ 18 in
       let no : (k : ℕ) → P (refused k) = λ k. omega arith in
       picked P (eqb a b) _ _
-      (λ _. picked P (eqb r 0) _ _ (λ _. line-few 0 Itself (inl (omega arith)) (omega arith)) (λ _. no 11))
-      (λ _. picked P (eqb r none) _ _ (λ _. line-few none NoRoute (inr refl) (omega arith))
-      (λ _. picked P (eqb l r) _ _ (λ _. line-few r Low hr (omega arith))
-      (λ _. picked P (eqb h none) _ _ (λ _. no 11) (λ f. line-few r (Through h) hr (length-le 2 h (hh (eqb-false h none f)))))))
+      (λ _. picked P (eqb r 0) _ _ (λ _. line-few 0 Itself (omega (arith, report-few 0 (inl (omega arith))))) (λ _. no 11))
+      (λ _. picked P (eqb r none) _ _ (λ _. line-few none NoRoute (omega (arith, report-few none (inr refl))))
+      (λ _. picked P (eqb r 1) _ _ (λ _. line-few 1 Link (omega (arith, one-short)))
+      (λ _. picked P (eqb l r) _ _ (λ _. line-few r Low (omega (arith, report-few r hr)))
+      (λ _. picked P (eqb h none) _ _ (λ _. no 11)
+      (λ f. line-few r (Through h) (omega (arith, report-few r hr, length-le 2 h (hh (eqb-false h none f)))))))))
+    where
+      one-short : length (reportText 1) ≤ 1
+      one-short = omega (arith, ap length (report-some 1 (λ e. omega arith)), length-le 0 1 (omega arith))
 
   answer-few : (n : ℕ) (full low report : List ℕ) → n ≤ 128 → (entryAt n report a b < 1000) ⊎ (entryAt n report a b ≡ none)
       → length (answerText n full low report a b) ≤ 18

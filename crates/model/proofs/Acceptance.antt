@@ -13,7 +13,7 @@ use Rattle.model.specs.Answers.{Outcome, answered, isAnswered}
 use Rattle.model.specs.Basics.{upTo, has, all, keep}
 use Rattle.model.specs.Survey.{Graph, neighboursOf, ascending, isSurvey, outside, badSize, accepting, accepted, IsSurvey, IsGraph, Accepted}
 use Rattle.model.specs.Graph.{linked}
-use Rattle.model.proofs.Tests.{picked, not-not, and-l, and-r, and-i, or-r, or-false, of-or-false, T-true, eq-T}
+use Rattle.model.proofs.Tests.{picked, not-not, and-l, and-r, and-i, or-r, or-false, of-or-false, T-true, same-test, eq-T}
 use Rattle.model.proofs.Lists.{of-all, all-of, has-upTo, of-upTo, keep-same, keep-grows, keep-length, length-upTo}
 use Rattle.model.proofs.Ascending.{ascending-keep}
 
@@ -191,6 +191,9 @@ module _ (n : ℕ) (G : Graph) where
   -- in a graph, each neighbour is linked
   pub linked-of : IsGraph n G → (a b : ℕ) → a < n → T (has b (G a)) → T (linked n G a b)
   linked-of g a b h m = is-linked _ _ (record { first = h; second = g .below a b h m; there = m; back = g .symmetric a b h m })
+
+  pub linked-own : IsGraph n G → (a b : ℕ) → a < n → linked n G a b ≡ has b (G a)
+  linked-own g a b h = same-test _ _ (linked-has a b) (linked-of g a b h)
 
 module _ (n : ℕ) (starts neighbours : List ℕ) (acc : Accepted n starts neighbours) where
   abbrev pub graph : Graph

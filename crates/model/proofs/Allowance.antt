@@ -4,21 +4,21 @@ use mathlib.Core.Path.{_≡_, refl, sym, ap, _∙_, subst}
 use mathlib.Core.Logic.{_⊎_, inl, inr, ⊎-elim}
 use mathlib.Core.Bool.{Bool, not, _&&_, _||_}
 use mathlib.Core.List.{List, [], _∷_}
-use Prim.Native.Nat.{ℕ, suc, _+_, _≤_, _<_, zero-le, min}
+use Prim.Native.Nat.{ℕ, zero, suc, _+_, _≤_, _<_, zero-le, min}
 use native.Mathlib.Nat.{zero-add, suc-add, le-refl, le-trans, min-le-left, min-le-right}
 use native.Mathlib.Omega.{arith}
 use native.Mathlib.Decide.{decLe}
-use borrow.Author.Tests.{eqb-true, eqb-false}
+use borrow.Author.Tests.{eqb-true, eqb-false, eq-eqb, ne-eqb}
 use lib.Dec.{T, eqb, eqb→eq, not-T}
 use Rattle.model.specs.Basics.{none, if_then_else_, has}
-use Rattle.model.specs.Graph.{Edges, between, Chain, here, link, linked}
+use Rattle.model.specs.Graph.{Edges, between, Chain, here, link, Fewest, linked}
 use Rattle.model.specs.Survey.{Graph, IsGraph}
 use Rattle.model.specs.Hubs.{isHigh, isLow, hubs}
 use Rattle.model.specs.Tables.{entryAt, fullTable, lowLinks, lowTable, sum, via, reportTable, least, reportEntry}
 use Rattle.model.specs.Demand.{Allowed}
-use Rattle.model.proofs.Tests.{and-i, or-e, true-T, of-or-false, passes, eq-or, picked}
+use Rattle.model.proofs.Tests.{and-i, or-e, true-T, T-true, of-or-false, passes, eq-or, picked}
 use Rattle.model.proofs.Lists.{of-cons, has-head, has-tail}
-use Rattle.model.proofs.Chains.{append, turn, widen, inside, fewest-cases}
+use Rattle.model.proofs.Chains.{append, chain-zero, chain-one, turn, widen, inside, fewest-cases}
 use Rattle.model.proofs.Acceptance.{linked-ends, linked-sym}
 use Rattle.model.proofs.Entries.{entry-table}
 use Rattle.model.proofs.Covering.{high-linked, hubs-below}
@@ -90,9 +90,10 @@ module _ {n : ℕ} (s : ℕ) {G : Graph} (g : IsGraph n G) where
   unfoldable pub routes : ℕ → ℕ → ℕ
   routes a b = least (via n (fullTable n s G) a b) (entryAt n (lowTable n s G) a b) (hubs n s G)
 
-  pub report-entry : {a b : ℕ} → a < n → b < n → entryAt n (reportTable n s G) a b ≡ (if eqb a b then 0 else routes a b)
-  unfolding reportTable routes
-  report-entry = entry-table n (reportEntry n (fullTable n s G) (lowTable n s G) (hubs n s G)) _ _
+  pub report-entry : {a b : ℕ} → a < n → b < n
+      → entryAt n (reportTable n s G) a b ≡ reportEntry n G (fullTable n s G) (lowTable n s G) (hubs n s G) a b
+  unfolding reportTable
+  report-entry = entry-table n (reportEntry n G (fullTable n s G) (lowTable n s G) (hubs n s G)) _ _
 
   -- a route through a hub, if there is one, is a chain of as many links
   via-chain : {a b h : ℕ} → a < n → b < n → h < n → (via n (fullTable n s G) a b h ≡ none → ⊥)
@@ -113,22 +114,45 @@ module _ {n : ℕ} (s : ℕ) {G : Graph} (g : IsGraph n G) where
   -- a report that is not none is the number of links of some chain
   pub report-chain : {a b : ℕ} → a < n → b < n → (entryAt n (reportTable n s G) a b ≡ none → ⊥)
       → Chain (linked n G) (entryAt n (reportTable n s G) a b) a b
-  unfolding routes
   report-chain {a} {b} ha hb = subst P (sym (report-entry ha hb)) (picked P (eqb a b) _ _
       (λ e f. rw (← eqb-true a b e) here)
+      (λ _. picked P (linked n G a b) _ _
+      (λ t f. link (true-T _ t) here)
       (λ _. ⊎-elim
       (λ e. subst P (sym e) (λ f. widen (low-widen n s G g) (low-is s g ha hb f .2 .0)))
       (λ r. subst P (sym (r .2)) (via-chain ha hb (hubs-below n G s (r .0) (r .1))))
-      (least-cases _ _ (hubs n s G))))
+      (least-cases _ _ (hubs n s G)))))
     where
       P : ℕ → Type 0
       P k = (k ≡ none → ⊥) → Chain (linked n G) k a b
+
+  -- the report is 1 for linked nodes, where they differ, and for no others
+  pub linked-report : {a b : ℕ} → a < n → b < n → (a ≡ b → ⊥) → T (linked n G a b) → entryAt n (reportTable n s G) a b ≡ 1
+  linked-report {a} {b} ha hb d t = rw (ne-eqb a b d, T-true (linked n G a b) t) at (report-entry ha hb)
+
+  pub report-one : {a b : ℕ} → a < n → b < n → entryAt n (reportTable n s G) a b ≡ 1 → T (linked n G a b)
+  report-one ha hb e = chain-one (rw e at (report-chain ha hb (λ q. omega (arith, e, q))))
+
+  -- a report of at most 2 is the fewest links
+  pub report-exact : {a b : ℕ} → a < n → b < n → entryAt n (reportTable n s G) a b ≤ 2
+      → Fewest (linked n G) a b (entryAt n (reportTable n s G) a b)
+  report-exact {a} {b} ha hb h = (report-chain ha hb (λ e. omega (arith, h, e)), shortest)
+    where
+      own : a ≡ b → entryAt n (reportTable n s G) a b ≡ 0
+      own e = rw (eq-eqb a b e) at (report-entry ha hb)
+
+      shortest : (k : ℕ) → Chain (linked n G) k a b → entryAt n (reportTable n s G) a b ≤ k
+      shortest zero c = omega (arith, own (chain-zero c))
+      shortest (suc zero) c =
+          ⊎-elim (λ e. omega (arith, own e)) (λ d. omega (arith, linked-report ha hb d (chain-one c))) (eq-or a b)
+      shortest (suc (suc k)) c = omega (arith, h)
 
   -- where a chain of k links joins the pair, the report is at most k + 2
   pub report-near : {a b k : ℕ} → n ≤ 1024 → a < n → b < n → Chain (linked n G) k a b → entryAt n (reportTable n s G) a b ≤ k + 2
   unfolding isLow lowLinks routes via
   report-near {a} {b} {k} size ha hb c =
-      subst P (sym (report-entry ha hb)) (picked P (eqb a b) _ _ (λ _. zero-le) (λ _. near (split (linked n G) (isHigh s G) c)))
+      subst P (sym (report-entry ha hb)) (picked P (eqb a b) _ _ (λ _. zero-le) (λ _.
+      picked P (linked n G a b) _ _ (λ _. omega arith) (λ _. near (split (linked n G) (isHigh s G) c))))
     where
       P : ℕ → Type 0
       P x = x ≤ k + 2

@@ -2,36 +2,36 @@
 -- Assumes nothing. Holds for every threshold s.
 use mathlib.Core.Path.{_≡_, refl, sym, ap₂, _∙_}
 use mathlib.Core.Logic.{_⊎_, ⊎-elim}
-use mathlib.Core.Bool.{Bool, true, false, not, _&&_}
+use mathlib.Core.Bool.{Bool, true, not, _&&_}
 use mathlib.Core.List.{List, [], _∷_}
 use mathlib.Core.Option.{Option, none as missing, some, IsSome}
 use Prim.Native.Nat.{ℕ, suc, _≤_, _<_, zero-le}
 use native.Mathlib.Nat.{le-of-suc-le-suc}
 use native.Mathlib.Omega.{arith}
-use borrow.Author.Tests.{eqb-true}
+use borrow.Author.Tests.{eqb-true, ne-eqb}
 use lib.Dec.{T, eqb, eqb→eq, not-T}
 use lib.ListN.{length, take}
 use Rattle.model.specs.declared.Route.{Route}
-use Rattle.model.specs.declared.Route.the-variants.{Itself, Low, Through, NoRoute}
+use Rattle.model.specs.declared.Route.the-variants.{Itself, Low, Through, NoRoute, Link}
 use Rattle.model.specs.declared.Answer.{Answer}
 use Rattle.model.specs.Answers.{Outcome, answered}
 use Rattle.model.specs.Basics.{none, if_then_else_, has, upTo, firstOf}
 use Rattle.model.specs.Graph.{Edges, Chain, link, Fewest, linked}
 use Rattle.model.specs.Survey.{Graph, IsGraph}
 use Rattle.model.specs.Hubs.{isLow, hubs}
-use Rattle.model.specs.Tables.{entryAt, sum, via, fullTable, lowTable, lowLinks, reportTable, AreBuilt, hubList}
+use Rattle.model.specs.Tables.{entryAt, sum, via, fullTable, lowTable, lowLinks, reportTable, reportEntry, AreBuilt, hubList}
 use Rattle.model.specs.Pair.{withRoute, taken, listed, attaining, choose, pairBy, pair}
-use Rattle.model.specs.Walk.{byLow, toHub, walkNodes}
+use Rattle.model.specs.Walk.{byLow, toHub, byLink, walkNodes}
 use Rattle.model.specs.Walking.{refuseWalk, fit, walkOf}
-use Rattle.model.proofs.Tests.{and-r, and-i, eq-T, T-true, same-test, eq-or}
+use Rattle.model.proofs.Tests.{and-r, and-i, eq-T, T-true, same-test, eq-or, picked}
 use Rattle.model.proofs.Lists.{has-append, of-upTo, first-below, First, found, nothing, first-same}
 use Rattle.model.proofs.Acceptance.{linked-has, linked-sym, linked-ends}
 use Rattle.model.proofs.Chains.{snoc, split-last, chain-zero, inside}
 use Rattle.model.proofs.Covering.{hubs-below}
 use Rattle.model.proofs.Entries.{entry-front}
 use Rattle.model.proofs.TableLaws.{full-is, full-joined, low-is, low-joined, low-ends, both-low, low-widen, fewest-unique}
-use Rattle.model.proofs.Allowance.{routes, report-entry, least-cases}
-use Rattle.model.proofs.Walks.{Chosen, to-itself, to-none, to-low, to-hub, bad-itself, bad-hub, chosen}
+use Rattle.model.proofs.Allowance.{routes, report-entry, linked-report, report-one, least-cases}
+use Rattle.model.proofs.Walks.{Chosen, to-itself, to-none, to-link, to-low, to-hub, bad-itself, bad-hub, chosen}
 use Rattle.model.proofs.Walks.{Sound, steps-given, join-given, attains, via-sum, fit-long, route-sound}
 
 -- nodes that fit are given out with the answer as it is
@@ -74,8 +74,9 @@ module _ {n s : ℕ} {G : Graph} (g : IsGraph n G) (size : n ≤ 1024) {full low
       → (entryAt n low a b < n) × Fewest (lowLinks n s G) a b (entryAt n low a b)
   low-joined′ ha hb la lb c = rw (low-at ha hb) (low-joined _ g ha hb la lb c)
 
-  report-entry′ : {a b : ℕ} → a < n → b < n → entryAt n report a b ≡ (if eqb a b then 0 else routes s g a b)
-  report-entry′ ha hb = report-at ha hb ∙ report-entry _ _ ha hb
+  report-entry′ : {a b : ℕ} → a < n → b < n
+      → entryAt n report a b ≡ reportEntry n G (fullTable n s G) (lowTable n s G) (hubs n s G) a b
+  report-entry′ ha hb = report-at ha hb ∙ report-entry s g ha hb
 
   via-at : {a b h : ℕ} → a < n → b < n → h < n → via n full a b h ≡ via n (fullTable n s G) a b h
   unfolding via
@@ -130,6 +131,18 @@ module _ {n s : ℕ} {G : Graph} (g : IsGraph n G) (size : n ≤ 1024) {full low
     zero-report : a ≡ b → r ≡ 0
     zero-report e = rw (T-true (eqb a b) (eq-T a b e)) at (report-entry′ ha hb)
 
+    -- the report is 1 for linked nodes, where they differ, and for no others
+    linked-one : (a ≡ b → ⊥) → T (linked n G a b) → r ≡ 1
+    linked-one d t = report-at ha hb ∙ linked-report _ g ha hb d t
+
+    one-linked : r ≡ 1 → T (linked n G a b)
+    one-linked e = report-one s g ha hb (sym (report-at ha hb) ∙ e)
+
+    -- so linked nodes that differ are answered by the link, whatever hubs count
+    pub pair-linked : (isHub : ℕ → Bool) → (a ≡ b → ⊥) → T (linked n G a b) → pairBy isHub n full low report a b ≡ answered (withRoute 1 Link)
+    unfolding pairBy choose
+    pair-linked isHub d t = rw (ne-eqb a b d, linked-one d t) refl
+
     -- a node that attains the report is a hub, if the report is not none
     pub attaining-hub : (h : ℕ) → h < n → (r ≡ none → ⊥) → via n full a b h ≡ r → T (has h (hubs n s G))
     attaining-hub h hh f e = full-is′ hh ha (via-sum n full a b h e f .0) .0
@@ -138,11 +151,16 @@ module _ {n s : ℕ} {G : Graph} (g : IsGraph n G) (size : n ≤ 1024) {full low
       abbrev pub hub : ℕ
       hub = attaining isHub n full a b r
 
-      -- a report that Low does not attain is attained by a hub
-      hub-found : (a ≡ b → ⊥) → (r ≡ none → ⊥) → (entryAt n low a b ≡ r → ⊥) → hub ≡ none → ⊥
+      -- a report that neither a link nor Low attains is attained by a hub
+      hub-found : (a ≡ b → ⊥) → (r ≡ none → ⊥) → (r ≡ 1 → ⊥) → (entryAt n low a b ≡ r → ⊥) → hub ≡ none → ⊥
       unfolding attaining routes
-      hub-found x f y z = at (eqb a b) refl (report-entry′ ha hb)
+      hub-found x f o y z =
+          picked P (eqb a b) _ _ (λ e _. x (eqb-true _ _ e)) (λ _. picked P (linked n G a b) _ _ (λ _. o) (λ _. some-hub))
+          (report-entry′ ha hb)
         where
+          P : ℕ → Type 0
+          P k = r ≡ k → ⊥
+
           p : ℕ → Bool
           p h = isHub h && eqb (via n full a b h) r
 
@@ -158,10 +176,6 @@ module _ {n s : ℕ} {G : Graph} (g : IsGraph n G) (size : n ≤ 1024) {full low
               hit h l t (found lo hi s least) q = omega arith
               hit h l t (nothing q miss) p = miss h zero-le (omega arith) t
 
-          at : (t : Bool) → eqb a b ≡ t → r ≡ (if t then 0 else routes s g a b) → ⊥
-          at true q e = x (eqb-true _ _ q)
-          at false q e = some-hub e
-
       -- asking: the report, with some route
       pub pair-built : (t : Route) × (pairBy isHub n full low report a b ≡ answered (withRoute r t))
       unfolding pairBy
@@ -170,19 +184,23 @@ module _ {n s : ℕ} {G : Graph} (g : IsGraph n G) (size : n ≤ 1024) {full low
           at : {q : Outcome Answer} → Chosen a b r (entryAt n low a b) hub q → (t : Route) × (q ≡ answered (withRoute r t))
           at (to-itself e z) = (Itself, rw (sym z))
           at (to-none x e) = (NoRoute, rw (sym e))
-          at (to-low x f e) = (Low, refl)
-          at (to-hub x f y z) = (Through hub, refl)
+          at (to-link x e) = (Link, rw (sym e))
+          at (to-low x f o e) = (Low, refl)
+          at (to-hub x f o y z) = (Through hub, refl)
           at (bad-itself e f) = absurd (f (zero-report e))
-          at (bad-hub x f y z) = absurd (hub-found x f y z)
+          at (bad-hub x f o y z) = absurd (hub-found x f o y z)
 
       -- walking: the same answer, if the walk list has report + 1 entries, or there is no route
       pub walk-built : (w : ℕ) → (r ≡ none) ⊎ (r < w)
           → walkOf w n s G full low a b (pairBy isHub n full low report a b) .answer ≡ pairBy isHub n full low report a b
-      unfolding pairBy walkOf walkNodes byLow toHub refuseWalk
+      unfolding pairBy walkOf walkNodes byLow toHub byLink refuseWalk
       walk-built w room = at (chosen a b r (entryAt n low a b) hub)
         where
           roomy : (r ≡ none → ⊥) → r < w
           roomy f = ⊎-elim (λ e. absurd (f e)) (λ l. l) room
+
+          link-given : T (linked n G a b) → IsSome (byLink n G a b)
+          link-given t = rw (T-true (linked n G a b) t) tt
 
           low-given : (entryAt n low a b ≡ none → ⊥) → IsSome (byLow n s G low a b)
           low-given f =
@@ -204,14 +222,16 @@ module _ {n s : ℕ} {G : Graph} (g : IsGraph n G) (size : n ≤ 1024) {full low
           at : {q : Outcome Answer} → Chosen a b r (entryAt n low a b) hub q → walkOf w n s G full low a b q .answer ≡ q
           at (to-itself e z) = fits _ (a ∷ []) (rw z at (roomy (below-none z (omega arith))))
           at (to-none x e) = fits _ [] zero-le
-          at (to-low x f e) = route-fits _ (to-low x f e) f (low-given (λ q. f (sym e ∙ q))) (roomy f)
-          at (to-hub x f y z) =
+          at (to-link x e) =
+              route-fits _ (to-link x e) (λ q. omega arith) (link-given (one-linked e)) (rw e at (roomy (below-none e (omega arith))))
+          at (to-low x f o e) = route-fits _ (to-low x f o e) f (low-given (λ q. f (sym e ∙ q))) (roomy f)
+          at (to-hub x f o y z) =
               let i = attains isHub n full a b r z in
               let v = via-sum n full a b hub (i .2) f in
-              route-fits _ (to-hub x f y z) f
+              route-fits _ (to-hub x f o y z) f
               (join-given (toHub n G full hub a) (toHub n G full hub b) (hub-given (i .0) ha (v .0)) (hub-given (i .0) hb (v .1))) (roomy f)
           at (bad-itself e f) = absurd (f (zero-report e))
-          at (bad-hub x f y z) = absurd (hub-found x f y z)
+          at (bad-hub x f o y z) = absurd (hub-found x f o y z)
 
     -- ---- with and without a hub list
 

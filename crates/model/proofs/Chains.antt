@@ -32,6 +32,9 @@ module _ {E : Edges} where
   pub chain-zero : {a b : ℕ} → Chain E zero a b → a ≡ b
   chain-zero here = refl
 
+  pub chain-one : {a b : ℕ} → Chain E (suc zero) a b → T (E a b)
+  chain-one (link t here) = t
+
   -- a chain has no link, or a first one
   pub split-first : {k a b : ℕ} → Chain E k a b → (a ≡ b) ⊎ ((i x : ℕ) × (k ≡ suc i) × T (E a x) × Chain E i x b)
   split-first here = inl refl

@@ -12,11 +12,11 @@ use borrow.Author.Tests.{le-ltb, lt-leb, leb-false}
 use lib.Dec.{T, ltb, leb}
 use lib.ListN.{length, replicate, take, length-append, length-replicate}
 use lib.Seq.{take-at}
-use Rattle.model.specs.declared.Route.the-variants.{NoRoute}
+use Rattle.model.specs.declared.Route.the-variants.{NoRoute, Link}
 use Rattle.model.specs.declared.Answer.{Answer}
 use Rattle.model.specs.Answers.{Outcome, refused, answered}
 use Rattle.model.specs.Basics.{none, over}
-use Rattle.model.specs.Graph.{Edges, Chain, linked}
+use Rattle.model.specs.Graph.{Edges, Chain, Fewest, linked}
 use Rattle.model.specs.Survey.{Graph, neighboursOf, badSize, isSurvey, Accepted}
 use Rattle.model.specs.Threshold.{threshold}
 use Rattle.model.specs.Hubs.{hubs}
@@ -32,12 +32,12 @@ use Rattle.model.specs.Demand.{AllowedAnswer, AskRight, WalkSound, WalkA
 use Rattle.model.proofs.Outcomes.{never, numberIn}
 use Rattle.model.proofs.Tests.{or-false, of-or-false, picked, not-not, lt-or}
 use Rattle.model.proofs.Chains.{walked-chain}
-use Rattle.model.proofs.Acceptance.{survey-test, survey-facts, tests-facts, good-size, accepting-answers}
+use Rattle.model.proofs.Acceptance.{survey-test, survey-facts, tests-facts, good-size, accepting-answers, no-loop}
 use Rattle.model.proofs.Entries.{front-length, length-table, long-tables, of-long-tables}
 use Rattle.model.proofs.Covering.{hubs-length}
-use Rattle.model.proofs.Allowance.{allowed}
+use Rattle.model.proofs.Allowance.{allowed, report-one, report-exact}
 use Rattle.model.proofs.Walks.{Chosen, chosen, Given-out, refusal, no-way, walked, fit-short, fit-long, found-longer, walk-given-out}
-use Rattle.model.proofs.BuiltWalks.{report-at, pair-built, walk-built, taken-right}
+use Rattle.model.proofs.BuiltWalks.{report-at, pair-linked, pair-built, walk-built, taken-right}
 use Rattle.model.proofs.Verdicts.{verdict-right}
 
 passed : (b : Bool) → T b → not b ≡ false
@@ -218,13 +218,31 @@ module _ {n : ℕ} {starts neighbours : List ℕ} (acc : Accepted n starts neigh
           report-at g (acc .size) own ha hb,
         )
 
-    -- the report is none exactly where no chain joins the pair, else from the fewest links to two more
+    -- linked nodes are answered by the link
+    linked-answer : {x : Answer} → asking n full low report a b ≡ answered x → T (linked n G a b) → x ≡ withRoute 1 Link
+    unfolding pair
+    linked-answer {x} e t =
+        let differ : a ≡ b → ⊥ = λ q. no-loop n starts neighbours acc b (rw q at t) in
+        let by = asked ∙ pair-linked (acc .lists .graph) (acc .size) own ha hb (taken n full a b) differ t in
+        let same : withRoute 1 Link ≡ x = cc in
+        sym same
+
+    -- the report is none exactly where no chain joins the pair, else from the fewest links to two more; and 1 by the link for linked nodes
     pub asking-allowed : AllowedAnswer (linked n G) a b (asking n full low report a b)
     asking-allowed = let i = asking-answers in record {
       value = i .0;
       given = i .1;
       allowed = rw (i .2) (allowed n s G (acc .lists .graph) (acc .size) a b ha hb);
+      by-link = (λ e. report-one s (acc .lists .graph) ha hb (sym (i .2) ∙ ap (λ (x : Answer). x .report) e), linked-answer (i .1));
     }
+
+    -- a report of at most 2 is the fewest links
+    pub asking-exact : {x : Answer} → asking n full low report a b ≡ answered x → x .report ≤ 2 → Fewest (linked n G) a b (x .report)
+    asking-exact {x} e h =
+        let i = asking-answers in
+        let same : i .0 ≡ x = cc in
+        let is : x .report ≡ entryAt n (reportTable n s G) a b = ap (λ (y : Answer). y .report) (sym same) ∙ i .2 in
+        rw is (report-exact s (acc .lists .graph) ha hb (rw is at h))
 
   -- and writing the walk answers as asking does, if the walk list has report + 1 entries or there is no route
   walking-answers : {full low report : List ℕ} → AreBuilt n (threshold n) (neighboursOf starts neighbours) full low report

@@ -1,12 +1,13 @@
 -- The listing of a survey has a line for each pair a < b, in order, with an allowed report.
 -- Assumes nothing.
 use mathlib.Core.Path.{_≡_, sym, ap, _∙_, subst}
+use mathlib.Core.Logic.{_↔_}
 use mathlib.Core.List.{List, _++_}
 use Prim.Native.Nat.{ℕ, _+_, _*_, _≤_, _<_}
 use native.Mathlib.Omega.{arith}
 use lib.Dec.{T, ltb}
 use lib.ListN.{length}
-use Rattle.model.specs.declared.Route.the-variants.{NoRoute}
+use Rattle.model.specs.declared.Route.the-variants.{NoRoute, Link}
 use Rattle.model.specs.declared.Answer.{Answer}
 use Rattle.model.specs.Answers.{Outcome, refused, answered}
 use Rattle.model.specs.Basics.{none, upTo, keep, gather}
@@ -22,8 +23,8 @@ use Rattle.model.specs.Listing.{pairLine, pairsBelow, pairLines, listing
 use Rattle.model.specs.Demand.{Allowed}
 use Rattle.model.proofs.Lists.{has-keep, of-keep, has-upTo, of-upTo, gather-same, gather-gather, gather-map}
 use Rattle.model.proofs.Entries.{table-front}
-use Rattle.model.proofs.Allowance.{allowed}
-use Rattle.model.proofs.BuiltWalks.{report-at, pair-built, taken-right}
+use Rattle.model.proofs.Allowance.{allowed, report-one}
+use Rattle.model.proofs.BuiltWalks.{report-at, pair-linked, pair-built, taken-right}
 use Rattle.model.proofs.Links.{parse-sound}
 use Rattle.model.proofs.Totals.{named-sym}
 
@@ -81,11 +82,22 @@ module _ (text : List ℕ) (x : Parsed) (e : parse 128 2048 (128 + 1) (2 * 2048)
         ap (λ (o : Outcome Answer). valueIn o .report) (i .1) ∙ report-at g size own ha hb,
       )
 
-  -- the first line, then for each a < b in order a line with an allowed report and a route
+  -- linked nodes that differ, and no others, have the report 1 by link
+  by-link : (a b : ℕ) → a < x .nodes → b < x .nodes → (a ≡ b → ⊥) → (valueIn (reply a b) ≡ withRoute 1 Link) ↔ T (linked n G a b)
+  unfolding reply pair valueIn
+  by-link a b ha hb d =
+      let g = links-graph _ _ in (
+        λ e. report-one s g ha hb (sym (reply-is a b ha hb .1) ∙ ap (λ (y : Answer). y .report) e),
+        λ t. ap valueIn (pair-linked g size (rules-built n s G) ha hb (taken n (fullTable n s G) a b) d t),
+      )
+
+  -- the first line, then for each a < b in order a line with an allowed report and a route, by link where the two are linked
   pub listing-lines : (f : ℕ → ℕ → Answer)
       × (listing text ≡ lineOf 82 (x .nodes) (length (hubs (x .nodes) (threshold (x .nodes)) (graphOf (x .nodes) (x .links))))
       ++ gather (λ p. pairLine p (answered (f (p .0) (p .1)))) (pairsBelow (x .nodes)))
       × ((a b : ℕ) → a < x .nodes → b < x .nodes → Allowed (linked (x .nodes) (graphOf (x .nodes) (x .links))) a b (f a b .report))
+      × ((a b : ℕ) → a < x .nodes → b < x .nodes → (a ≡ b → ⊥)
+      → (f a b ≡ withRoute 1 Link) ↔ T (linked (x .nodes) (graphOf (x .nodes) (x .links)) a b))
   unfolding listing listingText listingOf pairLines reply
   listing-lines = (
     λ a b. valueIn (reply a b),
@@ -96,4 +108,5 @@ module _ (text : List ℕ) (x : Parsed) (e : parse 128 2048 (128 + 1) (2 * 2048)
         ∙ sym (by-pairs _ _)
         ),
     λ a b ha hb. rw (reply-is _ _ ha hb .1) (allowed _ _ _ (links-graph _ _) size _ _ ha hb),
+    by-link,
   )

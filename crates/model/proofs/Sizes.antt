@@ -11,7 +11,7 @@ use borrow.Author.Tests.{le-ltb, ltb-false, leb-false}
 use lib.Dec.{T, eqb, ltb, leb, T-not}
 use lib.ListN.{length, getD, length-append, length-reverse}
 use Rattle.model.specs.declared.Route.{Route}
-use Rattle.model.specs.declared.Route.the-variants.{Itself, Low, Through, NoRoute}
+use Rattle.model.specs.declared.Route.the-variants.{Itself, Low, Through, NoRoute, Link}
 use Rattle.model.specs.declared.Answer.{Answer}
 use Rattle.model.specs.Answers.{Outcome, refused, answered, mapAnswer, andThen}
 use Rattle.model.specs.Basics.{none, gather}
@@ -22,7 +22,7 @@ use Rattle.model.specs.Graph.{linked}
 use Rattle.model.specs.Hubs.{isLow}
 use Rattle.model.specs.Tables.{entryAt, shortTables, AreBuilt}
 use Rattle.model.specs.Pair.{pairBy, pair}
-use Rattle.model.specs.Walk.{steps, byLow, toHub, join, walkNodes}
+use Rattle.model.specs.Walk.{steps, byLow, toHub, join, byLink, walkNodes}
 use Rattle.model.specs.Threshold.{threshold}
 use Rattle.model.specs.Reading.{limitsOf, countsOf, onLinks, linkOf, readOn, readLinks}
 use Rattle.model.specs.Reading.{Parsed, parsed, parseLinks, parse, readingOf, reading}
@@ -38,7 +38,8 @@ use Rattle.model.proofs.Acceptance.{of-in-range, survey-facts}
 use Rattle.model.proofs.Numbers.{length-le}
 use Rattle.model.proofs.Lines.{length-two}
 use Rattle.model.proofs.Links.{AllFresh}
-use Rattle.model.proofs.Walks.{Chosen, chosen, to-itself, to-none, to-low, to-hub, bad-itself, bad-hub, Sound, steps-sound, too-long, fit-long}
+use Rattle.model.proofs.Walks.{Chosen, to-itself, to-none, to-link, to-low, to-hub, bad-itself, bad-hub, chosen}
+use Rattle.model.proofs.Walks.{Sound, steps-sound, too-long, fit-long}
 use Rattle.model.proofs.Entries.{long-tables}
 use Rattle.model.proofs.Demand.{full-room, low-room, report-room, asks, walks, walking-short, walking-right}
 use Rattle.model.proofs.ReadBack.{all-fresh, half-count, writing-answers}
@@ -219,12 +220,15 @@ module _ (n s : ℕ) (G : Graph) (g : IsGraph n G) where
   -- the nodes of a walk are at most 2 n
   nodes-few : (full low : List ℕ) (a b : ℕ) → a < n → b < n → (t : Route) (l : List ℕ) → walkNodes n s G full low a b t ≡ some l
       → length l ≤ 2 * n
-  unfolding walkNodes byLow toHub
+  unfolding walkNodes byLow toHub byLink
   nodes-few full low a b ha hb Itself l e = let k : a ∷ [] ≡ l = cc in omega (arith, ap length k)
   nodes-few full low a b ha hb Low l e = omega (arith, part-few (isLow s G) (λ x. entryAt n low x b) b a ha l e)
   nodes-few full low a b ha hb (Through h) l e =
       join-few _ _ (part-few _ _ _ _ ha) (part-few _ _ _ _ hb) _ e
   nodes-few full low a b ha hb NoRoute l e = let k : [] ≡ l = cc in omega (arith, ap length k)
+  nodes-few full low a b ha hb Link l e =
+      picked (λ o. o ≡ some l → length l ≤ 2 * n) (linked n G a b) _ _
+      (λ _ q. let k : a ∷ b ∷ [] ≡ l = cc in omega (arith, ap length k)) (λ _ q. no-value q) e
 
 -- with a walk list of 2 n entries or more, a walk is refused 8 only for `starts` or a table
 pub walking-enough : (n : ℕ) (starts neighbours full low report : List ℕ) (a b w : ℕ) → 2 * n ≤ w
@@ -264,10 +268,11 @@ walking-enough n starts neighbours full low report a b w h =
         → P (walkOf w n (threshold n) G full low a b q)
     answers g ha hb (to-itself e z) = walk g ha hb _
     answers g ha hb (to-none x e) = walk g ha hb _
-    answers g ha hb (to-low x f e) = walk g ha hb _
-    answers g ha hb (to-hub x f y z) = walk g ha hb _
+    answers g ha hb (to-link x e) = walk g ha hb _
+    answers g ha hb (to-low x f o e) = walk g ha hb _
+    answers g ha hb (to-hub x f o y z) = walk g ha hb _
     answers g ha hb (bad-itself e f) = λ q. absurd (omega (arith, same-number 11 8 q))
-    answers g ha hb (bad-hub x f y z) = λ q. absurd (omega (arith, same-number 11 8 q))
+    answers g ha hb (bad-hub x f o y z) = λ q. absurd (omega (arith, same-number 11 8 q))
 
 -- with tables built from an accepted survey, 2 n entries are always enough
 pub built-enough : (n : ℕ) (starts neighbours : List ℕ) → Accepted n starts neighbours → (full low report : List ℕ)

@@ -2,29 +2,29 @@
 -- and each case goes through the definitions that the contracts cite: reading, building, asking a pair, writing a walk, testing.
 -- Assumes nothing.
 use mathlib.Core.Path.{_≡_, refl}
-use mathlib.Core.List.{List, [], _∷_, map}
+use mathlib.Core.List.{List, [], _∷_, _++_, map}
 use mathlib.Core.Option.{bind}
 use Prim.Native.Nat.{ℕ, _*_}
 use Prim.Native.String.{String}
 use lib.ListN.{replicate}
 use Rattle.model.specs.declared.Size.{Size}
-use Rattle.model.specs.declared.Route.the-variants.{Itself, Through}
+use Rattle.model.specs.declared.Route.the-variants.{Itself, Through, Link}
 use Rattle.model.specs.declared.Answer.{Answer}
 use Rattle.model.specs.declared.TestResult.{TestResult}
 use Rattle.model.specs.declared.Verdict.the-variants.{Long, Short}
 use Rattle.model.specs.Answers.{Outcome, refused, answered}
 use Rattle.model.specs.Basics.{none, from, upTo, has, any, all, keep, firstOf, gather, same, over}
-use Rattle.model.specs.Numbers.{isDigit, isNumber, valueFrom, valueOf}
+use Rattle.model.specs.Numbers.{isDigit, isNumber, valueFrom, valueOf, digitsWithin, digits}
 use Rattle.model.specs.Lines.{onFirst, split, onFront, cut, behind, afterEmpty, fieldsBehind, fieldLine}
 use Rattle.model.specs.Lines.{numbersIn, numberLine, twoLine}
-use Rattle.model.specs.SurveyText.{line}
+use Rattle.model.specs.SurveyText.{line, lineOf, ordered}
 use Rattle.model.specs.Survey.{Graph, neighboursOf, ascending, badSize, isSurvey, accepting}
 use Rattle.model.specs.Threshold.{bitLength, threshold}
 use Rattle.model.specs.Hubs.{isHigh, isLow, closed, gain, best, greedy, hubs}
 use Rattle.model.specs.Graph.{reach, fewest, linked}
 use Rattle.model.specs.Tables.{rowsOf, table, entryAt, fullTable, lowLinks, lowTable, sum, via, reportTable, hubList}
 use Rattle.model.specs.Pair.{withRoute, taken, attaining, choose, pairBy, pair}
-use Rattle.model.specs.Walk.{before, next, steps, byLow, toHub, join, walkNodes}
+use Rattle.model.specs.Walk.{before, next, steps, byLow, toHub, join, byLink, walkNodes}
 use Rattle.model.specs.TwoOrFour.{sources, verdictOf, testResult}
 use Rattle.model.specs.Reading.{named, onLinks, linkOf, readOn, readLinks, parsed, limitsOf, countsOf, parseLinks, parse}
 use Rattle.model.specs.Reading.{graphOf, startsOf, neighboursFrom, AfterReading, readingOf, reading}
@@ -32,10 +32,16 @@ use Rattle.model.specs.Building.{AfterBuilding, built, building}
 use Rattle.model.specs.Asking.{asking}
 use Rattle.model.specs.Walking.{AfterWalking, refuseWalk, fit, walkOf, walking}
 use Rattle.model.specs.Testing.{testing}
+use Rattle.model.specs.Listing.{reportText, routeText, pairLine, pairsBelow, pairLines, listingOf, listingText, listing}
 use Rattle.model.proofs.Quoted.{bytes}
 
 course : String
 course = "S,6,6\nL,0,5\nL,1,5\nL,2,5\nL,3,5\nL,4,5\nL,1,2\n"
+
+courseListing : List ℕ
+courseListing =
+    bytes "R,6,1\nP,0,1,2,0\nP,0,2,2,0\nP,0,3,2,0\nP,0,4,2,0\nP,0,5,1,link\nP,1,2,1,link\nP,1,3,4,0\nP,1,4,4,0\n"
+    ++ bytes "P,1,5,1,link\nP,2,3,4,0\nP,2,4,4,0\nP,2,5,1,link\nP,3,4,4,0\nP,3,5,1,link\nP,4,5,1,link\n"
 
 single : String
 single = "S,1,0\n"
@@ -67,7 +73,7 @@ tables text =
     building n (lists text .starts) (lists text .neighbours) blank blank blank (replicate n none)
 
 -- what is asked: the threshold of n nodes; a survey's high nodes, and its hub list; a pair's answer; its walk in a list of w entries; the
--- sum of its entries of Full through h; the fewest links between two nodes; the test
+-- sum of its entries of Full through h; the fewest links between two nodes; the test; the listing
 pub data Question : Type 0 where
   threshold-of : (n : ℕ) → Question
   high-nodes hub-list : String → Question
@@ -76,6 +82,7 @@ pub data Question : Type 0 where
   hub-sum : String → (a b h : ℕ) → Question
   apart : String → (a b : ℕ) → Question
   test : String → Question
+  listing-of : String → Question
 
 pub data Reply : Type 0 where
   number : ℕ → Reply
@@ -95,6 +102,7 @@ reply (walk text a b w) =
 reply (hub-sum text a b h) = number (via (size text) (tables text .full) a b h)
 reply (apart text a b) = number (fewest (linked (size text) (graph text)) (size text) a b)
 reply (test text) = verdict (testing (size text) (lists text .starts) (lists text .neighbours))
+reply (listing-of text) = list (listing (bytes text))
 
 -- the cases in the rules' order. A walk's reply is its answer and the whole list at return
 pub starred : List (Question × Reply)
@@ -118,16 +126,19 @@ starred =
     ∷ (test chain, verdict (answered (record { verdict = Long; searches = 2 })))
     ∷ (test triangle, verdict (answered (record { verdict = Short; searches = 3 })))
     ∷ (apart triangle 3 4, number 3)
+    ∷ (walk course 5 3 3, walked (record { answer = answered (withRoute 1 Link); walk = 5 ∷ 3 ∷ none ∷ [] }))
+    ∷ (listing-of course, list courseListing)
     ∷ []
 
 pub starred-cases : map (λ c. reply (c .0)) starred ≡ map (λ c. c .1) starred
-unfolding starred reply tables graph size nodesIn lists bytes triangle chain single course
+unfolding starred reply tables graph size nodesIn lists bytes triangle chain single courseListing course
     from upTo has any all keep firstOf gather same over isDigit isNumber valueFrom valueOf
     onFirst split onFront cut bind behind afterEmpty fieldsBehind fieldLine numbersIn numberLine twoLine line
     neighboursOf linked ascending badSize isSurvey accepting
     bitLength threshold isHigh isLow closed gain best greedy hubs hubList reach fewest rowsOf table entryAt fullTable
     lowLinks lowTable sum via reportTable
-    taken attaining choose pairBy pair before next steps byLow toHub join walkNodes sources verdictOf testResult
+    taken attaining choose pairBy pair before next steps byLow toHub join byLink walkNodes sources verdictOf testResult
     named onLinks linkOf readOn readLinks parsed limitsOf countsOf parseLinks parse graphOf startsOf neighboursFrom readingOf reading
     built building asking refuseWalk fit walkOf walking testing
+    digitsWithin digits lineOf ordered reportText routeText pairLine pairsBelow pairLines listingOf listingText listing
 starred-cases = refl

@@ -12,7 +12,7 @@ use native.Mathlib.Omega.{arith}
 use borrow.Author.Tests.{eqb-true, eqb-false, lt-ltb, le-ltb}
 use lib.Dec.{T, eqb, ltb, eqb→eq, ltb→lt, lt→ltb}
 use lib.ListN.{length, replicate, length-append, length-reverse}
-use Rattle.model.specs.declared.Route.the-variants.{Itself, Low, Through, NoRoute}
+use Rattle.model.specs.declared.Route.the-variants.{Itself, Low, Through, NoRoute, Link}
 use Rattle.model.specs.declared.Answer.{Answer}
 use Rattle.model.specs.Answers.{Outcome, refused, answered}
 use Rattle.model.specs.Basics.{none, if_then_else_, has, keep, upTo}
@@ -21,9 +21,9 @@ use Rattle.model.specs.Survey.{Graph, IsGraph}
 use Rattle.model.specs.Hubs.{isLow}
 use Rattle.model.specs.Tables.{entryAt, via}
 use Rattle.model.specs.Pair.{withRoute, attaining, choose, pairBy}
-use Rattle.model.specs.Walk.{before, next, steps, byLow, toHub, join, walkNodes}
+use Rattle.model.specs.Walk.{before, next, steps, byLow, toHub, join, byLink, walkNodes}
 use Rattle.model.specs.Walking.{AfterWalking, refuseWalk, fit, walkOf}
-use Rattle.model.proofs.Tests.{and-l, and-r, and-i, eq-T, eq-or, lt-or, picked}
+use Rattle.model.proofs.Tests.{and-l, and-r, and-i, true-T, eq-T, eq-or, lt-or, picked}
 use Rattle.model.proofs.Lists.{has-upTo, first-in, first-below, first-same, First, found, nothing, keep-grows, keep-length, length-upTo}
 use Rattle.model.proofs.Acceptance.{linked-of, linked-sym}
 use Rattle.model.proofs.Allowance.{Sum, whole, part, sum-is}
@@ -33,10 +33,12 @@ use Rattle.model.proofs.Allowance.{Sum, whole, part, sum-is}
 pub data Chosen (a b r l h : ℕ) : Outcome Answer → Type 0 where
   to-itself : a ≡ b → r ≡ 0 → Chosen a b r l h (answered (withRoute 0 Itself))
   to-none : (a ≡ b → ⊥) → r ≡ none → Chosen a b r l h (answered (withRoute none NoRoute))
-  to-low : (a ≡ b → ⊥) → (r ≡ none → ⊥) → l ≡ r → Chosen a b r l h (answered (withRoute r Low))
-  to-hub : (a ≡ b → ⊥) → (r ≡ none → ⊥) → (l ≡ r → ⊥) → (h ≡ none → ⊥) → Chosen a b r l h (answered (withRoute r (Through h)))
+  to-link : (a ≡ b → ⊥) → r ≡ 1 → Chosen a b r l h (answered (withRoute 1 Link))
+  to-low : (a ≡ b → ⊥) → (r ≡ none → ⊥) → (r ≡ 1 → ⊥) → l ≡ r → Chosen a b r l h (answered (withRoute r Low))
+  to-hub : (a ≡ b → ⊥) → (r ≡ none → ⊥) → (r ≡ 1 → ⊥) → (l ≡ r → ⊥) → (h ≡ none → ⊥)
+      → Chosen a b r l h (answered (withRoute r (Through h)))
   bad-itself : a ≡ b → (r ≡ 0 → ⊥) → Chosen a b r l h (refused 11)
-  bad-hub : (a ≡ b → ⊥) → (r ≡ none → ⊥) → (l ≡ r → ⊥) → h ≡ none → Chosen a b r l h (refused 11)
+  bad-hub : (a ≡ b → ⊥) → (r ≡ none → ⊥) → (r ≡ 1 → ⊥) → (l ≡ r → ⊥) → h ≡ none → Chosen a b r l h (refused 11)
 
 pub chosen : (a b r l h : ℕ) → Chosen a b r l h (choose a b r l h)
 unfolding choose
@@ -46,11 +48,13 @@ chosen a b r l h =
     (λ y. to-itself (eqb-true _ _ x) (eqb-true _ _ y)) (λ y. bad-itself (eqb-true _ _ x) (eqb-false _ _ y)))
     (λ x. picked P (eqb r none) _ _
     (λ y. to-none (eqb-false _ _ x) (eqb-true _ _ y))
-    (λ y. picked P (eqb l r) _ _
-    (λ z. to-low (eqb-false _ _ x) (eqb-false _ _ y) (eqb-true _ _ z))
+    (λ y. picked P (eqb r 1) _ _
+    (λ o. to-link (eqb-false _ _ x) (eqb-true _ _ o))
+    (λ o. picked P (eqb l r) _ _
+    (λ z. to-low (eqb-false _ _ x) (eqb-false _ _ y) (eqb-false _ _ o) (eqb-true _ _ z))
     (λ z. picked P (eqb h none) _ _
-    (λ w. bad-hub (eqb-false _ _ x) (eqb-false _ _ y) (eqb-false _ _ z) (eqb-true _ _ w))
-    (λ w. to-hub (eqb-false _ _ x) (eqb-false _ _ y) (eqb-false _ _ z) (eqb-false _ _ w)))))
+    (λ w. bad-hub (eqb-false _ _ x) (eqb-false _ _ y) (eqb-false _ _ o) (eqb-false _ _ z) (eqb-true _ _ w))
+    (λ w. to-hub (eqb-false _ _ x) (eqb-false _ _ y) (eqb-false _ _ o) (eqb-false _ _ z) (eqb-false _ _ w))))))
   where
     P : Outcome Answer → Type 0
     P = Chosen a b r l h
@@ -346,6 +350,10 @@ module _ {n : ℕ} (s : ℕ) {G : Graph} (g : IsGraph n G) (full low : List ℕ)
       (steps-sound _ _ g (λ x. true) (λ x. entryAt n full h x) h (entryAt n full h a) a ha)
       (steps-sound _ _ g (λ x. true) (λ x. entryAt n full h x) h (entryAt n full h b) b hb)
 
+  link-sound : Sound (linked n G) 1 a b (byLink n G a b)
+  unfolding byLink
+  link-sound = picked (Sound (linked n G) 1 a b) (linked n G a b) _ _ (λ e. (go (true-T _ e) stop, refl)) (λ _. tt)
+
   -- the hubs that count, and the table of reports
   module _ (isHub : ℕ → Bool) (report : List ℕ) where
     abbrev Chosen-here : Outcome Answer → Type 0
@@ -357,8 +365,9 @@ module _ {n : ℕ} (s : ℕ) {G : Graph} (g : IsGraph n G) (full low : List ℕ)
     unfolding walkNodes
     route-sound x (to-itself e z) m = (rw (← e) stop, refl)
     route-sound x (to-none f e) m = absurd (m refl)
-    route-sound x (to-low f g e) m = rw e at low-sound
-    route-sound x (to-hub f g y z) m =
+    route-sound x (to-link f e) m = link-sound
+    route-sound x (to-low f g o e) m = rw e at low-sound
+    route-sound x (to-hub f g o y z) m =
         let hub = attaining isHub n full a b (entryAt n report a b) in
         let i = attains isHub n full a b (entryAt n report a b) z in
         let e = via-sum n full a b hub (i .2) g in
@@ -370,8 +379,9 @@ module _ {n : ℕ} (s : ℕ) {G : Graph} (g : IsGraph n G) (full low : List ℕ)
     unfolding walkNodes
     none-found x (to-itself p q) l e z = absurd (omega arith)
     none-found x (to-none p q) l e z = let k : [] ≡ l = cc in ap length (sym k)
-    none-found x (to-low p f q) l e z = absurd (f z)
-    none-found x (to-hub p f q t) l e z = absurd (f z)
+    none-found x (to-link p q) l e z = absurd (omega arith)
+    none-found x (to-low p f o q) l e z = absurd (f z)
+    none-found x (to-hub p f o q t) l e z = absurd (f z)
 
     -- a list of w entries is too short for the nodes found exactly where there is a route and w is less than report + 1
     pub found-longer : (x : Answer) → Chosen-here (answered x) → (l : List ℕ) → walkNodes n s G full low a b (x .route) ≡ some l
@@ -392,13 +402,11 @@ module _ {n : ℕ} (s : ℕ) {G : Graph} (g : IsGraph n G) (full low : List ℕ)
             → Given-out (linked n G) a b w (fit w x (walkNodes n s G full low a b (x .route)))
         fitted x c m = fit-outcome (linked n G) a b w x (walkNodes n s G full low a b (x .route)) (route-sound x c m)
 
-        some-zero : 0 ≡ none → ⊥
-        some-zero e = omega arith
-
         at : {q : Outcome Answer} → Chosen-here q → Given-out (linked n G) a b w (walkOf w n s G full low a b q)
-        at (to-itself e z) = fitted _ (to-itself e z) some-zero
+        at (to-itself e z) = fitted _ (to-itself e z) (λ q. omega arith)
         at (to-none x e) = fit-none _ _ _ _
-        at (to-low x f e) = fitted _ (to-low x f e) f
-        at (to-hub x f y z) = fitted _ (to-hub x f y z) f
+        at (to-link x e) = fitted _ (to-link x e) (λ q. omega arith)
+        at (to-low x f o e) = fitted _ (to-low x f o e) f
+        at (to-hub x f o y z) = fitted _ (to-hub x f o y z) f
         at (bad-itself e f) = refusal 11
-        at (bad-hub x f y z) = refusal 11
+        at (bad-hub x f o y z) = refusal 11

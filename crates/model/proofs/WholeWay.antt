@@ -45,6 +45,7 @@ whole-way text p q x e full low report list hf hl hr hh a b ha hb =
       value = asked .value;
       asked = asked .given;
       allowed = rw same at (asked .allowed);
+      by-link = rw same at (asked .by-link);
       walked = λ w room.
           let i = right w .1 (asked .value) (asked .given) room in
           let sound = rw same at (walking-sound n starts neighbours (t .full) (t .low) (t .report) a b w) in

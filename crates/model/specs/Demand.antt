@@ -4,7 +4,9 @@ use mathlib.Core.Path.{_≡_}
 use mathlib.Core.Logic.{_⊎_, _↔_}
 use mathlib.Core.List.{List}
 use Prim.Native.Nat.{ℕ, _+_, _/_, _≤_, _<_}
+use lib.Dec.{T}
 use lib.ListN.{length, getD, take, replicate}
+use Rattle.model.specs.declared.Route.the-variants.{Link}
 use Rattle.model.specs.declared.Answer.{Answer}
 use Rattle.model.specs.declared.TestResult.{TestResult}
 use Rattle.model.specs.declared.Verdict.{Verdict}
@@ -17,6 +19,7 @@ use Rattle.model.specs.SurveyText.{surveyText}
 use Rattle.model.specs.Survey.{neighboursOf, Accepted}
 use Rattle.model.specs.Hubs.{hubs}
 use Rattle.model.specs.Tables.{AreBuilt, AreBuiltWith}
+use Rattle.model.specs.Pair.{withRoute}
 use Rattle.model.specs.Reading.{named, AfterReading, reading}
 use Rattle.model.specs.Writing.{AfterWriting}
 use Rattle.model.specs.Building.{AfterBuilding}
@@ -65,11 +68,12 @@ pub record Allowed (E : Edges) (a b r : ℕ) : Type 0 where
   pub no-route : (r ≡ none) ↔ Unjoined E a b
   pub near : (d : ℕ) → Fewest E a b d → (d ≤ r) × (r ≤ d + 2)
 
--- rule 9.4: asking is not refused, and its report is allowed
+-- rule 9.4: asking is not refused, its report is allowed, and it is 1 by the link exactly where the two are linked
 pub record AllowedAnswer (E : Edges) (a b : ℕ) (o : Outcome Answer) : Type 0 where
   pub value : Answer
   pub given : o ≡ answered value
   pub allowed : Allowed E a b (value .report)
+  pub by-link : (value ≡ withRoute 1 Link) ↔ T (E a b)
 
 -- rule 9.4, for every accepted survey, tables built from it with any threshold s, and two nodes below n
 abbrev pub AskRight : (n : ℕ) (full low report : List ℕ) (a b : ℕ) → Outcome Answer → Type 0
@@ -124,12 +128,13 @@ pub record WholeWay (text : List ℕ) (x : Size) (starts neighbours : List ℕ) 
   pub links : List (ℕ × ℕ)
   pub as-many : length links ≡ x .links
   pub lines : text ≡ surveyText (x .nodes) (x .links) links
-  -- building and asking are not refused, and the report is allowed over those links
+  -- building and asking are not refused, and the report is allowed over those links, and 1 by link exactly where one of them joins the two
   pub count : ℕ
   pub builds : t .answer ≡ answered count
   pub value : Answer
   pub asked : asking (x .nodes) (t .full) (t .low) (t .report) a b ≡ answered value
   pub allowed : Allowed (named links) a b (value .report)
+  pub by-link : (value ≡ withRoute 1 Link) ↔ T (named links a b)
   -- in every list that is long enough the walk is answered the same, and is a walk along those links
   pub walked : (w : ℕ) → (value .report ≡ none) ⊎ (value .report < w)
       → (walking (x .nodes) starts neighbours (t .full) (t .low) (t .report) a b w .answer ≡ answered value)

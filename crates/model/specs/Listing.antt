@@ -5,7 +5,7 @@ use Prim.Native.Nat.{ℕ, _+_, _*_}
 use lib.Dec.{eqb}
 use lib.ListN.{length}
 use Rattle.model.specs.declared.Route.{Route}
-use Rattle.model.specs.declared.Route.the-variants.{Itself, Low, Through, NoRoute}
+use Rattle.model.specs.declared.Route.the-variants.{Itself, Low, Through, NoRoute, Link}
 use Rattle.model.specs.declared.Answer.{Answer}
 use Rattle.model.specs.Answers.{Outcome, refused, answered}
 use Rattle.model.specs.Basics.{none, if_then_else_, upTo, gather}
@@ -23,12 +23,13 @@ use Rattle.model.specs.Reading.{Parsed, parse, graphOf}
 unfoldable pub reportText : ℕ → List ℕ
 reportText r = if eqb r none then 45 ∷ [] else digits r
 
--- rule 11.1: a route's text; `low` is 108 111 119. `Itself` does not occur, since a < b
+-- rule 11.1: a route's text; `low` is 108 111 119 and `link` 108 105 110 107. `Itself` does not occur, since a < b
 unfoldable pub routeText : Route → List ℕ
 routeText Itself = []
 routeText Low = 108 ∷ 111 ∷ 119 ∷ []
 routeText (Through h) = digits h
 routeText NoRoute = 45 ∷ []
+routeText Link = 108 ∷ 105 ∷ 110 ∷ 107 ∷ []
 
 -- rule 11.1: a pair's line (no pair is refused: `listing-lines` of proofs/Listing.antt)
 unfoldable pub pairLine : ℕ × ℕ → Outcome Answer → List ℕ

@@ -6,7 +6,7 @@ use Prim.Native.Nat.{ℕ}
 use lib.Dec.{eqb}
 use lib.ListN.{take}
 use Rattle.model.specs.declared.Route.{Route}
-use Rattle.model.specs.declared.Route.the-variants.{Itself, Low, Through, NoRoute}
+use Rattle.model.specs.declared.Route.the-variants.{Itself, Low, Through, NoRoute, Link}
 use Rattle.model.specs.declared.Answer.{Answer}
 use Rattle.model.specs.Answers.{Outcome, refused, answered}
 use Rattle.model.specs.Basics.{none, if_then_else_, upTo, has, firstOf}
@@ -16,12 +16,13 @@ use Rattle.model.specs.Tables.{entryAt, via}
 abbrev pub withRoute : ℕ → Route → Answer
 withRoute r t = record { report = r; route = t }
 
--- rules 6.2 and 10.8: the report r with the route that attains it, where l is the entry of Low and h the hub that attains r, or none.
--- Refused 11 where no route attains it, or where a = b and r is not 0
+-- rules 6.2 and 10.8: the report r with the route that attains it, where l is the entry of Low and h the hub that attains r, or none. A
+-- report of 1 between different nodes is by the link. Refused 11 where no route attains r, or where a = b and r is not 0
 unfoldable pub choose : (a b r l h : ℕ) → Outcome Answer
 choose a b r l h =
     if eqb a b then (if eqb r 0 then answered (withRoute 0 Itself) else refused 11)
     else if eqb r none then answered (withRoute none NoRoute)
+    else if eqb r 1 then answered (withRoute 1 Link)
     else if eqb l r then answered (withRoute r Low)
     else if eqb h none then refused 11
     else answered (withRoute r (Through h))

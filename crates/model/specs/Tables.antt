@@ -64,16 +64,19 @@ abbrev pub least : (ℕ → ℕ) → ℕ → List ℕ → ℕ
 least f x hs = foldr (λ h y. min (f h) y) x hs
 
 -- rule 5.5: an entry of Report, an estimated distance. With at most 1,024 nodes, every sum of two distances is less than the number none
-abbrev pub reportEntry : ℕ → (full low hs : List ℕ) → ℕ → ℕ → ℕ
-reportEntry n full low hs a b = if eqb a b then 0 else least (via n full a b) (entryAt n low a b) hs
+abbrev pub reportEntry : ℕ → Graph → (full low hs : List ℕ) → ℕ → ℕ → ℕ
+reportEntry n G full low hs a b =
+    if eqb a b then 0
+    else if linked n G a b then 1
+    else least (via n full a b) (entryAt n low a b) hs
 
 -- the table of these entries (rule 5.5)
-abbrev pub reportOf : ℕ → (full low hs : List ℕ) → List ℕ
-reportOf n full low hs = table n (reportEntry n full low hs)
+abbrev pub reportOf : ℕ → Graph → (full low hs : List ℕ) → List ℕ
+reportOf n G full low hs = table n (reportEntry n G full low hs)
 
 -- rule 5.5, from the tables of rules 5.2 and 5.3
 unfoldable pub reportTable : ℕ → ℕ → Graph → List ℕ
-reportTable n s G = reportOf n (fullTable n s G) (lowTable n s G) (hubs n s G)
+reportTable n s G = reportOf n G (fullTable n s G) (lowTable n s G) (hubs n s G)
 
 -- rule 4.7: the hubs in the order chosen, then none
 unfoldable pub hubList : ℕ → ℕ → Graph → List ℕ

@@ -7,9 +7,10 @@ use mathlib.Core.Option.{Option, none as missing, some, Option·map}
 use Prim.Native.Nat.{ℕ, zero, suc}
 use lib.Dec.{eqb}
 use Rattle.model.specs.declared.Route.{Route}
-use Rattle.model.specs.declared.Route.the-variants.{Itself, Low, Through, NoRoute}
+use Rattle.model.specs.declared.Route.the-variants.{Itself, Low, Through, NoRoute, Link}
 use Rattle.model.specs.Basics.{none, if_then_else_, firstOf}
 use Rattle.model.specs.Survey.{Graph}
+use Rattle.model.specs.Graph.{linked}
 use Rattle.model.specs.Hubs.{isLow}
 use Rattle.model.specs.Tables.{entryAt}
 
@@ -44,9 +45,14 @@ join missing q = missing
 join (some p) missing = missing
 join (some p) (some q) = some (p ++ tail (reverse q))
 
+-- rule 6.8: the two nodes; missing where they are not linked
+unfoldable pub byLink : ℕ → Graph → (a b : ℕ) → Option (List ℕ)
+byLink n G a b = if linked n G a b then some (a ∷ b ∷ []) else missing
+
 -- rule 6.4: the nodes of the walk by a route, in graph G with threshold s; no nodes where there is no route
 unfoldable pub walkNodes : ℕ → ℕ → Graph → List ℕ → List ℕ → (a b : ℕ) → Route → Option (List ℕ)
 walkNodes n s G full low a b Itself = some (a ∷ [])
 walkNodes n s G full low a b Low = byLow n s G low a b
 walkNodes n s G full low a b (Through h) = join (toHub n G full h a) (toHub n G full h b)
 walkNodes n s G full low a b NoRoute = some []
+walkNodes n s G full low a b Link = byLink n G a b

@@ -40,12 +40,14 @@ pub struct Size {
     pub links: usize,
 }
 
-// How a report is attained: the two nodes are one; by low nodes only; through a hub; or not at all, since no chain joins them.
+// How a report is attained: the two nodes are one; by low nodes only; through a hub; not at all, since no chain joins them; or by the link
+// between the two.
 pub enum Route {
     Itself,
     Low,
     Through(u16),
     NoRoute,
+    Link,
 }
 
 // The answer to a pair.

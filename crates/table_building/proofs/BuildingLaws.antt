@@ -62,7 +62,7 @@ pub record Filled (n s : ℕ) (G : Graph) (full low report list full′ low′ r
   pub hubs-are : list′ ≡ over (hubList n s G) list
   pub full-is : full′ ≡ over (fullOf n G (take count list′)) full
   pub low-is : low′ ≡ over (lowTable n s G) low
-  pub report-is : report′ ≡ over (reportOf n full′ low′ (take count list′)) report
+  pub report-is : report′ ≡ over (reportOf n G full′ low′ (take count list′)) report
 
 pub tables-built : {n s : ℕ} {G : Graph} {full low report list full′ low′ report′ list′ : List ℕ} {count : ℕ}
     → Filled n s G full low report list full′ low′ report′ list′ count
@@ -73,9 +73,9 @@ tables-built {n} {s} {G} {full} {low} {report} {list} {full′} {low′} {report
     let full-built : full′ ≡ over (fullTable n s G) full = f .full-is ∙ ap (λ (hs : List ℕ). over (fullOf n G hs) full) front in
     let report-built : report′ ≡ over (reportTable n s G) report =
     f .report-is
-    ∙ ap (λ (hs : List ℕ). over (reportOf n full′ low′ hs) report) front
-    ∙ ap₂ (λ (x y : List ℕ). over (reportOf n x y (hubs n s G)) report) full-built (f .low-is)
-    ∙ ap (λ (t : List ℕ). over t report) (report-same n _ _ full low (hubs n s G) (hubs-below _ _ _)) in
+    ∙ ap (λ (hs : List ℕ). over (reportOf n G full′ low′ hs) report) front
+    ∙ ap₂ (λ (x y : List ℕ). over (reportOf n G x y (hubs n s G)) report) full-built (f .low-is)
+    ∙ ap (λ (t : List ℕ). over t report) (report-same n G _ _ full low (hubs n s G) (hubs-below _ _ _)) in
     λ i. record { answer = answered (f .counted i); full = full-built i; low = f .low-is i; report = report-built i; hubs = f .hubs-are i }
 
 -- ---- the refusals, in their order

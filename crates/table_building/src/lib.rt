@@ -32,7 +32,7 @@ pub fn build_tables(
     let count = table_hubs::choose_hubs(n, s, starts, neighbours, hubs);
     table_distances::fill_full(n, starts, neighbours, &hubs[..count], full);
     table_distances::fill_low(n, s, starts, neighbours, low);
-    table_report::fill_report(n, full, low, &hubs[..count], report);
+    table_report::fill_report(n, starts, neighbours, full, low, &hubs[..count], report);
     count
 }
 

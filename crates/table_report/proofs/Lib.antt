@@ -1,2 +1,3 @@
 pub mod Relaxing
+pub mod Linking
 pub mod Reports

@@ -1,4 +1,4 @@
--- A row of Report, hub by hub; and Report from tables that stand in front of longer lists.
+-- A row of Report, hub by hub, then by the links; and Report from tables that stand in front of longer lists.
 -- Assumes nothing.
 use mathlib.Core.Path.{_≡_, refl, sym, ap, ap₂, _∙_}
 use mathlib.Core.Logic.{_⊎_, inl, inr}
@@ -16,12 +16,15 @@ use Rattle.base_lists.specs.Written.{Wrote}
 use Rattle.base_lists.proofs.Written.{wrote-over, over-whole}
 use Rattle.base_lists.proofs.TableRows.{part-length, is-row, row-same, table-same}
 use Rattle.model.specs.Basics.{none, if_then_else_, upTo, has, over}
+use Rattle.model.specs.Survey.{Graph, IsGraph}
+use Rattle.model.specs.Graph.{linked}
 use Rattle.model.specs.Tables.{table, entryAt, sum, via, least, reportEntry, reportOf}
+use Rattle.model.proofs.Acceptance.{linked-own}
 use Rattle.model.proofs.Allowance.{least-base}
 use Rattle.model.proofs.Entries.{length-row, getD-row, length-table, entry-front}
 use Rattle.model.proofs.Lists.{has-head, has-tail}
 use Rattle.model.proofs.Tests.{eq-or}
-use Rattle.table_report.specs.Relaxed.{relaxed}
+use Rattle.table_report.specs.Relaxed.{relaxed, linksSet}
 
 -- row a of a table, as a part of the list
 own-row : (n a : ℕ) (t : List ℕ) → a < n → n * n ≤ length t → midOf (a * n) (a * n + n - a * n) t ≡ map (entryAt n t a) (upTo n)
@@ -46,7 +49,7 @@ lesser-sum x y {e} h = at (eq-or _ _) (eq-or _ _)
     at (inr p) (inl q) = rw (ne-eqb x none p, eq-eqb y none q) (omega arith)
     at (inr p) (inr q) = rw (ne-eqb x none p, ne-eqb y none q)
 
--- ---- a row of Report, hub by hub
+-- ---- a row of Report, hub by hub, then by the links
 
 -- the least over Low and the first k hubs
 abbrev leastTo : (n : ℕ) (full low hs : List ℕ) (a k b : ℕ) → ℕ
@@ -97,21 +100,29 @@ module _ {n : ℕ} {full low hs : List ℕ} {a : ℕ} {row : List ℕ} {k : ℕ}
       ∙ row-same n _ _ lesser in
       record { within = omega arith; long = ap length says ∙ length-row (to (k + 1)) n; says = says }
 
-  -- all hubs, and 0 at a itself
-  pub row-done : length hs ≤ k → a < n → set row a 0 ≡ map (reportEntry n full low hs a) (upTo n)
-  row-done h l =
-      is-row _ _ _ (length-set row a 0 ∙ r .long) (λ b j. at b j (eq-or _ _))
+  -- all hubs, then 1 at a's neighbours and 0 at a itself
+  pub row-done : {G : Graph} {own row′ : List ℕ} → length hs ≤ k → a < n → IsGraph n G → own ≡ G a → row′ ≡ linksSet own row
+      → set row′ a 0 ≡ map (reportEntry n G full low hs a) (upTo n)
+  unfolding linksSet
+  row-done {G} {own} {row′} h l graph lent e =
+      is-row _ _ _ (length-set row′ a 0 ∙ long′) (λ b j. at b j (eq-or _ _))
     where
-      at : (b : ℕ) → b < n → (a ≡ b) ⊎ (a ≡ b → ⊥) → getD (set row a 0) b 0 ≡ reportEntry n full low hs a b
-      at b j (inl e) =
-          rw (eq-eqb a b e) (
-          ap (λ (c : ℕ). getD (set row a 0) c 0) (sym e) ∙ getD-set-same row a 0 0 (omega (arith, r .long)))
+      long′ : length row′ ≡ n
+      long′ = ap length e ∙ length-row _ _ ∙ r .long
+
+      at : (b : ℕ) → b < n → (a ≡ b) ⊎ (a ≡ b → ⊥) → getD (set row′ a 0) b 0 ≡ reportEntry n G full low hs a b
+      at b j (inl q) =
+          rw (eq-eqb a b q) (
+          ap (λ (c : ℕ). getD (set row′ a 0) c 0) (sym q) ∙ getD-set-same row′ a 0 0 (omega (arith, long′)))
       at b j (inr d) =
-          rw (ne-eqb a b d) (
-          getD-set-other row a b 0 0 (λ e. d (sym e))
-          ∙ ap (λ (t : List ℕ). getD t b 0) (r .says)
+          rw (ne-eqb a b d, linked-own n G graph a b l, ← lent) (
+          getD-set-other row′ a b 0 0 (λ q. d (sym q))
+          ∙ ap (λ (t : List ℕ). getD t b 0) e
+          ∙ getD-row _ _ b 0 (omega (arith, r .long))
+          ∙ ap (λ (x : ℕ). if has b own then 1 else x) (
+          ap (λ (t : List ℕ). getD t b 0) (r .says)
           ∙ getD-row (leastTo n full low hs a k) n b 0 j
-          ∙ ap (least (via n full a b) (entryAt n low a b)) (take-all k hs h))
+          ∙ ap (least (via n full a b) (entryAt n low a b)) (take-all k hs h)))
 
 -- ---- Report from tables that stand in front of longer lists
 
@@ -121,12 +132,12 @@ unfolding over
 entry-over n f t a b ha hb =
     entry-front n _ _ (take-at _ _ _ (length-table _ _)) a b ha hb
 
-pub report-same : (n : ℕ) (f g : ℕ → ℕ → ℕ) (full low hs : List ℕ) → ((h : ℕ) → T (has h hs) → h < n)
-    → reportOf n (over (table n f) full) (over (table n g) low) hs ≡ reportOf n (table n f) (table n g) hs
+pub report-same : (n : ℕ) (G : Graph) (f g : ℕ → ℕ → ℕ) (full low hs : List ℕ) → ((h : ℕ) → T (has h hs) → h < n)
+    → reportOf n G (over (table n f) full) (over (table n g) low) hs ≡ reportOf n G (table n f) (table n g) hs
 unfolding via
-report-same n f g full low hs below =
+report-same n G f g full low hs below =
     table-same _ _ _ (λ a b ha hb.
-    ap (λ (x : ℕ). if eqb a b then 0 else x) (at a b ha hb hs below))
+    ap (λ (x : ℕ). if eqb a b then 0 else if linked n G a b then 1 else x) (at a b ha hb hs below))
   where
     full′ : List ℕ
     full′ = over (table n f) full

@@ -1,4 +1,4 @@
-// Report: for each two nodes the least of Low's entry and the sums of two entries of Full.
+// Report: for each two nodes 1 where they are linked, else the least of Low's entry and the sums of two entries of Full.
 use model::NONE;
 ghost use mathlib.Core.Path.{_≡_};
 ghost use mathlib.Core.List.{map};
@@ -6,8 +6,9 @@ ghost use Prim.Native.Nat.{ℕ, _+_, _*_, _<_, _≤_, min};
 ghost use lib.Dec.{T};
 ghost use lib.ListN.{length};
 ghost use Rattle.model.specs.Basics.{none, upTo, has, over};
+ghost use Rattle.model.specs.Survey.{neighboursOf, Accepted};
 ghost use Rattle.model.specs.Tables.{reportEntry, reportOf};
-ghost use Rattle.table_report.specs.Relaxed.{relaxed};
+ghost use Rattle.table_report.specs.Relaxed.{relaxed, linksSet};
 
 fn lesser(a: u16, b: u16) -> u16
     ensures { λ r. ⌜ r ≡ min a b ⌝ }
@@ -42,11 +43,33 @@ fn relax(row: &mut [u16], x: u16, other: &[u16])
     }
 }
 
-// Row a of Report: the least of Low's row and, over all hubs, the sums of two entries of Full; 0 at a itself.
-fn report_row(n: usize, full: &[u16], low: &[u16], hubs: &[u16], a: usize, row: &mut [u16])
-    requires { ⌜ (n ≤ 1024) × (n * n ≤ length (now full)) × (n * n ≤ length (now low)) × (a < n) × (length (now row) ≡ n) ⌝ }
-    requires { ⌜ ((h : ℕ) → T (has h (now hubs)) → h < n) ⌝ }
-    ensures { λ _. ⌜ now (row .exit) ≡ map (reportEntry n (now (full .entry)) (now (low .entry)) (now (hubs .entry)) a) (upTo n) ⌝ }
+// The entries of a node's own neighbours become 1.
+fn set_links(own: &[u16], row: &mut [u16])
+    requires { ⌜ ((x : ℕ) → T (has x (now own)) → x < length (now row)) ⌝ }
+    ensures { λ _. ⌜ now (row .exit) ≡ linksSet (now (own .entry)) (now (row .entry)) ⌝ }
+{
+    let mut i = 0;
+    while i < own.len() {
+        row[own[i] as usize] = 1;
+        i += 1;
+    }
+}
+
+// Row a of Report: the least of Low's row and, over all hubs, the sums of two entries of Full; then 1 at a's neighbours and 0 at a itself.
+fn report_row(
+    n: usize,
+    starts: &[u32],
+    neighbours: &[u16],
+    full: &[u16],
+    low: &[u16],
+    hubs: &[u16],
+    a: usize,
+    row: &mut [u16],
+)
+    requires { ⌜ Accepted n (now starts) (now neighbours) × (n * n ≤ length (now full)) × (n * n ≤ length (now low)) ⌝ }
+    requires { ⌜ ((h : ℕ) → T (has h (now hubs)) → h < n) × (a < n) × (length (now row) ≡ n) ⌝ }
+    ensures { λ _. ⌜ now (row .exit) ≡ map (reportEntry n (neighboursOf (now (starts .entry)) (now (neighbours .entry)))
+        (now (full .entry)) (now (low .entry)) (now (hubs .entry)) a) (upTo n) ⌝ }
 {
     let start = a * n;
     let end = start + n;
@@ -58,21 +81,40 @@ fn report_row(n: usize, full: &[u16], low: &[u16], hubs: &[u16], a: usize, row: 
         relax(row, full[first + a], &full[first..last]);
         k += 1;
     }
+    let own = survey_neighbours::own(n, starts, neighbours, a);
+    set_links(own, row);
     row[a] = 0;
 }
 
 // Report, row by row.
-pub fn fill_report(n: usize, full: &[u16], low: &[u16], hubs: &[u16], report: &mut [u16])
-    requires { ⌜ (n ≤ 1024) × (n * n ≤ length (now full)) × (n * n ≤ length (now low)) × (n * n ≤ length (now report)) ⌝ }
-    requires { ⌜ ((h : ℕ) → T (has h (now hubs)) → h < n) ⌝ }
-    ensures { λ _. ⌜ now (report .exit)
-        ≡ over (reportOf n (now (full .entry)) (now (low .entry)) (now (hubs .entry))) (now (report .entry)) ⌝ }
+pub fn fill_report(
+    n: usize,
+    starts: &[u32],
+    neighbours: &[u16],
+    full: &[u16],
+    low: &[u16],
+    hubs: &[u16],
+    report: &mut [u16],
+)
+    requires { ⌜ Accepted n (now starts) (now neighbours) × (n * n ≤ length (now full)) × (n * n ≤ length (now low)) ⌝ }
+    requires { ⌜ ((h : ℕ) → T (has h (now hubs)) → h < n) × (n * n ≤ length (now report)) ⌝ }
+    ensures { λ _. ⌜ now (report .exit) ≡ over (reportOf n (neighboursOf (now (starts .entry)) (now (neighbours .entry)))
+        (now (full .entry)) (now (low .entry)) (now (hubs .entry))) (now (report .entry)) ⌝ }
 {
     let mut a = 0;
     while a < n {
         let start = a * n;
         let end = start + n;
-        report_row(n, full, low, hubs, a, &mut report[start..end]);
+        report_row(
+            n,
+            starts,
+            neighbours,
+            full,
+            low,
+            hubs,
+            a,
+            &mut report[start..end],
+        );
         a += 1;
     }
 }

@@ -43,6 +43,15 @@ pub fn write_byte(buf: &mut [u8], at: usize, b: u8) -> usize
     at + 1
 }
 
+// Writes a text at a place, and returns the place after it.
+pub fn write_text(buf: &mut [u8], at: usize, text: &[u8]) -> usize
+    requires { ⌜ at + length (now text) ≤ length (now buf) ⌝ }
+    ensures { λ r. ⌜ Wrote (now (buf .entry)) (now (buf .exit)) at r (now (text .entry)) ⌝ }
+{
+    base_lists::copy8(text, buf, at);
+    at + text.len()
+}
+
 // Writes the decimal text of a number of any size at a place, and returns the place after it.
 fn write_digits(buf: &mut [u8], at: usize, x: u32) -> usize
     requires { ⌜ at + length (digits x) ≤ length (now buf) ⌝ }
@@ -120,6 +129,6 @@ pub fn write_line(buf: &mut [u8], at: usize, word: &[u8], separator: u8, numbers
     ensures { λ r. ⌜ Wrote (now (buf .entry)) (now (buf .exit)) at r
         (numberLineOf (now (word .entry)) separator (now (numbers .entry))) ⌝ }
 {
-    base_lists::copy8(word, buf, at);
-    write_fields(buf, at + word.len(), separator, numbers)
+    let i = write_text(buf, at, word);
+    write_fields(buf, i, separator, numbers)
 }

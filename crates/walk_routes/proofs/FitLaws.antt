@@ -1,17 +1,20 @@
--- The walk list at return: a part turned round, or two of them joined, in a list that was all none.
+-- The walk list at return: the two nodes of a link, a part turned round, or two of them joined, in a list that was all none.
 -- Assumes nothing.
 use mathlib.Core.Path.{_≡_, refl, sym, ap, _∙_}
+use mathlib.Core.Bool.{true, false}
 use mathlib.Core.List.{List, [], _∷_, _++_, reverse, tail, reverse-reverse}
 use mathlib.Core.Option.{Option, none as missing, some}
 use Prim.Native.Nat.{ℕ, zero, suc, _+_, _-_, _≤_, _<_}
 use native.Mathlib.Nat.{sub-zero, zero-sub, suc-sub-suc}
 use native.Mathlib.Omega.{arith}
-use lib.ListN.{length, take, drop, replicate, length-append, length-reverse}
+use lib.ListN.{length, take, drop, set, replicate, length-append, length-reverse}
 use lib.Seq.{take-at, take-nil}
 use Rattle.model.specs.declared.Answer.{Answer}
 use Rattle.model.specs.Answers.{Outcome, refused, answered}
 use Rattle.model.specs.Basics.{none, over}
-use Rattle.model.specs.Walk.{join}
+use Rattle.model.specs.Survey.{Graph}
+use Rattle.model.specs.Graph.{linked}
+use Rattle.model.specs.Walk.{join, byLink}
 use Rattle.model.specs.Walking.{AfterWalking, refuseWalk, fit}
 use Rattle.model.proofs.Walks.{fit-short, fit-long}
 use Rattle.base_lists.specs.Written.{Wrote}
@@ -89,6 +92,24 @@ module _ {p q : Option (List ℕ)} {i j : ℕ} {there back : List ℕ} (first : 
       length-append (first .part) (tail (reverse (second .part)))
       ∙ omega (arith, length-tail (reverse (second .part)), length-reverse (second .part))
 
+-- ---- along a link
+
+module _ (n : ℕ) (G : Graph) (a b : ℕ) where
+  pub link-missing : linked n G a b ≡ false → byLink n G a b ≡ missing
+  unfolding byLink
+  link-missing e = rw e
+
+  pub link-found : linked n G a b ≡ true → byLink n G a b ≡ some (a ∷ b ∷ [])
+  unfolding byLink
+  link-found e = rw e
+
+-- the first two entries, written one after the other
+two-set : (l : List ℕ) (a b : ℕ) → 2 ≤ length l → set (set l 0 a) 1 b ≡ over (a ∷ b ∷ []) l
+unfolding over
+two-set [] a b h = absurd (omega arith)
+two-set (x ∷ []) a b h = absurd (omega arith)
+two-set (x ∷ y ∷ l) a b h = refl
+
 -- ---- what is given out
 
 abbrev pub outcome : Outcome Answer → List ℕ → AfterWalking
@@ -110,6 +131,14 @@ module _ {list : List ℕ} (blank : list ≡ replicate (length list) none) (x : 
       let behind : drop (length l) list ≡ replicate (length list - length l) none =
       ap (drop (length l)) blank ∙ drop-replicate (length l) (length list) none in
       ap (outcome (answered x)) (e ∙ ap (λ (t : List ℕ). l ++ t) behind) ∙ sym (fit-long (length list) x l h)
+
+  -- along a link
+  module _ (n : ℕ) (G : Graph) (a b : ℕ) (e : linked n G a b ≡ true) where
+    pub link-short : length list < 2 → outcome (refused 8) list ≡ fit (length list) x (byLink n G a b)
+    link-short h = rw (link-found n G a b e) (short-refused (a ∷ b ∷ []) h)
+
+    pub link-fits : 2 ≤ length list → outcome (answered x) (set (set list 0 a) 1 b) ≡ fit (length list) x (byLink n G a b)
+    link-fits h = rw (link-found n G a b e) (fits-given (a ∷ b ∷ []) h (two-set list a b h))
 
   -- one part
   module _ {o : Option (List ℕ)} {count : ℕ} {nodes : List ℕ} (f : Found o count nodes) where

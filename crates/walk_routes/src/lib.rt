@@ -1,4 +1,4 @@
-// The walk of a route over low nodes, or through a hub, made of its parts.
+// The walk of a route: by a link, over low nodes, or through a hub.
 use model::Answer;
 use model::Asking;
 use model::Refusal;
@@ -8,8 +8,35 @@ ghost use lib.ListN.{length, replicate};
 ghost use Rattle.model.specs.Basics.{none};
 ghost use Rattle.model.specs.Survey.{neighboursOf, Accepted};
 ghost use Rattle.model.specs.Threshold.{threshold};
-ghost use Rattle.model.specs.Walk.{byLow, toHub, join};
+ghost use Rattle.model.specs.Walk.{byLink, byLow, toHub, join};
 ghost use Rattle.model.specs.Walking.{walkReturned, fit};
+
+// Writes the walk along the link into a list that is all none: the two nodes. The link is judged before the list's length.
+pub fn write_link(
+    n: usize,
+    starts: &[u32],
+    neighbours: &[u16],
+    a: usize,
+    b: usize,
+    answer: Answer,
+    walk: &mut [u16],
+) -> Asking
+    requires { ⌜ Accepted n (now starts) (now neighbours) × (a < n) × (b < n) ⌝ }
+    requires { ⌜ now walk ≡ replicate (length (now walk)) none ⌝ }
+    ensures { λ r. ⌜ walkReturned r (now (walk .exit)) ≡ fit (length (now (walk .entry))) answer
+        (byLink n (neighboursOf (now (starts .entry)) (now (neighbours .entry))) a b) ⌝ }
+{
+    let linked = survey_neighbours::are_linked(n, starts, neighbours, a, b);
+    if !linked {
+        return Asking::Refused(Refusal::NotAttained);
+    }
+    if walk.len() < 2 {
+        return Asking::Refused(Refusal::ShortList);
+    }
+    walk[0] = a as u16;
+    walk[1] = b as u16;
+    Asking::Answered(answer)
+}
 
 // Writes the walk over low nodes into a list that is all none. The steps are judged before the list's length.
 pub fn write_low(

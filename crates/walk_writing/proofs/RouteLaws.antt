@@ -16,7 +16,7 @@ use Rattle.model.specs.Walking.{AfterWalking, walking}
 use Rattle.model.specs.Demand.{WalkSound, WalkRight}
 use Rattle.model.proofs.Demand.{walking-sound, walking-right}
 use Rattle.model.proofs.Outcomes.{never, promised}
-use Rattle.model.proofs.Walks.{Chosen, to-itself, to-none, to-low, to-hub, bad-itself, bad-hub, chosen, attains}
+use Rattle.model.proofs.Walks.{Chosen, to-itself, to-none, to-link, to-low, to-hub, bad-itself, bad-hub, chosen, attains}
 
 -- the hub of an answer's route is a node
 pub hub-below : (n : ℕ) (full low report : List ℕ) (a b : ℕ) {x : Answer} {h : ℕ}
@@ -33,10 +33,11 @@ hub-below n full low report a b {x} {h} e q = at (chosen a b r (entryAt n low a 
     at : {o : Outcome Answer} → Chosen a b r (entryAt n low a b) hub o → o ≡ answered x → h < n
     at (to-itself i z) e = let z : _≡_ {A = ℕ} 0 1 = cc in absurd (omega arith)
     at (to-none i z) e = let z : _≡_ {A = ℕ} 0 1 = cc in absurd (omega arith)
-    at (to-low i z l) e = let z : _≡_ {A = ℕ} 0 1 = cc in absurd (omega arith)
-    at (to-hub i z l f) e = let s : hub ≡ h = cc in subst (λ (k : ℕ). k < n) s (attains (taken n full a b) n full a b r f .0)
+    at (to-link i z) e = let z : _≡_ {A = ℕ} 0 1 = cc in absurd (omega arith)
+    at (to-low i z o l) e = let z : _≡_ {A = ℕ} 0 1 = cc in absurd (omega arith)
+    at (to-hub i z o l f) e = let s : hub ≡ h = cc in subst (λ (k : ℕ). k < n) s (attains (taken n full a b) n full a b r f .0)
     at (bad-itself i z) e = never e
-    at (bad-hub i z l f) e = never e
+    at (bad-hub i z o l f) e = never e
 
 -- what is left by the rules is sound and right
 pub written : {n : ℕ} {starts neighbours full low report : List ℕ} {a b w : ℕ} {r : AfterWalking}

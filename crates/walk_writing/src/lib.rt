@@ -1,4 +1,4 @@
-// Writing a walk: the nodes of a pair's route, each step chosen by the tables.
+// Writing a walk: the nodes of a pair's route, chosen by the tables and the lists.
 use model::Answer;
 use model::Asking;
 use model::Refusal;
@@ -48,6 +48,7 @@ fn write_route(
             walk_routes::write_through(n, starts, neighbours, full, a, b, h as usize, answer, walk)
         }
         Route::NoRoute => Asking::Answered(answer),
+        Route::Link => walk_routes::write_link(n, starts, neighbours, a, b, answer, walk),
     }
 }
 

@@ -10,9 +10,16 @@ use reference::{build, read, Route, NONE};
 
 pub const COURSE: &str = "S,6,6\nL,0,5\nL,1,5\nL,2,5\nL,3,5\nL,4,5\nL,1,2\n";
 
+/// The course survey with a seventh node that has no link. Node 0 is the
+/// hub, so pairs with node 6 have a none in their hub sum.
+pub const SEPARATE_NODE: &str = "S,7,6\nL,0,5\nL,1,5\nL,2,5\nL,3,5\nL,4,5\nL,1,2\n";
+
+/// Nodes 0 and 3 send each other back for 2 if each asks for its own walk.
+pub const SENT_BACK: &str = "S,7,6\nL,0,3\nL,1,3\nL,2,5\nL,3,4\nL,3,5\nL,3,6\n";
+
 /// The course survey as a planners' file with comments, and each link from
 /// both ends.
-pub const COURSE_FILE: &str = "c the course survey\np edge 6 12\ne 1 6\ne 2 6\ne 2 3\nc lamp 3\n\
+pub const COURSE_FILE: &str = "c the course survey\np edge 6 12\ne 1 6\ne 2 6\ne 2 3\nc node 3\n\
     e 3 2\ne 3 6\ne 4 6\ne 5 6\nc\ne 6 1\ne 6 2\ne 6 3\ne 6 4\ne 6 5\nc end\n";
 
 /// Stands for "no chain" in the distance matrix; two of them still add up.
@@ -64,6 +71,14 @@ impl Sample {
             n,
             linked: vec![vec![false; n]; n],
         }
+    }
+
+    /// The graph of a survey's text.
+    pub fn of_text(name: &str, text: &str) -> Self {
+        let mut lines = text.lines().map(two_numbers);
+        let (n, _) = lines.next().expect("a first line");
+        let links: Vec<_> = lines.collect();
+        from_links(name, n, &links)
     }
 
     pub fn link(&mut self, a: usize, b: usize) {
@@ -123,6 +138,13 @@ impl Sample {
     }
 }
 
+/// The numbers of a line of a survey's text.
+fn two_numbers(line: &str) -> (usize, usize) {
+    let fields = line.split(',').skip(1);
+    let numbers: Vec<_> = fields.map(|x| x.parse().expect("a number")).collect();
+    (numbers[0], numbers[1])
+}
+
 pub fn text_of(n: usize, links: &[(usize, usize)]) -> String {
     let lines = links.iter().map(|(a, b)| format!("L,{a},{b}\n"));
     format!("S,{n},{}\n", links.len()) + &lines.collect::<String>()
@@ -173,7 +195,7 @@ pub fn disordered_file_of(
     const COMMENTS: [&[u8]; 5] = [
         b"c\n",
         b"cx\n",
-        b"c lamps of the hall\n",
+        b"c a network's nodes\n",
         b"ce 1 2\n",
         b"c \xff\0 p edge 1 1\r\n",
     ];
@@ -200,6 +222,10 @@ pub fn from_links(name: &str, n: usize, links: &[(usize, usize)]) -> Sample {
         sample.link(a, b);
     }
     sample
+}
+
+pub fn course() -> Sample {
+    Sample::of_text("course", COURSE)
 }
 
 pub fn path(n: usize) -> Sample {
@@ -396,6 +422,12 @@ impl Built {
         Built::of_lists(n, starts, neighbours)
     }
 
+    /// The tables as they were before linked nodes reported 1.
+    pub fn before_links(mut self, sample: &Sample) -> Built {
+        put_back(sample, &self.full, &self.low, &mut self.report);
+        self
+    }
+
     pub fn ask(&self, a: usize, b: usize) -> Result<reference::Answer, u8> {
         reference::ask(self.n, &self.full, &self.low, &self.report, a, b)
     }
@@ -413,6 +445,25 @@ impl Built {
             list,
         )
     }
+}
+
+/// Gives linked nodes the reports that they had before these became 1.
+pub fn put_back(sample: &Sample, full: &[u16], low: &[u16], report: &mut [u16]) {
+    let n = sample.n;
+    for (a, b) in sample.links() {
+        let least = least_candidate(n, full, low, a, b);
+        report[a * n + b] = least;
+        report[b * n + a] = least;
+    }
+}
+
+/// The least of Low's entry and the sums of two entries of Full, in tables
+/// that are built.
+fn least_candidate(n: usize, full: &[u16], low: &[u16], a: usize, b: usize) -> u16 {
+    let sums = full
+        .chunks_exact(n)
+        .map(|row| row[a].saturating_add(row[b]));
+    sums.fold(low[a * n + b], u16::min)
 }
 
 /// Distances between all allowed nodes by repeated improvement through
@@ -471,7 +522,8 @@ impl Expected {
                     .iter()
                     .map(|&h| distances_all[h][a] + distances_all[h][b]);
                 let least = sums.chain([distances_low[a][b]]).min().unwrap();
-                report.push(entry(if a == b { 0 } else { least }));
+                // Itself and a link before all candidates.
+                report.push(entry(if distance <= 1 { distance } else { least }));
             }
         }
         Expected {
@@ -529,7 +581,11 @@ pub fn expected_ask(built: &Built, a: usize, b: usize) -> Result<(u16, Route), u
     if report == NONE {
         return Ok((NONE, Route::NoRoute));
     }
-    let mut candidates = vec![(built.low[a * n + b] as usize, Route::Low)];
+    // In the order of preference. Without the lists a link may be anywhere.
+    let mut candidates = vec![
+        (1, Route::Link),
+        (built.low[a * n + b] as usize, Route::Low),
+    ];
     for h in 0..n {
         let pair = [built.full[h * n + a], built.full[h * n + b]];
         if !pair.contains(&NONE) {
@@ -557,6 +613,7 @@ pub fn expected_walk(
     match route {
         Route::Itself => Some(vec![a]),
         Route::NoRoute => Some(vec![]),
+        Route::Link => sample.linked[a][b].then(|| vec![a, b]),
         Route::Low => {
             let left: Vec<u16> = (0..n).map(|x| built.low[x * n + b]).collect();
             steps(sample, low_nodes, &left, left[a], a, b)

@@ -2,11 +2,13 @@
 
 use crate::lent::Lent;
 use crate::lists::{self, Lists};
-use crate::tables::Tables;
+use crate::pairs::Pair;
+use crate::tables::{self, Kind, Tables};
 use crate::texts::Form;
 use crate::{files, many, texts, Counts};
 use comparison::common::{Random, Sample};
 use comparison::{codes, header, proved};
+use reference::Answer;
 
 pub struct Call {
     pub name: &'static str,
@@ -143,8 +145,8 @@ impl<'a> Round<'a> {
             4 => self.export(counts),
             5 => self.accept(),
             6 => self.build(counts),
-            7 => self.ask(),
-            8 => self.walk(),
+            7 => self.ask(counts),
+            8 => self.walk(counts),
             9 => self.test(),
             _ => self.list(counts),
         }
@@ -400,24 +402,35 @@ impl<'a> Round<'a> {
         Ok(code)
     }
 
-    /// The built tables, as they are or altered.
-    fn tables(&mut self, a: usize, b: usize) -> Tables {
+    /// The built tables, as they are, as they were, or altered.
+    fn tables(&mut self, a: usize, b: usize) -> (Kind, Tables) {
         let [full, low, report] = self.built.clone();
         let mut tables = Tables { full, low, report };
-        if self.random.percent(50) {
-            tables.alter(self.random, self.sample.n, a, b);
+        let kind = tables::kind(self.random);
+        match kind {
+            Kind::Built => {}
+            Kind::BeforeLinks => tables.put_back(&self.sample),
+            Kind::AllOnes => tables.report.fill(1),
+            Kind::Altered => tables.alter(self.random, self.sample.n, a, b),
         }
-        tables
+        (kind, tables)
     }
 
-    fn ask(&mut self) -> Outcome {
-        let true_n = self.sample.n;
-        let n = lists::node_count(self.random, true_n);
-        let (a, b) = (
-            lists::node(self.random, true_n),
-            lists::node(self.random, true_n),
-        );
-        let tables = self.tables(a, b);
+    /// Two nodes, often the ends of a link.
+    fn pair(&mut self) -> (usize, usize) {
+        let n = self.sample.n;
+        if self.random.percent(70) || self.neighbours.is_empty() {
+            return (lists::node(self.random, n), lists::node(self.random, n));
+        }
+        let place = self.random.below(self.neighbours.len());
+        let begun = self.starts.partition_point(|&x| x as usize <= place);
+        (begun - 1, usize::from(self.neighbours[place]))
+    }
+
+    fn ask(&mut self, counts: &mut Counts) -> Outcome {
+        let n = lists::node_count(self.random, self.sample.n);
+        let (a, b) = self.pair();
+        let (kind, tables) = self.tables(a, b);
         let [full, low, report] =
             [&tables.full, &tables.low, &tables.report].map(|table| Lent::new(self.random, table));
         let code = proved::ask(n, full.list(), low.list(), report.list(), a, b);
@@ -426,7 +439,19 @@ impl<'a> Round<'a> {
         full.check("full", &tables.full)?;
         low.check("low", &tables.low)?;
         report.check("report", &tables.report)?;
+        counts.pairs.count(&Pair {
+            tables: kind,
+            linked: self.linked(n, a, b),
+            one_at_itself: a == b && tables.report_of(n, a, b) == Some(1),
+            asked: answer,
+            walked: None,
+        });
         Ok(code)
+    }
+
+    /// Whether the survey links two nodes, if they are its own.
+    fn linked(&self, n: usize, a: usize, b: usize) -> Option<bool> {
+        (n == self.sample.n && a < n && b < n).then(|| self.sample.linked[a][b])
     }
 
     /// Lists for a walk: mostly the survey's own, since asking is judged behind them.
@@ -440,60 +465,72 @@ impl<'a> Round<'a> {
         }
     }
 
-    fn walk(&mut self) -> Outcome {
-        let true_n = self.sample.n;
-        let n = lists::node_count(self.random, true_n);
-        let (a, b) = (
-            lists::node(self.random, true_n),
-            lists::node(self.random, true_n),
-        );
-        let lists = self.walk_lists();
-        let tables = self.tables(a, b);
-        let report = self.built[2]
-            .get(a.wrapping_mul(true_n).wrapping_add(b))
-            .copied()
-            .unwrap_or(0);
+    /// A length around what is always enough, or around what the report wants.
+    fn walk_length(&mut self, tables: &Tables, a: usize, b: usize) -> usize {
+        let n = self.sample.n;
+        let report = tables.report_of(n, a, b).unwrap_or(0);
         let wanted = if self.random.percent(50) {
-            2 * true_n
+            2 * n
         } else {
             usize::from(report % 3000) + 1
         };
-        let length = lists::length(self.random, wanted);
+        lists::length(self.random, wanted)
+    }
+
+    /// Writes a walk by both into a list of the given length.
+    fn walk_by_both(
+        &mut self,
+        n: usize,
+        (a, b): (usize, usize),
+        lists: &Lists,
+        tables: &Tables,
+        length: usize,
+    ) -> Result<(u64, Result<Answer, u8>), String> {
+        let Lists { starts, neighbours } = lists;
+        let Tables { full, low, report } = tables;
         let mut walk = lists::garbage16(self.random, length);
-        let starts = Lent::new(self.random, &lists.starts);
-        let neighbours = Lent::new(self.random, &lists.neighbours);
-        let [full, low, report] =
-            [&tables.full, &tables.low, &tables.report].map(|table| Lent::new(self.random, table));
-        let mut lent = Lent::new(self.random, &walk);
+        let lent_starts = Lent::new(self.random, starts);
+        let lent_neighbours = Lent::new(self.random, neighbours);
+        let [lent_full, lent_low, lent_report] =
+            [full, low, report].map(|table| Lent::new(self.random, table));
+        let mut lent_walk = Lent::new(self.random, &walk);
         let code = proved::walk(
             n,
-            starts.list(),
-            neighbours.list(),
-            full.list(),
-            low.list(),
-            report.list(),
+            lent_starts.list(),
+            lent_neighbours.list(),
+            lent_full.list(),
+            lent_low.list(),
+            lent_report.list(),
             a,
             b,
-            lent.list_mut(),
+            lent_walk.list_mut(),
         );
-        let answer = reference::walk(
-            n,
-            &lists.starts,
-            &lists.neighbours,
-            &tables.full,
-            &tables.low,
-            &tables.report,
-            a,
-            b,
-            &mut walk,
-        );
+        let answer = reference::walk(n, starts, neighbours, full, low, report, a, b, &mut walk);
         codes::answer(answer).check(code)?;
-        starts.check("starts", &lists.starts)?;
-        neighbours.check("neighbours", &lists.neighbours)?;
-        full.check("full", &tables.full)?;
-        low.check("low", &tables.low)?;
-        report.check("report", &tables.report)?;
-        lent.check("walk", &walk)?;
+        lent_starts.check("starts", starts)?;
+        lent_neighbours.check("neighbours", neighbours)?;
+        lent_full.check("full", full)?;
+        lent_low.check("low", low)?;
+        lent_report.check("report", report)?;
+        lent_walk.check("walk", &walk)?;
+        Ok((code, answer))
+    }
+
+    fn walk(&mut self, counts: &mut Counts) -> Outcome {
+        let n = lists::node_count(self.random, self.sample.n);
+        let (a, b) = self.pair();
+        let lists = self.walk_lists();
+        let (kind, tables) = self.tables(a, b);
+        let length = self.walk_length(&tables, a, b);
+        let (code, answer) = self.walk_by_both(n, (a, b), &lists, &tables, length)?;
+        let own = lists.starts == self.starts && lists.neighbours == self.neighbours;
+        counts.pairs.count(&Pair {
+            tables: kind,
+            linked: self.linked(n, a, b).filter(|_| own),
+            one_at_itself: a == b && tables.report_of(n, a, b) == Some(1),
+            asked: reference::ask(n, &tables.full, &tables.low, &tables.report, a, b),
+            walked: Some((length, answer)),
+        });
         Ok(code)
     }
 

@@ -3,13 +3,16 @@
 //! A case is one call of both on the same input. Answers are compared, as numbers and as the header reads them, and every lent list
 //! whole, between guard words. No call may give a refusal that is not one of its own. A text that was read is imported as a file too, and
 //! a file that was exported is imported again; both must leave the same lists. A run of many cases also has to meet every refusal that a
-//! call can give, every kind of survey that building does something else for, and every kind of file.
+//! call can give, every kind of survey that building does something else for, every kind of file, and of asking and walking every route,
+//! reports of 1 of nodes that are linked and that are not, with walk lists of every length around two, and at a node itself, and every
+//! kind of tables.
 
 mod calls;
 mod files;
 mod lent;
 mod lists;
 mod many;
+mod pairs;
 mod tables;
 mod texts;
 
@@ -37,6 +40,7 @@ pub struct Counts {
     /// How often a text was read, and the same survey imported.
     pub read_and_imported: u64,
     pub exported_and_imported: u64,
+    pub pairs: pairs::Met,
 }
 
 impl Counts {
@@ -44,7 +48,7 @@ impl Counts {
         self.calls.iter().flatten().sum()
     }
 
-    /// The refusals that a call can give, or a listing name, and the kinds for building and importing, that were not met.
+    /// The refusals that a call can give, or a listing name, and the kinds for building, importing, asking and walking, that were not met.
     fn unmet(&self) -> Vec<String> {
         let calls = CALLS.iter().map(|call| (call.name, call.refusals));
         let named = calls.chain([("listing", &LISTED[..])]);
@@ -68,6 +72,7 @@ impl Counts {
                 unmet.push(name);
             }
         }
+        unmet.extend(self.pairs.unmet());
         unmet
     }
 }
@@ -88,7 +93,8 @@ fn main() -> ExitCode {
             println!("{cases} cases agree, seed {seed}");
             let unmet = counts.unmet();
             if unmet.is_empty() {
-                println!("each call met each of its refusals, building each kind of survey, and importing each kind of file");
+                println!("each call met each of its refusals, building each kind of survey, importing each kind of file, and asking and");
+                println!("walking each route, report of 1 and kind of tables");
                 return ExitCode::SUCCESS;
             }
             println!("not met: {}", unmet.join("; "));
@@ -205,6 +211,7 @@ fn print_counts(counts: &Counts) {
         "{} texts were read and imported as files, {} files exported and imported again",
         counts.read_and_imported, counts.exported_and_imported
     );
+    counts.pairs.print();
 }
 
 fn print_row(name: &str, row: &Row) {

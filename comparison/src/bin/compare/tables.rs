@@ -1,7 +1,34 @@
-//! The three tables, altered.
+//! The three tables, built or altered.
 
-use comparison::common::Random;
+use comparison::common::{self, Random, Sample};
 use reference::NONE;
+
+/// Which tables they are.
+#[derive(Clone, Copy)]
+pub enum Kind {
+    Built,
+    BeforeLinks,
+    AllOnes,
+    Altered,
+}
+
+/// The kinds in their order.
+pub const KINDS: [&str; 4] = [
+    "as they were built",
+    "with reports from before linked nodes reported 1",
+    "with a report of 1 for every pair",
+    "altered",
+];
+
+/// Which of them a call is lent.
+pub fn kind(random: &mut Random) -> Kind {
+    match random.below(20) {
+        0..=7 => Kind::Built,
+        8..=10 => Kind::BeforeLinks,
+        11 => Kind::AllOnes,
+        _ => Kind::Altered,
+    }
+}
 
 pub struct Tables {
     pub full: Vec<u16>,
@@ -10,6 +37,16 @@ pub struct Tables {
 }
 
 impl Tables {
+    pub fn put_back(&mut self, sample: &Sample) {
+        common::put_back(sample, &self.full, &self.low, &mut self.report);
+    }
+
+    /// The report of two of n nodes, if there is such an entry.
+    pub fn report_of(&self, n: usize, a: usize, b: usize) -> Option<u16> {
+        let place = a.wrapping_mul(n).wrapping_add(b);
+        self.report.get(place).copied()
+    }
+
     fn pick(&mut self, random: &mut Random) -> &mut Vec<u16> {
         match random.below(3) {
             0 => &mut self.full,
@@ -22,12 +59,13 @@ impl Tables {
     pub fn alter(&mut self, random: &mut Random, n: usize, a: usize, b: usize) {
         let (a, b) = (a % n, b % n);
         for _ in 0..1 + random.below(3) {
-            match random.below(6) {
+            match random.below(7) {
                 0 => self.alter_entries(random, n),
                 1 => self.alter_all(random),
                 2 => self.alter_route(random, n, a, b),
                 3 => self.alter_report(random, n, a, b),
                 4 => self.swap(random),
+                5 => self.alter_to_one(random, n, a, b),
                 _ => self.resize(random, n),
             }
         }
@@ -79,6 +117,18 @@ impl Tables {
                 _ => random.below(6) as u16,
             };
         }
+    }
+
+    /// A report of 1 that Low attains, or a hub, or both, or neither.
+    fn alter_to_one(&mut self, random: &mut Random, n: usize, a: usize, b: usize) {
+        if self.full.len() < n * n || self.low.len() < n * n || self.report.len() < n * n {
+            return;
+        }
+        self.report[a * n + b] = 1;
+        self.low[a * n + b] = if random.percent(50) { 1 } else { NONE };
+        let h = random.below(n);
+        self.full[h * n + a] = 0;
+        self.full[h * n + b] = if random.percent(50) { 1 } else { NONE };
     }
 
     fn swap(&mut self, random: &mut Random) {

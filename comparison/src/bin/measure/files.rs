@@ -1,10 +1,10 @@
 //! The speed of importing and exporting planners' files: beside reading and writing the same survey's text, beside the second
 //! implementation and careful Rust, with comments and with links given from both ends.
 
-use crate::{verdict, PASSES};
+use crate::{surveys, verdict, PASSES};
 use comparison::common::{file_of, Sample};
 use comparison::timing::least;
-use comparison::{careful, graphs, proved};
+use comparison::{careful, proved};
 use std::hint::black_box;
 use std::time::Duration;
 
@@ -33,9 +33,7 @@ pub struct FileRow {
 
 /// Measures the surveys that the other calls are measured on.
 pub fn measure_all(budget: Duration) -> Vec<FileRow> {
-    let random = [128, 512].into_iter().flat_map(graphs::random_surveys);
-    random
-        .chain(graphs::largest_surveys())
+    surveys()
         .map(|sample| measure(&sample, budget / PASSES))
         .collect()
 }

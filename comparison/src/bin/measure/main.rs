@@ -5,6 +5,7 @@
 
 mod exact;
 mod files;
+mod linked;
 
 use comparison::common::Sample;
 use comparison::timing::{self, least, Lent, Times, CALLS};
@@ -30,9 +31,8 @@ struct Row {
 
 fn main() {
     let budget = timing::budget();
-    let random = [128, 512].into_iter().flat_map(graphs::random_surveys);
     let mut rows = Vec::new();
-    for sample in random.chain(graphs::largest_surveys()) {
+    for sample in surveys() {
         let row = measure(&sample, budget);
         print_row(&row);
         rows.push(row);
@@ -40,15 +40,24 @@ fn main() {
     print_table(&rows);
     print_growth(&rows);
     print_listings(budget);
+    let linked = linked::measure_all(budget);
+    linked::print(&linked);
     let files = files::measure_all(budget);
     files::print(&files);
     print_targets(&rows);
     print_least(&rows);
+    linked::print_least(&linked);
     files::print_least(&files);
 }
 
+/// The surveys that all calls are measured on.
+fn surveys() -> impl Iterator<Item = Sample> {
+    let random = [128, 512].into_iter().flat_map(graphs::random_surveys);
+    random.chain(graphs::largest_surveys())
+}
+
 /// Whether the careful version answers as the second implementation does, on this survey.
-fn check_careful(x: &Lent) {
+fn check_careful(x: &Lent, linked: &[(usize, usize)]) {
     let n = x.n;
     let mut tables = [(); 6].map(|()| vec![7; n * n]);
     let mut lists = [(); 2].map(|()| vec![7; n]);
@@ -72,7 +81,7 @@ fn check_careful(x: &Lent) {
         proved::test(n, &x.starts, &x.neighbours)
     );
     let (mut walk, mut other_walk) = (vec![7; 2 * n], vec![7; 2 * n]);
-    for &(a, b) in &x.pairs {
+    for &(a, b) in x.pairs.iter().chain(linked) {
         let one = reference::walk(
             n,
             &x.starts,
@@ -132,7 +141,7 @@ fn lesser(one: Times, other: Times) -> Times {
 /// Measures all in turn, several times over, so that other work on the machine slows none of them alone.
 fn measure(sample: &Sample, budget: Duration) -> Row {
     let mut x = Lent::new(sample);
-    check_careful(&x);
+    check_careful(&x, &timing::linked_pairs(sample));
     let mut exact = Exact::new(x.n, &sample.links());
     let budget = budget / PASSES;
     let mut times = [[f64::MAX; CALLS.len()]; 3];

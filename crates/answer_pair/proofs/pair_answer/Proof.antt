@@ -4,21 +4,22 @@ use mathlib.Core.Path.{_≡_, _∙_}
 use borrow.Author.Tests.{eq-eqb, ne-eqb}
 use borrow.Author.Needs.{needs}
 use lib.Dec.{eqb}
-use Rattle.model.specs.declared.Route.the-variants.{Low, Through}
+use Rattle.model.specs.declared.Route.the-variants.{Low, Through, Link}
 use Rattle.model.specs.Answers.{refused, answered}
 use Rattle.model.specs.Basics.{none, if_then_else_}
 use Rattle.model.specs.Pair.{withRoute, choose, attaining, taken, pairBy, pair}
 use Rattle.answer_pair.proofs.pair_answer.Statement.{statement}
 use Rattle.answer_pair.proofs.pair_answer.Tie as tie
 
--- where a and b differ and the report is not none, the entry of Low and the attaining hub decide
+-- where a and b differ and the report is not none, it is 1, or the entry of Low and the attaining hub decide
 joined : (c : tie.After-entry-at2)
     → (let entered = c .before .before .before in
     let args = entered .before .before .before .before .args in
     let r = entered .entry-at .result in
     let h = attaining (taken (args .n) (args .full .now) (args .a) (args .b)) (args .n) (args .full .now) (args .a) (args .b) r in
     pair (args .n) (args .full .now) (args .low .now) (args .report .now) (args .a) (args .b) ≡ (
-    if eqb (c .entry-at2 .result) r then answered (withRoute r Low)
+    if eqb r 1 then answered (withRoute 1 Link)
+    else if eqb (c .entry-at2 .result) r then answered (withRoute r Low)
     else if eqb h none then refused 11
     else answered (withRoute r (Through h))))
 unfolding pair pairBy choose
@@ -69,23 +70,46 @@ answer-by-requires-3 c κs = search needs
 returns-4 : tie.Need-returns-4
 returns-4 c = c .answer-by3 .ensures ∙ rw (joined (c .before .before), eq-eqb _ _ (c .before .if4 .taken))
 
-attaining-hub-requires : tie.Need-attaining-hub-requires
-attaining-hub-requires c κs = search needs
-
-returns-5 : tie.Need-returns-5
-returns-5 c =
-    let not-low = c .before .before in
-    rw (joined (not-low .before), ne-eqb _ _ (not-low .if4 .left), ← c .before .attaining-hub .ensures, eq-eqb _ _ (c .if5 .taken))
-
 answer-by-requires-4 : tie.Need-answer-by-requires-4
 answer-by-requires-4 c κs = search needs
 
+returns-5 : tie.Need-returns-5
+returns-5 c =
+    let not-one = c .before .before in
+    c .answer-by4 .ensures
+    ∙ rw (joined (not-one .before), ne-eqb _ _ (not-one .if4 .left), eq-eqb _ _ (c .before .if5 .taken))
+
+attaining-hub-requires : tie.Need-attaining-hub-requires
+attaining-hub-requires c κs = search needs
+
 returns-6 : tie.Need-returns-6
 returns-6 c =
+    let not-low = c .before .before in
+    let not-one = not-low .before in
+    rw (
+      joined (not-one .before),
+      ne-eqb _ _ (not-one .if4 .left),
+      ne-eqb _ _ (not-low .if5 .left),
+      ← c .before .attaining-hub .ensures,
+      eq-eqb _ _ (c .if6 .taken),
+    )
+
+answer-by-requires-5 : tie.Need-answer-by-requires-5
+answer-by-requires-5 c κs = search needs
+
+returns-7 : tie.Need-returns-7
+returns-7 c =
     let searched = c .before .before in
     let not-low = searched .before in
-    c .answer-by4 .ensures
-    ∙ rw (joined (not-low .before), ne-eqb _ _ (not-low .if4 .left), ← searched .attaining-hub .ensures, ne-eqb _ _ (c .before .if5 .left))
+    let not-one = not-low .before in
+    c .answer-by5 .ensures
+    ∙ rw (
+      joined (not-one .before),
+      ne-eqb _ _ (not-one .if4 .left),
+      ne-eqb _ _ (not-low .if5 .left),
+      ← searched .attaining-hub .ensures,
+      ne-eqb _ _ (c .before .if6 .left),
+    )
 
 pub pair-answer-spec : {M : Type 1} → statement M
 pair-answer-spec =
@@ -100,7 +124,9 @@ pair-answer-spec =
     entry-at-requires-2
     answer-by-requires-3
     returns-4
-    attaining-hub-requires
-    returns-5
     answer-by-requires-4
-    returns-6)
+    returns-5
+    attaining-hub-requires
+    returns-6
+    answer-by-requires-5
+    returns-7)

@@ -15,14 +15,17 @@ dash c = report-none _ (c .if1 .taken)
 number : (c : tie.Else1) → reportText (c .before .before .args .report) ≡ digits (c .before .before .args .report)
 number c = report-some _ (c .if1 .left)
 
-write-two-requires : tie.Need-write-two-requires
-write-two-requires c κs = rw (dash (c .before)) at (c .before .before .before .pre)
+slice-aggregate-write-text : tie.Need-slice-aggregate-write-text
+slice-aggregate-write-text c = search needs
+
+write-text-requires : tie.Need-write-text-requires
+write-text-requires c κs = rw (dash (c .before .before)) at (c .before .before .before .before .pre)
 
 same-length : tie.Need-same-length
 same-length c = search needs
 
 returns : tie.Need-returns
-returns c = rw (dash (c .before .before .before .before)) (c .before .before .write-two .ensures)
+returns c = rw (dash (c .before .before .before .before .before)) (c .before .before .write-text .ensures)
 
 write-field-requires : tie.Need-write-field-requires
 write-field-requires c κs = rw (number (c .before)) at (c .before .before .before .pre)
@@ -36,4 +39,4 @@ returns-2 c = rw (number (c .before .before .before .before)) (c .before .before
 pub write-report-spec : {M : Type 1} → statement M
 write-report-spec =
     tie.close
-    (tie.spec write-two-requires same-length returns write-field-requires same-length-2 returns-2)
+    (tie.spec slice-aggregate-write-text write-text-requires same-length returns write-field-requires same-length-2 returns-2)

@@ -1,12 +1,7 @@
 -- `listing_lines::write_route` meets its contract: a comma and the text of each case.
 -- Assumes nothing.
-use mathlib.Core.List.{[], _∷_}
-use Prim.Native.Nat.{_+_, _≤_}
-use native.Mathlib.Omega.{arith}
 use borrow.Author.Needs.{needs}
-use lib.ListN.{length}
 use Rattle.model.specs.Listing.{routeText}
-use Rattle.base_lists.proofs.Written.{wrote-then, wrote-room}
 use Rattle.listing_lines.proofs.write_route.Statement.{statement}
 use Rattle.listing_lines.proofs.write_route.Tie as tie
 
@@ -15,8 +10,12 @@ use Rattle.listing_lines.proofs.write_route.Tie as tie
 enum-told : tie.Need-enum-told
 enum-told c = search needs
 
-write-byte-requires : tie.Need-write-byte-requires
-write-byte-requires c κs = search needs
+slice-aggregate-write-text : tie.Need-slice-aggregate-write-text
+slice-aggregate-write-text c = search needs
+
+write-text-requires : tie.Need-write-text-requires
+unfolding routeText
+write-text-requires c κs = rw (c .before .before .enum-told .given .1) at (c .before .before .before .before .before .pre)
 
 same-length : tie.Need-same-length
 same-length c = search needs
@@ -24,25 +23,20 @@ same-length c = search needs
 returns : tie.Need-returns
 unfolding routeText
 returns c =
-    let itself = c .before .before .before .before in
-    rw (itself .enum-told .given .1) (c .before .before .write-byte .ensures)
+    let wrote = c .before .before in
+    rw (wrote .before .before .before .enum-told .given .1) (wrote .write-text .ensures)
 
--- ---- by low nodes: four bytes, two at a time
+-- ---- by low nodes
 
 enum-told-2 : tie.Need-enum-told-2
 enum-told-2 c = search needs
 
-low-room : (c : tie.After-enum-told2) → (let args = c .before .before .before .args in args .at + 4 ≤ length (args .buffer .now))
+slice-aggregate-write-text-2 : tie.Need-slice-aggregate-write-text-2
+slice-aggregate-write-text-2 c = search needs
+
+write-text-requires-2 : tie.Need-write-text-requires-2
 unfolding routeText
-low-room c = rw (c .enum-told2 .given .1) at (c .before .before .before .pre)
-
-write-two-requires : tie.Need-write-two-requires
-write-two-requires c κs = omega (arith, low-room (c .before))
-
-write-two-requires-2 : tie.Need-write-two-requires-2
-write-two-requires-2 c κs =
-    let first = c .before .before .before in
-    wrote-room (111 ∷ 119 ∷ []) (omega (arith, low-room (first .before .before))) (first .write-two .ensures)
+write-text-requires-2 c κs = rw (c .before .before .enum-told2 .given .1) at (c .before .before .before .before .before .pre)
 
 same-length-2 : tie.Need-same-length-2
 same-length-2 c = search needs
@@ -50,10 +44,8 @@ same-length-2 c = search needs
 returns-2 : tie.Need-returns-2
 unfolding routeText
 returns-2 c =
-    let second = c .before .before in
-    let first = second .before .before .before .before in
-    let low = first .before .before in
-    rw (low .enum-told2 .given .1) (wrote-then (omega (arith, low-room low)) (first .write-two .ensures) (second .write-two2 .ensures))
+    let wrote = c .before .before in
+    rw (wrote .before .before .before .enum-told2 .given .1) (wrote .write-text2 .ensures)
 
 -- ---- through a hub: its number
 
@@ -83,11 +75,12 @@ returns-3 c =
 enum-told-3 : tie.Need-enum-told-3
 enum-told-3 c = search needs
 
-write-two-requires-3 : tie.Need-write-two-requires-3
+slice-aggregate-write-text-3 : tie.Need-slice-aggregate-write-text-3
+slice-aggregate-write-text-3 c = search needs
+
+write-text-requires-3 : tie.Need-write-text-requires-3
 unfolding routeText
-write-two-requires-3 c κs =
-    let none = c .before in
-    rw (none .enum-told3 .given .1) at (none .before .before .before .pre)
+write-text-requires-3 c κs = rw (c .before .before .enum-told3 .given .1) at (c .before .before .before .before .before .pre)
 
 same-length-4 : tie.Need-same-length-4
 same-length-4 c = search needs
@@ -95,23 +88,49 @@ same-length-4 c = search needs
 returns-4 : tie.Need-returns-4
 unfolding routeText
 returns-4 c =
-    let none = c .before .before .before .before in
-    rw (none .enum-told3 .given .1) (c .before .before .write-two3 .ensures)
+    let wrote = c .before .before in
+    rw (wrote .before .before .before .enum-told3 .given .1) (wrote .write-text3 .ensures)
+
+-- ---- by the link
+
+enum-told-4 : tie.Need-enum-told-4
+enum-told-4 c = search needs
+
+slice-aggregate-write-text-4 : tie.Need-slice-aggregate-write-text-4
+slice-aggregate-write-text-4 c = search needs
+
+write-text-requires-4 : tie.Need-write-text-requires-4
+unfolding routeText
+write-text-requires-4 c κs = rw (c .before .before .enum-told4 .given .1) at (c .before .before .before .before .before .pre)
+
+same-length-5 : tie.Need-same-length-5
+same-length-5 c = search needs
+
+returns-5 : tie.Need-returns-5
+unfolding routeText
+returns-5 c =
+    let wrote = c .before .before in
+    rw (wrote .before .before .before .enum-told4 .given .1) (wrote .write-text4 .ensures)
 
 pub write-route-spec : {M : Type 1} → statement M
 write-route-spec =
     tie.close
     (tie.spec
     enum-told
-    write-byte-requires
+    slice-aggregate-write-text
+    write-text-requires
     enum-told-2
-    write-two-requires
-    write-two-requires-2
+    slice-aggregate-write-text-2
+    write-text-requires-2
     enum-known-route
     cast-write-field
     write-field-requires
     enum-told-3
-    write-two-requires-3
+    slice-aggregate-write-text-3
+    write-text-requires-3
+    enum-told-4
+    slice-aggregate-write-text-4
+    write-text-requires-4
     same-length
     returns
     same-length-2
@@ -119,4 +138,6 @@ write-route-spec =
     same-length-3
     returns-3
     same-length-4
-    returns-4)
+    returns-4
+    same-length-5
+    returns-5)

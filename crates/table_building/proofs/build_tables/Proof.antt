@@ -64,7 +64,7 @@ slice-aggregate-fill-report c = sym (length-take-le _ _ (omega (arith, few (earl
 fill-report-requires : tie.Need-fill-report-requires
 fill-report-requires c κs =
     let chose = earlier (c .before .before .before) in
-    ((start chose .pre .0 .size, omega arith, omega arith, start chose .pre .1 .2), below chose)
+    ((start chose .pre .0, omega arith, omega arith), (below chose, omega arith))
 
 same-length : tie.Need-same-length
 same-length c = search needs

@@ -1,6 +1,6 @@
--- `table_report::report_row` meets its contract: after k hubs each entry is the least over Low and those hubs.
+-- `table_report::report_row` meets its contract: after k hubs each entry is the least over Low and those hubs; then the links are set.
 -- Assumes nothing.
-use mathlib.Core.Path.{sym, _∙_}
+use mathlib.Core.Path.{_≡_, sym, _∙_}
 use Prim.Native.Nat.{ℕ, _+_, _-_, _*_, _≤_, _<_}
 use native.Mathlib.Omega.{arith}
 use lib.ListN.{length, getD, length-set}
@@ -13,18 +13,18 @@ use Rattle.table_report.proofs.report_row.Statement.{statement}
 use Rattle.table_report.proofs.report_row.Tie as tie
 
 abbrev Inv-loop : tie.InvT-loop
-Inv-loop n full low hubs a row₀ start end k₀ row k = RowTo n full low hubs a row k
+Inv-loop n starts neighbours full low hubs a row₀ start end k₀ row k = RowTo n full low hubs a row k
 
 abbrev μ-loop : tie.MeasureT-loop
-μ-loop n full low hubs a row₀ start end k₀ row k = length hubs - k
+μ-loop n starts neighbours full low hubs a row₀ start end k₀ row k = length hubs - k
 
 -- row a ends in its table
 row-end : (c : tie.Start Inv-loop μ-loop) → c .args .a * c .args .n + c .args .n ≤ c .args .n * c .args .n
-row-end c = row-within _ _ (c .pre .0 .3)
+row-end c = row-within _ _ (c .pre .1 .1)
 
 -- the function's entry, from the loop
 abbrev start : tie.At-loop Inv-loop μ-loop → tie.Start Inv-loop μ-loop
-start c = c .before .before .before .before .before .before .before .before .before .before
+start c = c .before .before .before .before .before .before .before .before .before .before .before .before
 
 -- in a turn of the loop
 module _ (c : tie.In-loop Inv-loop μ-loop) where
@@ -38,23 +38,23 @@ module _ (c : tie.In-loop Inv-loop μ-loop) where
   hub = getD (at-start .args .hubs .now) (c .before .loop .k) 0
 
   hub-below : hub < n
-  hub-below = at-start .pre .1 hub (getD-has (at-start .args .hubs .now) _ (c .loop-test .taken))
+  hub-below = at-start .pre .1 .0 hub (getD-has (at-start .args .hubs .now) _ (c .loop-test .taken))
 
   -- so does the hub's row, and its entry at a stands in it
   hub-end : hub * n + n ≤ n * n
   hub-end = row-within n hub hub-below
 
   entry-inside : hub * n + at-start .args .a < n * n
-  entry-inside = place-inside n hub _ hub-below (at-start .pre .0 .3)
+  entry-inside = place-inside n hub _ hub-below (at-start .pre .1 .1)
 
 mul-start : tie.Need-mul-start Inv-loop μ-loop
-mul-start c = omega (arith, row-end (c .before .before .before .before))
+mul-start c = omega (arith, row-end (c .before .before .before .before .before .before))
 
 add-end : tie.Need-add-end Inv-loop μ-loop
-add-end c = omega (arith, row-end (c .before .before .before .before))
+add-end c = omega (arith, row-end (c .before .before .before .before .before .before))
 
 mul-copy16 : tie.Need-mul-copy16 Inv-loop μ-loop
-mul-copy16 c = omega (arith, row-end (c .before .before .before .before))
+mul-copy16 c = omega (arith, row-end (c .before .before .before .before .before .before))
 
 sub-copy16 : tie.Need-sub-copy16 Inv-loop μ-loop
 sub-copy16 c = search needs
@@ -63,15 +63,15 @@ part-copy16-start : tie.Need-part-copy16-start Inv-loop μ-loop
 part-copy16-start c = search needs
 
 part-copy16-end : tie.Need-part-copy16-end Inv-loop μ-loop
-part-copy16-end c = omega (arith, row-end (c .before .before .before .before))
+part-copy16-end c = omega (arith, row-end (c .before .before .before .before .before .before))
 
 copy16-requires : tie.Need-copy16-requires Inv-loop μ-loop
 copy16-requires c κs = search needs
 
 loop-holds : tie.Need-loop-holds Inv-loop μ-loop
 loop-holds c =
-    let pre = c .before .before .before .before .before .before .before .before .before .pre in
-    row-none (pre .0 .2) (pre .0 .3) (pre .0 .4) (c .before .before .copy16 .ensures)
+    let pre = c .before .before .before .before .before .before .before .before .before .before .before .pre in
+    row-none (pre .0 .2) (pre .1 .1) (pre .1 .2) (c .before .before .copy16 .ensures)
 
 mul-first : tie.Need-mul-first Inv-loop μ-loop
 mul-first c = search needs
@@ -123,21 +123,43 @@ loop-less c = search needs
 loop-again : tie.Need-loop-again Inv-loop μ-loop
 loop-again c =
     let turn = c .before .before .before .before .before .before .before in
-    let low-known = turn .before .before .before .before .before .before .before .before .before .shared-slice-known2 in
+    let low-known = turn .before .before .before .before .before .before .before .before .before .shared-slice-known4 in
     row-next (turn .before .loop .inv) (at-start turn .pre .0 .1) (λ i. omega (arith, low-known .given i)) (turn .loop-test .taken)
     (hub-below turn) (c .before .before .relax .ensures)
+
+own-requires : tie.Need-own-requires Inv-loop μ-loop
+own-requires c κs = search needs
+
+-- a node's neighbours are nodes
+set-links-requires : tie.Need-set-links-requires Inv-loop μ-loop
+set-links-requires c κs =
+    let loop = c .before .before .before in
+    let pre = start loop .pre in
+    λ x t. omega (arith, loop .loop .inv .long, pre .0 .0 .lists .graph .below _ x (pre .1 .1) (rw (c .before .own .ensures) at t))
+
+-- after the links are set: the loop, and the row, which is as long as before
+module _ (c : tie.After-slice-known4 Inv-loop μ-loop) where
+  abbrev looped : tie.At-loop Inv-loop μ-loop
+  looped = c .before .before .before .before .before .before
+
+  long-row : length (c .before .before .set-links .last .1 .0) ≡ start looped .args .n
+  long-row = c .before .before .set-links .kept .1 .0 ∙ looped .loop .inv .long
 
 mul-row : tie.Need-mul-row Inv-loop μ-loop
 mul-row c = search needs
 
 slice-write-row : tie.Need-slice-write-row Inv-loop μ-loop
-slice-write-row c = search needs
+slice-write-row c = omega (arith, long-row c)
 
 same-length : tie.Need-same-length Inv-loop μ-loop
-same-length c = simp length-set (c .before .loop .inv .long ∙ sym (start (c .before) .pre .0 .4))
+same-length c = simp length-set (long-row c ∙ sym (start (looped c) .pre .1 .2))
 
 returns : tie.Need-returns Inv-loop μ-loop
-returns c = row-done (c .before .loop .inv) (c .loop-test .left) (start (c .before) .pre .0 .3)
+returns c =
+    let own = c .before .before .before .before in
+    let pre = start (looped c) .pre in
+    row-done (looped c .loop .inv) (own .before .loop-test .left) (pre .1 .1) (pre .0 .0 .lists .graph) (own .own .ensures)
+    (c .before .before .set-links .ensures)
 
 pub report-row-spec : {M : Type 1} → statement M
 report-row-spec =
@@ -169,6 +191,8 @@ report-row-spec =
     add-k
     loop-less
     loop-again
+    own-requires
+    set-links-requires
     mul-row
     slice-write-row
     same-length

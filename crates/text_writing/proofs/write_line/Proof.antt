@@ -19,19 +19,16 @@ room : (c : tie.Start) → c .args .at + length (c .args .word .now) + length (f
 room c = omega (arith, length-append (c .args .word .now) (fields c))
 
 -- the function's entry, from behind the word
-abbrev start : tie.After-copy8 → tie.Start
+abbrev start : tie.After-write-text → tie.Start
 start c = c .before .before .before .before .before
 
-copy8-requires : tie.Need-copy8-requires
-copy8-requires c κs = omega (arith, room (c .before .before .before .before))
-
-add-write-fields : tie.Need-add-write-fields
-add-write-fields c = search needs
+write-text-requires : tie.Need-write-text-requires
+write-text-requires c κs = omega (arith, room (c .before .before .before .before))
 
 write-fields-requires : tie.Need-write-fields-requires
 write-fields-requires c κs =
     let word = c .before .before .before in
-    wrote-room (fields (start word)) (room (start word)) (word .copy8 .ensures)
+    wrote-room (fields (start word)) (room (start word)) (word .write-text .ensures)
 
 same-length : tie.Need-same-length
 same-length c = search needs
@@ -40,8 +37,8 @@ returns : tie.Need-returns
 returns c =
     let behind = c .before .before in
     let word = behind .before .before .before .before in
-    wrote-then (room (start word)) (word .copy8 .ensures) (behind .write-fields .ensures)
+    wrote-then (room (start word)) (word .write-text .ensures) (behind .write-fields .ensures)
 
 pub write-line-spec : {M : Type 1} → statement M
 write-line-spec =
-    tie.close (tie.spec copy8-requires add-write-fields write-fields-requires same-length returns)
+    tie.close (tie.spec write-text-requires write-fields-requires same-length returns)

@@ -49,6 +49,12 @@ write-through-requires c κs =
 enum-told-3 : tie.Need-enum-told-3
 enum-told-3 c = search needs
 
+enum-told-4 : tie.Need-enum-told-4
+enum-told-4 c = search needs
+
+write-link-requires : tie.Need-write-link-requires
+write-link-requires c κs = search needs
+
 same-length : tie.Need-same-length
 same-length c = search needs
 
@@ -84,6 +90,15 @@ returns-5 c =
     let start = c .before .before .before .before .before .before .before in
     rw (c .enum-told3 .given .1) (fits-given (start .pre .1) _ [] (omega arith) refl)
 
+same-length-4 : tie.Need-same-length-4
+same-length-4 c = search needs
+
+returns-6 : tie.Need-returns-6
+unfolding walkNodes
+returns-6 c =
+    let call = c .before .before in
+    call .write-link .ensures ∙ rw (call .before .before .enum-told4 .given .1)
+
 pub write-route-spec : {M : Type 1} → statement M
 write-route-spec =
     tie.close
@@ -98,10 +113,14 @@ write-route-spec =
     cast-write-through
     write-through-requires
     enum-told-3
+    enum-told-4
+    write-link-requires
     same-length
     returns-2
     same-length-2
     returns-3
     same-length-3
     returns-4
-    returns-5)
+    returns-5
+    same-length-4
+    returns-6)
