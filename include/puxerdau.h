@@ -83,12 +83,13 @@ enum puxerdau_refusal_number {
     PUXERDAU_SHORT_LIST = 8,    /* a list is too short */
     PUXERDAU_NOT_SURVEY = 9,    /* the two lists are not a survey's */
     PUXERDAU_NO_NODE = 10,      /* a node is n or more */
-    PUXERDAU_NOT_ATTAINED = 11, /* the tables give no route, or no walk, of the reported length */
+    PUXERDAU_NOT_ATTAINED = 11, /* the report is attained by no route, or leads to no walk */
     PUXERDAU_SHORT_BUFFER = 12, /* the buffer is too short */
     PUXERDAU_FILE_FORM = 13     /* a file is not in the stated form, or a line of it not in its place */
 };
 
-/* How a report is attained. PUXERDAU_LINK came with version 2. */
+/* How a report is attained. PUXERDAU_LINK came with version 2. With PUXERDAU_NO_ROUTE the report is PUXERDAU_NONE, and there is a hub with
+ * PUXERDAU_THROUGH alone: with every other route it is 0. */
 enum puxerdau_route_kind { PUXERDAU_ITSELF = 0, PUXERDAU_LOW = 1, PUXERDAU_THROUGH = 2, PUXERDAU_NO_ROUTE = 3, PUXERDAU_LINK = 4 };
 enum puxerdau_verdict_kind { PUXERDAU_PARTED = 0, PUXERDAU_LONG = 1, PUXERDAU_SHORT = 2 };
 
@@ -139,12 +140,14 @@ uint64_t puxerdau_build(size_t n, const uint32_t *starts, size_t starts_length, 
                         uint16_t *hubs, size_t hubs_length);
 
 /* The report of a and b with its route, and the hub if the route goes through one. A report of 1 between different nodes is by
- * PUXERDAU_LINK, whatever the other tables hold. Tables of earlier versions are asked and walked as they say. Refused 2, 8, 10 or 11. */
+ * PUXERDAU_LINK, whatever the other tables hold. In tables of an earlier version a report stands as it is, also of linked nodes. Refused
+ * 2, 8, 10 or 11. */
 uint64_t puxerdau_ask(size_t n, const uint16_t *full, size_t full_length, const uint16_t *low, size_t low_length,
                       const uint16_t *report, size_t report_length, size_t a, size_t b);
 
 /* Writes the walk of a and b: report + 1 nodes, then none. By PUXERDAU_LINK these are a and b; where the two lists do not link them it is
- * refused 11. If refused (2, 8 to 11), or with no route, every entry is none. Answers as asking does. */
+ * refused 11. If refused (in this order: 2, 8, 9, 10, 11, and 8 for a short `walk`), or with no route, every entry is none. Answers as
+ * asking does, if it is not refused. */
 uint64_t puxerdau_walk(size_t n, const uint32_t *starts, size_t starts_length, const uint16_t *neighbours, size_t neighbours_length,
                        const uint16_t *full, size_t full_length, const uint16_t *low, size_t low_length, const uint16_t *report,
                        size_t report_length, size_t a, size_t b, uint16_t *walk, size_t walk_length);

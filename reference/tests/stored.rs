@@ -1,6 +1,7 @@
-//! Every report that the repository stores or shows, where the tables are
-//! the built ones: none exactly where no chain joins the pair, else between
-//! the fewest links and two more.
+//! Every report in the programs' stored outputs, in what the C example prints
+//! and in the listing lines that pages quote, where the tables are the built
+//! ones: none exactly where no chain joins the pair, else between the fewest
+//! links and two more.
 
 mod common;
 

@@ -85,6 +85,7 @@ pub fn pair_answer(
         return answer_by(NONE, Route::NoRoute);
     }
     let l = entry_at(n, low, a, b);
+    // the order of these tests is the order of preference: link, low, the smallest hub
     if r == 1 {
         return answer_by(1, Route::Link);
     }

@@ -442,7 +442,8 @@ impl<'a> Round<'a> {
         counts.pairs.count(&Pair {
             tables: kind,
             linked: self.linked(n, a, b),
-            one_at_itself: a == b && tables.report_of(n, a, b) == Some(1),
+            nodes: (a, b),
+            report: tables.report_of(n, a, b),
             asked: answer,
             walked: None,
         });
@@ -527,7 +528,8 @@ impl<'a> Round<'a> {
         counts.pairs.count(&Pair {
             tables: kind,
             linked: self.linked(n, a, b).filter(|_| own),
-            one_at_itself: a == b && tables.report_of(n, a, b) == Some(1),
+            nodes: (a, b),
+            report: tables.report_of(n, a, b),
             asked: reference::ask(n, &tables.full, &tables.low, &tables.report, a, b),
             walked: Some((length, answer)),
         });

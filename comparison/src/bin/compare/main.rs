@@ -4,8 +4,8 @@
 //! whole, between guard words. No call may give a refusal that is not one of its own. A text that was read is imported as a file too, and
 //! a file that was exported is imported again; both must leave the same lists. A run of many cases also has to meet every refusal that a
 //! call can give, every kind of survey that building does something else for, every kind of file, and of asking and walking every route,
-//! reports of 1 of nodes that are linked and that are not, with walk lists of every length around two, and at a node itself, and every
-//! kind of tables.
+//! reports of 1 of nodes that are linked and that are not, with walk lists of every length around two, and at a node itself, reports of 0
+//! between different nodes, and every kind of tables.
 
 mod calls;
 mod files;
@@ -94,7 +94,7 @@ fn main() -> ExitCode {
             let unmet = counts.unmet();
             if unmet.is_empty() {
                 println!("each call met each of its refusals, building each kind of survey, importing each kind of file, and asking and");
-                println!("walking each route, report of 1 and kind of tables");
+                println!("walking each route, reports of 0 and 1, and each kind of tables");
                 return ExitCode::SUCCESS;
             }
             println!("not met: {}", unmet.join("; "));

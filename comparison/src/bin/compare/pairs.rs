@@ -11,13 +11,17 @@ const LENGTHS: [&str; 6] = ["asked", "0", "1", "2", "3", "more"];
 
 const NODES: [&str; 2] = ["not linked", "linked"];
 
+/// What comes of a report of 0 between different nodes.
+const ZEROS: [&str; 3] = ["asked, answered", "asked, refused", "walked, refused"];
+
 /// What a pair was asked or walked with, and what came of it.
 pub struct Pair {
     pub tables: Kind,
     /// Whether the survey links the nodes, if its own lists, nodes and count of nodes were lent.
     pub linked: Option<bool>,
-    /// Whether it is a node and itself, with a report of 1.
-    pub one_at_itself: bool,
+    pub nodes: (usize, usize),
+    /// The entry of Report for the two, if there is one.
+    pub report: Option<u16>,
     /// What asking answers.
     pub asked: Result<Answer, u8>,
     /// The length of the walk list, and what writing the walk answers.
@@ -28,12 +32,15 @@ pub struct Pair {
 pub struct Met {
     /// Answers of asking and of walking, by their routes.
     routes: [[u64; ROUTES.len()]; 2],
-    /// Reports of 1 between different nodes, answered or refused: of nodes that are not linked, and of nodes that are.
+    /// Reports of 1 between different nodes with the survey's own lists, answered or refused: of nodes that are not linked, and of nodes
+    /// that are.
     ones: [[u64; LENGTHS.len()]; 2],
     /// Linked nodes that were answered by another route: asked and walked.
     others: [u64; 2],
     /// Reports of 1 at a node itself, refused 11: asked and walked.
     at_itself: [u64; 2],
+    /// Reports of 0 between different nodes. No walk has them.
+    zeros: [u64; ZEROS.len()],
     tables: [u64; tables::KINDS.len()],
 }
 
@@ -45,8 +52,11 @@ impl Met {
         if let Ok(answer) = answer {
             self.routes[call][usize::from(answer.route.number())] += 1;
         }
-        if pair.one_at_itself && answer == Err(11) {
-            self.at_itself[call] += 1;
+        match (pair.report, pair.nodes.0 == pair.nodes.1, answer) {
+            (Some(1), true, Err(11)) => self.at_itself[call] += 1,
+            (Some(0), false, Ok(_)) if pair.walked.is_none() => self.zeros[0] += 1,
+            (Some(0), false, Err(11)) => self.zeros[1 + call] += 1,
+            _ => {}
         }
         let (Some(linked), Ok(asked)) = (pair.linked, pair.asked) else {
             return;
@@ -80,6 +90,8 @@ impl Met {
         let at_itself =
             ["ask", "walk"].map(|call| format!("{call} of a report of 1 at a node itself"));
         all.extend(at_itself.into_iter().zip(self.at_itself));
+        let zeros = ZEROS.map(|what| format!("a report of 0 between different nodes {what}"));
+        all.extend(zeros.into_iter().zip(self.zeros));
         let tables = tables::KINDS.map(|kind| format!("tables {kind}"));
         all.extend(tables.into_iter().zip(self.tables));
         all
@@ -93,12 +105,15 @@ impl Met {
     pub fn print(&self) {
         println!("the answers of asking and walking, by their routes:");
         print_table(&ROUTES, &["ask", "walk"], &self.routes);
-        println!("reports of 1 between different nodes, asked, and walked by the walk list's length, answered or refused:");
+        println!("reports of 1 between different nodes, with the survey's own lists and count of nodes: asked, and walked by the walk list's");
+        println!("length, answered or refused:");
         print_table(&LENGTHS, &NODES, &self.ones);
         let [asked, walked] = self.others;
         println!("linked nodes answered by another route: {asked} asked, {walked} walked");
         let [asked, walked] = self.at_itself;
         println!("reports of 1 at a node itself, refused 11: {asked} asked, {walked} walked");
+        let [answered, refused, walked] = self.zeros;
+        println!("reports of 0 between different nodes: {answered} asked and answered, {refused} asked and {walked} walked, refused 11");
         println!("the tables that asking and walking were lent:");
         for (kind, count) in tables::KINDS.iter().zip(self.tables) {
             println!("{kind:50}{count:>9}");

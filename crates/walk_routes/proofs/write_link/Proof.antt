@@ -10,11 +10,6 @@ use Rattle.walk_routes.proofs.FitLaws.{link-missing, none-refused, link
 use Rattle.walk_routes.proofs.write_link.Statement.{statement}
 use Rattle.walk_routes.proofs.write_link.Tie as tie
 
--- the two nodes are linked
-is-linked : (c : tie.Else1) → (let args = c .before .before .before .before .before .args in
-    linked (args .n) (neighboursOf (args .starts .now) (args .neighbours .now)) (args .a) (args .b) ≡ true)
-is-linked c = sym (c .before .are-linked .ensures) ∙ not-false _ (c .if1 .left)
-
 are-linked-requires : tie.Need-are-linked-requires
 are-linked-requires c κs = search needs
 
@@ -22,6 +17,11 @@ returns : tie.Need-returns
 returns c =
     let start = c .before .before .before .before .before in
     none-refused (start .pre .1) _ (link-missing _ _ _ _ (sym (c .before .are-linked .ensures) ∙ not-true _ (c .if1 .taken)))
+
+-- the two nodes are linked
+is-linked : (c : tie.Else1) → (let args = c .before .before .before .before .before .args in
+    linked (args .n) (neighboursOf (args .starts .now) (args .neighbours .now)) (args .a) (args .b) ≡ true)
+is-linked c = sym (c .before .are-linked .ensures) ∙ not-false _ (c .if1 .left)
 
 returns-2 : tie.Need-returns-2
 returns-2 c =
