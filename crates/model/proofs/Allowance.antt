@@ -95,6 +95,10 @@ module _ {n : ℕ} (s : ℕ) {G : Graph} (g : IsGraph n G) where
   unfolding reportTable
   report-entry = entry-table n (reportEntry n G (fullTable n s G) (lowTable n s G) (hubs n s G)) _ _
 
+  -- linked nodes report 1, where they differ
+  pub linked-report : {a b : ℕ} → a < n → b < n → (a ≡ b → ⊥) → T (linked n G a b) → entryAt n (reportTable n s G) a b ≡ 1
+  linked-report {a} {b} ha hb d t = rw (ne-eqb a b d, T-true (linked n G a b) t) at (report-entry ha hb)
+
   -- a route through a hub, if there is one, is a chain of as many links
   via-chain : {a b h : ℕ} → a < n → b < n → h < n → (via n (fullTable n s G) a b h ≡ none → ⊥)
       → Chain (linked n G) (via n (fullTable n s G) a b h) a b
@@ -126,10 +130,7 @@ module _ {n : ℕ} (s : ℕ) {G : Graph} (g : IsGraph n G) where
       P : ℕ → Type 0
       P k = (k ≡ none → ⊥) → Chain (linked n G) k a b
 
-  -- the report is 1 for linked nodes, where they differ, and for no others
-  pub linked-report : {a b : ℕ} → a < n → b < n → (a ≡ b → ⊥) → T (linked n G a b) → entryAt n (reportTable n s G) a b ≡ 1
-  linked-report {a} {b} ha hb d t = rw (ne-eqb a b d, T-true (linked n G a b) t) at (report-entry ha hb)
-
+  -- and no other nodes report 1
   pub report-one : {a b : ℕ} → a < n → b < n → entryAt n (reportTable n s G) a b ≡ 1 → T (linked n G a b)
   report-one ha hb e = chain-one (rw e at (report-chain ha hb (λ q. omega (arith, e, q))))
 
