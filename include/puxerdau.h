@@ -88,8 +88,8 @@ enum puxerdau_refusal_number {
     PUXERDAU_FILE_FORM = 13     /* a file is not in the stated form, or a line of it not in its place */
 };
 
-/* How a report is attained. PUXERDAU_LINK came with version 2. With PUXERDAU_NO_ROUTE the report is PUXERDAU_NONE, and there is a hub with
- * PUXERDAU_THROUGH alone: with every other route it is 0. */
+/* How a report is attained. PUXERDAU_LINK came with version 2. With PUXERDAU_NO_ROUTE the report is PUXERDAU_NONE. The hub is 0 unless
+ * the route is PUXERDAU_THROUGH. */
 enum puxerdau_route_kind { PUXERDAU_ITSELF = 0, PUXERDAU_LOW = 1, PUXERDAU_THROUGH = 2, PUXERDAU_NO_ROUTE = 3, PUXERDAU_LINK = 4 };
 enum puxerdau_verdict_kind { PUXERDAU_PARTED = 0, PUXERDAU_LONG = 1, PUXERDAU_SHORT = 2 };
 

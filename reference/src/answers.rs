@@ -73,7 +73,7 @@ fn find_route(
     if report == NONE {
         return Some(Route::NoRoute);
     }
-    // Whatever Low and Full hold: only a walk has the lists.
+    // Always by link, whatever Full and Low hold.
     if report == 1 {
         return Some(Route::Link);
     }
@@ -124,13 +124,12 @@ pub fn walk(
     Ok(answer)
 }
 
-/// The walk along the link of a and b.
+/// The two nodes, which the lists must link.
 fn walk_link(graph: &Graph, a: usize, b: usize) -> Result<Vec<usize>, u8> {
-    if graph.is_linked(a, b) {
-        Ok(vec![a, b])
-    } else {
-        Err(11)
+    if !graph.linked(a, b) {
+        return Err(11);
     }
+    Ok(vec![a, b])
 }
 
 /// The walk from a to b over low nodes.

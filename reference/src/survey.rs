@@ -69,8 +69,9 @@ impl<'a> Graph<'a> {
         self.neighbours(v).len()
     }
 
-    pub fn is_linked(&self, a: usize, b: usize) -> bool {
-        self.neighbours(a).contains(&(b as u16))
+    /// Whether each of the two nodes is among the other's own neighbours.
+    pub fn linked(&self, a: usize, b: usize) -> bool {
+        self.neighbours(a).contains(&(b as u16)) && self.neighbours(b).contains(&(a as u16))
     }
 
     /// The fewest links from `start` to each node over nodes of `within`
@@ -113,7 +114,7 @@ impl<'a> Graph<'a> {
         (0..self.n).all(|a| {
             self.neighbours(a)
                 .iter()
-                .all(|&b| self.is_linked(b as usize, a))
+                .all(|&b| self.neighbours(b as usize).contains(&(a as u16)))
         })
     }
 }

@@ -110,14 +110,15 @@ fn fill_low(graph: &Graph, low_nodes: &[bool], low: &mut [u16]) {
     }
 }
 
-/// 0 on the diagonal, 1 for linked nodes, else the least candidate.
+/// 0 on the diagonal, 1 for every linked pair, the least candidate of every
+/// other pair.
 fn fill_report(graph: &Graph, hubs: &[usize], full: &[u16], low: &[u16], report: &mut [u16]) {
     let n = graph.node_count();
     for a in 0..n {
         for b in 0..n {
             report[a * n + b] = if a == b {
                 0
-            } else if graph.is_linked(a, b) {
+            } else if graph.linked(a, b) {
                 1
             } else {
                 least_candidate(n, hubs, full, low, a, b)

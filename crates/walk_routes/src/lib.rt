@@ -27,10 +27,11 @@ pub fn write_link(
         (byLink n (neighboursOf (now (starts .entry)) (now (neighbours .entry))) a b) ⌝ }
 {
     let linked = survey_neighbours::are_linked(n, starts, neighbours, a, b);
+    let fits = 2 <= walk.len();
     if !linked {
         return Asking::Refused(Refusal::NotAttained);
     }
-    if walk.len() < 2 {
+    if !fits {
         return Asking::Refused(Refusal::ShortList);
     }
     walk[0] = a as u16;

@@ -39,7 +39,7 @@ pub struct Met {
     others: [u64; 2],
     /// Reports of 1 at a node itself, refused 11: asked and walked.
     at_itself: [u64; 2],
-    /// Reports of 0 between different nodes. No walk has them.
+    /// Reports of 0 between different nodes. No walk is given out for one.
     zeros: [u64; ZEROS.len()],
     tables: [u64; tables::KINDS.len()],
 }
