@@ -43,13 +43,13 @@ unfolding pair pairBy choose
 returns c =
     let same = c .before .before in
     c .answer-by .ensures
-    ∙ rw (eq-eqb _ _ (same .if1 .taken), ← same .before .entry-at .ensures, eq-eqb _ _ (c .before .if2 .taken))
+    ∙ rw (eq-eqb _ _ (same .if1 .taken), ← same .before .entry-at .ensures, eq-eqb _ 0 (c .before .if2 .taken))
 
 returns-2 : tie.Need-returns-2
 unfolding pair pairBy choose
 returns-2 c =
     let same = c .before in
-    rw (eq-eqb _ _ (same .if1 .taken), ← same .before .entry-at .ensures, ne-eqb _ _ (c .if2 .left))
+    rw (eq-eqb _ _ (same .if1 .taken), ← same .before .entry-at .ensures, ne-eqb _ 0 (c .if2 .left))
 
 answer-by-requires-2 : tie.Need-answer-by-requires-2
 answer-by-requires-2 c κs = search needs
