@@ -21,8 +21,11 @@ static uint16_t neighbours[PUXERDAU_NEIGHBOURS_LENGTH];
 static uint16_t full[PUXERDAU_TABLE_LENGTH(NODES)], low[PUXERDAU_TABLE_LENGTH(NODES)], report[PUXERDAU_TABLE_LENGTH(NODES)];
 static uint16_t hubs[PUXERDAU_HUBS_LENGTH(NODES)], walk[PUXERDAU_WALK_LENGTH(NODES)];
 static struct puxerdau_survey survey = {0, starts, LENGTH(starts), neighbours, LENGTH(neighbours)};
-static const struct puxerdau_tables tables = {full, LENGTH(full), low, LENGTH(low), report, LENGTH(report), hubs, LENGTH(hubs)};
+static struct puxerdau_tables tables = {0, full, LENGTH(full), low, LENGTH(low), report, LENGTH(report), hubs, LENGTH(hubs)};
 static size_t from, to; /* the pair that is asked */
+
+/* By the first all nodes with links are high, and by the second none. What is measured later has the tables by the last. */
+static const size_t thresholds[] = {1, PUXERDAU_MAX_THRESHOLD, 0};
 
 static uint64_t call_threshold(void) { return puxerdau_threshold(NODES); }
 static uint64_t call_read(void) { return puxerdau_survey_read(&survey, text, text_length); }
@@ -32,7 +35,7 @@ static uint64_t call_accept(void) { return puxerdau_survey_accept(&survey); }
 static uint64_t call_build(void) { return puxerdau_survey_build(&survey, &tables); }
 static uint64_t call_ask(void) { return puxerdau_survey_ask(&survey, &tables, from, to); }
 static uint64_t call_walk(void) { return puxerdau_survey_walk(&survey, &tables, from, to, walk, LENGTH(walk)); }
-static uint64_t call_test(void) { return puxerdau_survey_test(&survey); }
+static uint64_t call_test(void) { return puxerdau_survey_test(&survey, tables.threshold); }
 static uint64_t call_list(void) { return puxerdau_list(text, text_length, listing, LENGTH(listing)); }
 
 static uint64_t call_export(void)
@@ -122,20 +125,28 @@ static void add_link(unsigned a, unsigned b)
     text_length += (size_t)sprintf((char *)text + text_length, "L,%u,%u\n", a, b);
 }
 
-/* Measures all calls but walks on the text, and asks for the given pair. */
-static void measure_calls(size_t a, size_t b)
+/* Measures the walk of the pair that is asked. Answers its route. */
+static unsigned measure_walk(void)
 {
-    from = a;
-    to = b;
-    for (size_t i = 0; i < LENGTH(calls); i++)
-        measure(&calls[i]);
+    unsigned route = puxerdau_route(call_ask());
+    measure(route == PUXERDAU_LINK ? &link_walk : route == PUXERDAU_LOW ? &low_walk : &hub_walk);
+    require(puxerdau_route(answer) == route, "a walk by another route");
+    return route;
 }
 
-/* Measures the walk of the pair that is asked, which must be by the given route. */
-static void measure_walk(struct measured *measured, unsigned route)
+/* Measures all calls on the text by each threshold, and asks for the given pair. Answers the route of its walk by the last. */
+static unsigned measure_calls(size_t a, size_t b)
 {
-    measure(measured);
-    require(puxerdau_route(answer) == route, "a walk by another route");
+    unsigned route = PUXERDAU_NO_ROUTE;
+    from = a;
+    to = b;
+    for (size_t k = 0; k < LENGTH(thresholds); k++) {
+        tables.threshold = thresholds[k];
+        for (size_t i = 0; i < LENGTH(calls); i++)
+            measure(&calls[i]);
+        route = measure_walk();
+    }
+    return route;
 }
 
 /* 1,024 nodes and 16,384 links: 64 high nodes with 256 links each. */
@@ -145,10 +156,9 @@ static void measure_largest(void)
     for (unsigned v = 0; v < 64; v++)
         for (unsigned k = 0; k < 256; k++)
             add_link(v, 64 + (15 * v + k) % 960);
-    measure_calls(0, NODES - 1);
-    measure_walk(&hub_walk, PUXERDAU_THROUGH);
+    require(measure_calls(0, NODES - 1) == PUXERDAU_THROUGH, "no walk through a hub");
     to = 64 + 255; /* the last neighbour of node 0 */
-    measure_walk(&link_walk, PUXERDAU_LINK);
+    require(measure_walk() == PUXERDAU_LINK, "no walk by link");
 }
 
 /* A path of 1,024 nodes. Its walk by low nodes has as many steps as a part of a walk can have. */
@@ -157,8 +167,7 @@ static void measure_path(void)
     begin_text(NODES, NODES - 1);
     for (unsigned v = 1; v < NODES; v++)
         add_link(v - 1, v);
-    measure_calls(0, NODES - 1);
-    measure_walk(&low_walk, PUXERDAU_LOW);
+    require(measure_calls(0, NODES - 1) == PUXERDAU_LOW, "no walk by low nodes");
     require(puxerdau_report(answer) == NODES - 1, "another walk along the path");
 }
 
@@ -170,7 +179,7 @@ static void measure_altered_path(void)
     for (unsigned v = 0; v < NODES; v++)
         full[v] = (uint16_t)v;
     report[from * NODES + to] = (uint16_t)(from + to);
-    measure_walk(&hub_walk, PUXERDAU_THROUGH);
+    require(measure_walk() == PUXERDAU_THROUGH, "no walk through the hub");
     require(puxerdau_report(answer) == from + to, "another walk through the hub");
     require(answer == call_ask(), "asking answers otherwise");
 }

@@ -1,6 +1,7 @@
 /* Reads a survey from standard input, builds its tables, reports on the pairs of nodes that the arguments name, with their walks, runs
  * the two-or-four test, and writes the survey back. With the argument `file` before the pairs, the survey is read from a DIMACS edge file
- * and written as one; the pairs are numbered from 0 as ever. */
+ * and written as one; the pairs are numbered from 0 as ever. With `by` and a number before the pairs, that is the threshold; else, and with
+ * 0, it is the stored table's. */
 #include "puxerdau.h"
 #include <stdio.h>
 #include <stdlib.h>
@@ -17,7 +18,7 @@ static uint16_t hubs[PUXERDAU_HUBS_LENGTH(NODES)], walk[PUXERDAU_WALK_LENGTH(NOD
 #define LENGTH(list) (sizeof(list) / sizeof *(list))
 
 static struct puxerdau_survey survey = {0, starts, LENGTH(starts), neighbours, LENGTH(neighbours)};
-static const struct puxerdau_tables tables = {full, LENGTH(full), low, LENGTH(low), report, LENGTH(report), hubs, LENGTH(hubs)};
+static struct puxerdau_tables tables = {0, full, LENGTH(full), low, LENGTH(low), report, LENGTH(report), hubs, LENGTH(hubs)};
 
 /* Whether a call was refused, which is printed. */
 static int refused(const char *call, uint64_t answer)
@@ -71,11 +72,16 @@ static void print_pair(size_t a, size_t b)
     print_walk(a, b);
 }
 
+static int is_number(const char *word) { return *word != '\0' && word[strspn(word, "0123456789")] == '\0'; }
+
+/* A number that is too large for strtoul becomes the largest, which is no node and no threshold either. */
+static size_t number(const char *word) { return strtoul(word, NULL, 10); }
+
 /* Whether every word is a number, and there are two for each pair. */
 static int are_pairs(int count, char **words)
 {
     for (int i = 0; i < count; i++)
-        if (*words[i] == '\0' || words[i][strspn(words[i], "0123456789")] != '\0')
+        if (!is_number(words[i]))
             return 0;
     return count % 2 == 0;
 }
@@ -118,8 +124,12 @@ int main(int count, char **words)
     static const char *const verdicts[] = {[PUXERDAU_PARTED] = "parted", [PUXERDAU_LONG] = "long", [PUXERDAU_SHORT] = "short"};
     int is_file = count > 1 && strcmp(words[1], "file") == 0;
     int first = is_file ? 2 : 1;
+    if (count > first + 1 && strcmp(words[first], "by") == 0 && is_number(words[first + 1])) {
+        tables.threshold = number(words[first + 1]);
+        first += 2;
+    }
     if (!are_pairs(count - first, words + first)) {
-        fprintf(stderr, "usage: survey [file] [NODE NODE].. < SURVEY\n");
+        fprintf(stderr, "usage: survey [file] [by THRESHOLD] [NODE NODE].. < SURVEY\n");
         return 2;
     }
     if (!read_survey(is_file))
@@ -133,11 +143,10 @@ int main(int count, char **words)
         printf(" %u", hubs[i]);
     printf("\n");
 
-    /* a number that is too large for strtoul becomes the largest, which is no node either */
     for (int i = first; i + 1 < count; i += 2)
-        print_pair(strtoul(words[i], NULL, 10), strtoul(words[i + 1], NULL, 10));
+        print_pair(number(words[i]), number(words[i + 1]));
 
-    answer = puxerdau_survey_test(&survey);
+    answer = puxerdau_survey_test(&survey, tables.threshold);
     if (refused("test", answer))
         return 1;
     printf("%s after ", verdicts[puxerdau_verdict(answer)]);

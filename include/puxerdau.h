@@ -30,7 +30,7 @@
 extern "C" {
 #endif
 
-#define PUXERDAU_VERSION_MAJOR 2
+#define PUXERDAU_VERSION_MAJOR 3
 #define PUXERDAU_VERSION_MINOR 0
 #define PUXERDAU_VERSION_PATCH 0
 #define PUXERDAU_QUOTED(x) #x
@@ -42,6 +42,8 @@ extern "C" {
 #define PUXERDAU_MAX_LINKS 16384
 #define PUXERDAU_LIST_MAX_NODES 128
 #define PUXERDAU_LIST_MAX_LINKS 2048
+/* The largest threshold. */
+#define PUXERDAU_MAX_THRESHOLD 1024
 
 /* Lengths that are always enough, each with the place of its proof. */
 
@@ -71,7 +73,7 @@ extern "C" {
 /* A table entry, or an entry of a list of nodes, that means none. */
 #define PUXERDAU_NONE 65535u
 
-/* 0, or why the call was refused. */
+/* 0, or why the call was refused. PUXERDAU_BAD_THRESHOLD came with version 3. */
 enum puxerdau_refusal_number {
     PUXERDAU_FORM = 1,          /* a survey's text is not in the stated form */
     PUXERDAU_NODE_COUNT = 2,    /* n is outside 1 to 1,024 */
@@ -85,7 +87,8 @@ enum puxerdau_refusal_number {
     PUXERDAU_NO_NODE = 10,      /* a node is n or more */
     PUXERDAU_NOT_ATTAINED = 11, /* the report is attained by no route, or leads to no walk */
     PUXERDAU_SHORT_BUFFER = 12, /* the buffer is too short */
-    PUXERDAU_FILE_FORM = 13     /* a file is not in the stated form, or a line of it not in its place */
+    PUXERDAU_FILE_FORM = 13,    /* a file is not in the stated form, or a line of it not in its place */
+    PUXERDAU_BAD_THRESHOLD = 14 /* the threshold is above 1,024 */
 };
 
 /* How a report is attained. PUXERDAU_LINK came with version 2. With PUXERDAU_NO_ROUTE the report is PUXERDAU_NONE. The hub is 0 unless
@@ -104,7 +107,12 @@ static inline unsigned puxerdau_hub(uint64_t answer) { return (unsigned)(answer 
 static inline unsigned puxerdau_verdict(uint64_t answer) { return (unsigned)(answer >> 16 & 65535); }  /* test */
 static inline unsigned puxerdau_searches(uint64_t answer) { return (unsigned)(answer >> 32 & 65535); } /* test */
 
-/* The least degree of a high node among n nodes. Refused 2. */
+/* The threshold splits nodes: it is the least degree of a high node, and all others are low. The calls that split nodes (puxerdau_build,
+ * puxerdau_walk, puxerdau_test) take it since version 3. 0 means the stored table's for n nodes, which puxerdau_threshold answers and
+ * earlier versions always went by. 1 to PUXERDAU_MAX_THRESHOLD are taken as they are, also above n: from n on no node is high and there are
+ * no hubs. A larger number is refused 14, straight after 2. */
+
+/* The stored table's threshold for n nodes. Refused 2. */
 uint64_t puxerdau_threshold(size_t n);
 
 /* Reads a survey's text. `starts` wants n + 1 entries and `neighbours` 2m. If refused (1 to 8), both lists are all zero; else they are zero
@@ -132,12 +140,12 @@ uint64_t puxerdau_export(size_t n, const uint32_t *starts, size_t starts_length,
 /* Whether the two lists are a survey's. Refused 2, 8 or 9. */
 uint64_t puxerdau_accept(size_t n, const uint32_t *starts, size_t starts_length, const uint16_t *neighbours, size_t neighbours_length);
 
-/* Builds the tables: n * n entries each, row by row, and n entries of `hubs` (the hubs in the order chosen, then none). Linked nodes have
- * 1 in `report`. If refused (2, 8 or 9), nothing is altered; else the lists are as they were past those entries. Answers the count of
- * hubs. */
-uint64_t puxerdau_build(size_t n, const uint32_t *starts, size_t starts_length, const uint16_t *neighbours, size_t neighbours_length,
-                        uint16_t *full, size_t full_length, uint16_t *low, size_t low_length, uint16_t *report, size_t report_length,
-                        uint16_t *hubs, size_t hubs_length);
+/* Builds the tables by a threshold: n * n entries each, row by row, and n entries of `hubs` (the hubs in the order chosen, then none).
+ * Linked nodes have 1 in `report`. If refused (in this order: 2, 14, 8, 9), nothing is altered; else the lists are as they were past those
+ * entries. Answers the count of hubs. */
+uint64_t puxerdau_build(size_t n, size_t threshold, const uint32_t *starts, size_t starts_length, const uint16_t *neighbours,
+                        size_t neighbours_length, uint16_t *full, size_t full_length, uint16_t *low, size_t low_length, uint16_t *report,
+                        size_t report_length, uint16_t *hubs, size_t hubs_length);
 
 /* The report of a and b with its route, and the hub if the route goes through one. A report of 1 between different nodes is by
  * PUXERDAU_LINK, whatever the other tables hold. In tables of an earlier version a report stands as it is, also of linked nodes. Refused
@@ -146,14 +154,16 @@ uint64_t puxerdau_ask(size_t n, const uint16_t *full, size_t full_length, const 
                       const uint16_t *report, size_t report_length, size_t a, size_t b);
 
 /* Writes the walk of a and b: report + 1 nodes, then none. By PUXERDAU_LINK these are a and b; where the two lists do not link them it is
- * refused 11. If refused (in this order: 2, 8, 9, 10, 11, and 8 for a short `walk`), or with no route, every entry is none. Answers as
- * asking does, if it is not refused. */
-uint64_t puxerdau_walk(size_t n, const uint32_t *starts, size_t starts_length, const uint16_t *neighbours, size_t neighbours_length,
-                       const uint16_t *full, size_t full_length, const uint16_t *low, size_t low_length, const uint16_t *report,
-                       size_t report_length, size_t a, size_t b, uint16_t *walk, size_t walk_length);
+ * refused 11. It is given the threshold that the tables were built by; with another one it is still refused 11 or gives a chain of links of
+ * the reported length. If refused (in this order: 2, 14, 8, 9, 10, 11, and 8 for a short `walk`), or with no route, every entry is none.
+ * Answers as asking does, if it is not refused. */
+uint64_t puxerdau_walk(size_t n, size_t threshold, const uint32_t *starts, size_t starts_length, const uint16_t *neighbours,
+                       size_t neighbours_length, const uint16_t *full, size_t full_length, const uint16_t *low, size_t low_length,
+                       const uint16_t *report, size_t report_length, size_t a, size_t b, uint16_t *walk, size_t walk_length);
 
-/* The two-or-four test. Refused 2, 8 or 9. Answers the verdict and the count of searches. */
-uint64_t puxerdau_test(size_t n, const uint32_t *starts, size_t starts_length, const uint16_t *neighbours, size_t neighbours_length);
+/* The two-or-four test by a threshold. Refused, in this order, 2, 14, 8 or 9. Answers the verdict and the count of searches. */
+uint64_t puxerdau_test(size_t n, size_t threshold, const uint32_t *starts, size_t starts_length, const uint16_t *neighbours,
+                       size_t neighbours_length);
 
 /* Writes the listing of a survey's text: the lines that the program `reports` prints. A text that is refused, 2 and 3 by the limits of a
  * listing, has the listing `X,` and the refusal's number. The call itself is refused only 12, and the buffer is as it was; else it is as
@@ -172,8 +182,9 @@ struct puxerdau_survey {
     size_t neighbours_length;
 };
 
-/* Its tables and its hub list. */
+/* Its tables and its hub list. The threshold is what building splits nodes by and what a walk is given, so that the two cannot differ. */
 struct puxerdau_tables {
+    size_t threshold; /* 0 for the stored table's */
     uint16_t *full;
     size_t full_length;
     uint16_t *low;
@@ -221,9 +232,9 @@ static inline uint64_t puxerdau_survey_accept(const struct puxerdau_survey *surv
 
 static inline uint64_t puxerdau_survey_build(const struct puxerdau_survey *survey, const struct puxerdau_tables *tables)
 {
-    return puxerdau_build(survey->n, survey->starts, survey->starts_length, survey->neighbours, survey->neighbours_length, tables->full,
-                          tables->full_length, tables->low, tables->low_length, tables->report, tables->report_length, tables->hubs,
-                          tables->hubs_length);
+    return puxerdau_build(survey->n, tables->threshold, survey->starts, survey->starts_length, survey->neighbours,
+                          survey->neighbours_length, tables->full, tables->full_length, tables->low, tables->low_length, tables->report,
+                          tables->report_length, tables->hubs, tables->hubs_length);
 }
 
 static inline uint64_t puxerdau_survey_ask(const struct puxerdau_survey *survey, const struct puxerdau_tables *tables, size_t a, size_t b)
@@ -235,14 +246,14 @@ static inline uint64_t puxerdau_survey_ask(const struct puxerdau_survey *survey,
 static inline uint64_t puxerdau_survey_walk(const struct puxerdau_survey *survey, const struct puxerdau_tables *tables, size_t a, size_t b,
                                             uint16_t *walk, size_t walk_length)
 {
-    return puxerdau_walk(survey->n, survey->starts, survey->starts_length, survey->neighbours, survey->neighbours_length, tables->full,
-                         tables->full_length, tables->low, tables->low_length, tables->report, tables->report_length, a, b, walk,
-                         walk_length);
+    return puxerdau_walk(survey->n, tables->threshold, survey->starts, survey->starts_length, survey->neighbours,
+                         survey->neighbours_length, tables->full, tables->full_length, tables->low, tables->low_length, tables->report,
+                         tables->report_length, a, b, walk, walk_length);
 }
 
-static inline uint64_t puxerdau_survey_test(const struct puxerdau_survey *survey)
+static inline uint64_t puxerdau_survey_test(const struct puxerdau_survey *survey, size_t threshold)
 {
-    return puxerdau_test(survey->n, survey->starts, survey->starts_length, survey->neighbours, survey->neighbours_length);
+    return puxerdau_test(survey->n, threshold, survey->starts, survey->starts_length, survey->neighbours, survey->neighbours_length);
 }
 
 #ifdef __cplusplus

@@ -6,6 +6,7 @@ use reference::{Answer, Route, Tested, Verdict, NONE};
 
 const MOST_NODES: usize = 1024;
 const MOST_LINKS: usize = 16384;
+const MOST_THRESHOLD: usize = 1024;
 const WORDS: usize = MOST_NODES / 64;
 const LANES: usize = 16;
 const GROUP: usize = 16 * LANES;
@@ -396,16 +397,21 @@ fn choose_hubs(n: usize, s: usize, starts: &[u32], neighbours: &[u16]) -> Vec<u1
         return hubs;
     }
     let near: Vec<Set> = (0..n).map(|v| closed(starts, neighbours, v)).collect();
+    // gains never rise: one is counted again only where the last count could make its node the best
+    let mut gains = vec![u32::MAX; n];
     while uncovered != [0; WORDS] {
         let (mut best, mut most) = (0, 0);
         for (v, set) in near.iter().enumerate() {
-            let gain: u32 = set
+            if gains[v] <= most {
+                continue;
+            }
+            gains[v] = set
                 .iter()
                 .zip(&uncovered)
                 .map(|(a, b)| (a & b).count_ones())
                 .sum();
-            if gain > most {
-                (best, most) = (v, gain);
+            if gains[v] > most {
+                (best, most) = (v, gains[v]);
             }
         }
         hubs.push(best as u16);
@@ -416,15 +422,37 @@ fn choose_hubs(n: usize, s: usize, starts: &[u32], neighbours: &[u16]) -> Vec<u1
     hubs
 }
 
-fn threshold(n: usize) -> usize {
+/// Whether so many nodes can be split by a threshold.
+fn check_split(n: usize, threshold: usize) -> Result<(), u8> {
+    if !(1..=MOST_NODES).contains(&n) {
+        return Err(2);
+    }
+    if threshold > MOST_THRESHOLD {
+        return Err(14);
+    }
+    Ok(())
+}
+
+/// The threshold in force: the given one, or for 0 that of n nodes.
+fn in_force(n: usize, threshold: usize) -> usize {
+    if threshold == 0 {
+        stored_threshold(n)
+    } else {
+        threshold
+    }
+}
+
+fn stored_threshold(n: usize) -> usize {
     let digits = usize::BITS as usize - n.leading_zeros() as usize;
     (0..)
         .find(|s| s * s >= n * digits)
         .expect("some square is large enough")
 }
 
+#[allow(clippy::too_many_arguments)] // the lists are lent one by one
 pub fn build(
     n: usize,
+    threshold: usize,
     starts: &[u32],
     neighbours: &[u16],
     full: &mut [u16],
@@ -432,9 +460,7 @@ pub fn build(
     report: &mut [u16],
     hubs: &mut [u16],
 ) -> Result<usize, u8> {
-    if !(1..=MOST_NODES).contains(&n) {
-        return Err(2);
-    }
+    check_split(n, threshold)?;
     let size = n * n;
     if starts.len() < n + 1
         || full.len() < size
@@ -445,7 +471,7 @@ pub fn build(
         return Err(8);
     }
     accept(n, starts, neighbours)?;
-    let s = threshold(n);
+    let s = in_force(n, threshold);
     let chosen = choose_hubs(n, s, starts, neighbours);
     hubs[..n].fill(NONE);
     hubs[..chosen.len()].copy_from_slice(&chosen);
@@ -674,6 +700,7 @@ fn link(starts: &[u32], neighbours: &[u16], a: usize, b: usize) -> Option<Vec<u1
 #[allow(clippy::too_many_arguments)] // the lists are lent one by one
 pub fn walk(
     n: usize,
+    threshold: usize,
     starts: &[u32],
     neighbours: &[u16],
     full: &[u16],
@@ -684,9 +711,7 @@ pub fn walk(
     walk: &mut [u16],
 ) -> Result<Answer, u8> {
     walk.fill(NONE);
-    if !(1..=MOST_NODES).contains(&n) {
-        return Err(2);
-    }
+    check_split(n, threshold)?;
     let size = n * n;
     if starts.len() < n + 1 || full.len() < size || low.len() < size || report.len() < size {
         return Err(8);
@@ -697,7 +722,10 @@ pub fn walk(
         Route::NoRoute => Vec::new(),
         Route::Itself => vec![a as u16],
         Route::Link => link(starts, neighbours, a, b).ok_or(11)?,
-        Route::Low => part(starts, neighbours, threshold(n), |x| low[x * n + b], a, b).ok_or(11)?,
+        Route::Low => {
+            let s = in_force(n, threshold);
+            part(starts, neighbours, s, |x| low[x * n + b], a, b).ok_or(11)?
+        }
         Route::Through(h) => {
             let row = &full[h as usize * n..(h as usize + 1) * n];
             let mut nodes = part(starts, neighbours, n, |x| row[x], a, h as usize).ok_or(11)?;
@@ -713,9 +741,10 @@ pub fn walk(
     Ok(answer)
 }
 
-pub fn test(n: usize, starts: &[u32], neighbours: &[u16]) -> Result<Tested, u8> {
+pub fn test(n: usize, threshold: usize, starts: &[u32], neighbours: &[u16]) -> Result<Tested, u8> {
+    check_split(n, threshold)?;
     accept(n, starts, neighbours)?;
-    let s = threshold(n);
+    let s = in_force(n, threshold);
     let first_low = (0..n).find(|&v| ((starts[v + 1] - starts[v]) as usize) < s);
     let sources = match first_low {
         None => choose_hubs(n, s, starts, neighbours),

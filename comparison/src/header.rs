@@ -44,7 +44,7 @@ pub const HUB: Part = Part::new("hub", raw::header_hub);
 pub const VERDICT: Part = Part::new("verdict", raw::header_verdict);
 pub const SEARCHES: Part = Part::new("searches", raw::header_searches);
 
-/// Whether the header's refusals are 1 to 13, and its routes, verdicts and none those of the second implementation.
+/// Whether the header's refusals are 1 to 14, and its routes, verdicts and none those of the second implementation.
 pub fn check_constants() -> Result<(), String> {
     let routes = [
         Route::Itself,
@@ -54,7 +54,7 @@ pub fn check_constants() -> Result<(), String> {
         Route::Link,
     ];
     let verdicts = [Verdict::Parted, Verdict::Long, Verdict::Short];
-    let numbers = (1..=13)
+    let numbers = (1..=14)
         .chain(routes.map(Route::number))
         .chain(verdicts.map(Verdict::number))
         .chain([NONE]);

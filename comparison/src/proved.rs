@@ -46,6 +46,7 @@ mod raw {
         ) -> u64;
         pub fn puxerdau_build(
             n: usize,
+            threshold: usize,
             starts: *const u32,
             starts_length: usize,
             neighbours: *const u16,
@@ -72,6 +73,7 @@ mod raw {
         ) -> u64;
         pub fn puxerdau_walk(
             n: usize,
+            threshold: usize,
             starts: *const u32,
             starts_length: usize,
             neighbours: *const u16,
@@ -89,6 +91,7 @@ mod raw {
         ) -> u64;
         pub fn puxerdau_test(
             n: usize,
+            threshold: usize,
             starts: *const u32,
             starts_length: usize,
             neighbours: *const u16,
@@ -176,8 +179,10 @@ pub fn accept(n: usize, starts: &[u32], neighbours: &[u16]) -> u64 {
     }
 }
 
+#[allow(clippy::too_many_arguments)] // the lists are lent one by one
 pub fn build(
     n: usize,
+    threshold: usize,
     starts: &[u32],
     neighbours: &[u16],
     full: &mut [u16],
@@ -188,6 +193,7 @@ pub fn build(
     unsafe {
         raw::puxerdau_build(
             n,
+            threshold,
             starts.as_ptr(),
             starts.len(),
             neighbours.as_ptr(),
@@ -223,6 +229,7 @@ pub fn ask(n: usize, full: &[u16], low: &[u16], report: &[u16], a: usize, b: usi
 #[allow(clippy::too_many_arguments)] // the lists are lent one by one
 pub fn walk(
     n: usize,
+    threshold: usize,
     starts: &[u32],
     neighbours: &[u16],
     full: &[u16],
@@ -235,6 +242,7 @@ pub fn walk(
     unsafe {
         raw::puxerdau_walk(
             n,
+            threshold,
             starts.as_ptr(),
             starts.len(),
             neighbours.as_ptr(),
@@ -253,10 +261,11 @@ pub fn walk(
     }
 }
 
-pub fn test(n: usize, starts: &[u32], neighbours: &[u16]) -> u64 {
+pub fn test(n: usize, threshold: usize, starts: &[u32], neighbours: &[u16]) -> u64 {
     unsafe {
         raw::puxerdau_test(
             n,
+            threshold,
             starts.as_ptr(),
             starts.len(),
             neighbours.as_ptr(),

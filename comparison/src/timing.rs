@@ -3,6 +3,7 @@
 //! Lists and tables are allocated and written before a measurement and kept through it, so no page is touched for the first time. They
 //! are not cleared between repetitions. A time is the least of many repetitions.
 
+use crate::careful;
 use crate::common::{Random, Sample};
 use std::time::{Duration, Instant};
 
@@ -14,8 +15,10 @@ pub struct Lent {
     /// What kind of survey it is.
     pub survey: String,
     pub n: usize,
-    /// How many of its nodes are high.
+    /// How many of its nodes are high by the stored table's threshold.
     pub high: usize,
+    /// The threshold that calls are given.
+    pub threshold: usize,
     pub text: Vec<u8>,
     pub starts: Vec<u32>,
     pub neighbours: Vec<u16>,
@@ -44,6 +47,7 @@ impl Lent {
             survey: sample.name.trim_end_matches(&format!(" {n}")).into(),
             n,
             high: (0..n).filter(|&v| sample.degree(v) >= s).count(),
+            threshold: 0,
             text: sample.text().into_bytes(),
             read_starts: vec![1; n + 1],
             read_neighbours: vec![1; neighbours.len()],
@@ -60,6 +64,25 @@ impl Lent {
             starts,
             neighbours,
         }
+    }
+
+    /// Builds the tables by careful Rust.
+    pub fn build(&mut self) -> Result<usize, u8> {
+        careful::build(
+            self.n,
+            self.threshold,
+            &self.starts,
+            &self.neighbours,
+            &mut self.full,
+            &mut self.low,
+            &mut self.report,
+            &mut self.hubs,
+        )
+    }
+
+    /// What building leaves.
+    pub fn built(&self) -> [&[u16]; 4] {
+        [&self.full, &self.low, &self.report, &self.hubs]
     }
 }
 
@@ -120,9 +143,27 @@ macro_rules! times {
         let accept = least($budget, || {
             let _ = black_box(calls::accept(x.n, &x.starts, &x.neighbours));
         });
-        let build = least($budget, || {
+        let build = $crate::build_time!(x, $budget, $module);
+        let [ask, walk] = $crate::pair_times!(x, $budget, $module);
+        let test = least($budget, || {
+            let _ = black_box(calls::test(x.n, x.threshold, &x.starts, &x.neighbours));
+        });
+        [read, write, accept, build, ask, walk, test]
+    }};
+}
+
+/// The time of building the tables.
+#[macro_export]
+macro_rules! build_time {
+    ($lent:expr, $budget:expr, $module:path) => {{
+        use std::hint::black_box;
+        use $crate::timing::{least, Lent};
+        use $module as calls;
+        let x: &mut Lent = $lent;
+        least($budget, || {
             let _ = black_box(calls::build(
                 x.n,
+                x.threshold,
                 &x.starts,
                 &x.neighbours,
                 &mut x.full,
@@ -130,12 +171,7 @@ macro_rules! times {
                 &mut x.report,
                 &mut x.hubs,
             ));
-        });
-        let [ask, walk] = $crate::pair_times!(x, $budget, $module);
-        let test = least($budget, || {
-            let _ = black_box(calls::test(x.n, &x.starts, &x.neighbours));
-        });
-        [read, write, accept, build, ask, walk, test]
+        })
     }};
 }
 
@@ -156,6 +192,7 @@ macro_rules! pair_times {
             for &(a, b) in &x.pairs {
                 let _ = black_box(calls::walk(
                     x.n,
+                    x.threshold,
                     &x.starts,
                     &x.neighbours,
                     &x.full,

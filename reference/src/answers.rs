@@ -1,7 +1,7 @@
 //! Asking a pair, and writing its walk.
 
 use crate::survey::Graph;
-use crate::tables::{check_table_lengths, find_low_nodes};
+use crate::tables::{check_table_lengths, find_low_nodes, threshold_in_force};
 use crate::NONE;
 
 #[derive(Debug, Clone, Copy, PartialEq, Eq)]
@@ -93,6 +93,7 @@ fn find_route(
 #[allow(clippy::too_many_arguments)] // the lists are lent one by one
 pub fn walk(
     n: usize,
+    threshold: usize,
     starts: &[u32],
     neighbours: &[u16],
     full: &[u16],
@@ -104,6 +105,7 @@ pub fn walk(
 ) -> Result<Answer, u8> {
     // Only a walk given out writes anything else.
     walk.fill(NONE);
+    let threshold = threshold_in_force(n, threshold)?;
     check_table_lengths(n, full, low, report)?;
     let graph = Graph::accept(n, starts, neighbours)?;
     let answer = ask(n, full, low, report, a, b)?;
@@ -111,7 +113,7 @@ pub fn walk(
         Route::NoRoute => Vec::new(),
         Route::Itself => vec![a],
         Route::Link => walk_link(&graph, a, b)?,
-        Route::Low => walk_low(&graph, low, a, b)?,
+        Route::Low => walk_low(&graph, threshold, low, a, b)?,
         Route::Through(h) => walk_through(&graph, full, h as usize, a, b)?,
     };
     // Judged last: a walk that fails is refused 11 in a short list too.
@@ -133,9 +135,15 @@ fn walk_link(graph: &Graph, a: usize, b: usize) -> Result<Vec<usize>, u8> {
 }
 
 /// The walk from a to b over low nodes.
-fn walk_low(graph: &Graph, low: &[u16], a: usize, b: usize) -> Result<Vec<usize>, u8> {
+fn walk_low(
+    graph: &Graph,
+    threshold: usize,
+    low: &[u16],
+    a: usize,
+    b: usize,
+) -> Result<Vec<usize>, u8> {
     let n = graph.node_count();
-    let low_nodes = find_low_nodes(graph)?;
+    let low_nodes = find_low_nodes(graph, threshold);
     let left: Vec<u16> = (0..n).map(|x| low[x * n + b]).collect();
     walk_part(graph, &low_nodes, &left, a, b).ok_or(11)
 }

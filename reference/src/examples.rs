@@ -2,7 +2,7 @@
 //! line. NOTES.md describes the line format.
 
 use crate::common::{COURSE, SENT_BACK, SEPARATE_NODE};
-use reference::{ask, build, read, reports, walk, write, Answer, Route, NONE};
+use reference::{ask, build, read, reports, walk, write, Answer, Route, NONE, STORED};
 
 /// The course survey's links in another order, some ends turned round.
 const COURSE_TURNED: &str = "S,6,6\nL,2,1\nL,5,4\nL,3,5\nL,5,0\nL,2,5\nL,5,1\n";
@@ -62,6 +62,7 @@ fn built(text: &str) -> Result<Built, u8> {
     };
     tables.hub_count = build(
         n,
+        STORED,
         &tables.starts,
         &tables.neighbours,
         &mut tables.full,
@@ -94,6 +95,7 @@ fn walked(name: &str, built: &Built, a: usize, b: usize) -> Result<String, u8> {
     let mut nodes = vec![0; 2 * built.n];
     let answer = walk(
         built.n,
+        STORED,
         &built.starts,
         &built.neighbours,
         &built.full,

@@ -13,7 +13,7 @@ pub use answers::{ask, walk, Answer, Route};
 pub use file::{export, import};
 pub use listing::reports;
 pub use survey::accept;
-pub use tables::{build, threshold};
+pub use tables::{build, threshold, STORED};
 pub use text::{put_text, read, write};
 pub use verdict::{test, Tested, Verdict};
 

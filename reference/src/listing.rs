@@ -1,7 +1,7 @@
 //! What the program `reports` prints.
 
 use crate::answers::{ask, Answer, Route};
-use crate::tables::build;
+use crate::tables::{build, STORED};
 use crate::text::{read_within, Limits};
 
 /// The limits of the program itself.
@@ -26,6 +26,7 @@ fn list_pairs(text: &[u8]) -> Result<String, u8> {
     let mut hubs = vec![0; n];
     let hub_count = build(
         n,
+        STORED,
         &starts,
         &neighbours,
         &mut full,

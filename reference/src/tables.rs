@@ -15,9 +15,26 @@ pub fn threshold(n: usize) -> Result<usize, u8> {
     Ok(s)
 }
 
+/// The greatest threshold that a caller may give.
+const MAX_THRESHOLD: usize = 1024;
+
+/// Given as a threshold, this asks for the stored table's, s(n).
+pub const STORED: usize = 0;
+
+/// The threshold in force, for one that a caller gives. Judges 2, then 14.
+pub fn threshold_in_force(n: usize, given: usize) -> Result<usize, u8> {
+    let stored = threshold(n)?;
+    if given > MAX_THRESHOLD {
+        return Err(14);
+    }
+    Ok(if given == STORED { stored } else { given })
+}
+
 /// Builds the three tables and the hub list. The answer is the hub count.
+#[allow(clippy::too_many_arguments)] // the lists are lent one by one
 pub fn build(
     n: usize,
+    threshold: usize,
     starts: &[u32],
     neighbours: &[u16],
     full: &mut [u16],
@@ -25,12 +42,14 @@ pub fn build(
     report: &mut [u16],
     hubs: &mut [u16],
 ) -> Result<usize, u8> {
+    // Shadowed, so that nothing below sees what was given.
+    let threshold = threshold_in_force(n, threshold)?;
     check_table_lengths(n, full, low, report)?;
     if hubs.len() < n {
         return Err(8);
     }
     let graph = Graph::accept(n, starts, neighbours)?;
-    let low_nodes = find_low_nodes(&graph)?;
+    let low_nodes = find_low_nodes(&graph, threshold);
     let chosen = choose_hubs(&graph, &low_nodes);
     // Entries past the first n * n keep their values.
     fill_full(&graph, &chosen, full);
@@ -53,11 +72,10 @@ pub fn check_table_lengths(n: usize, full: &[u16], low: &[u16], report: &[u16]) 
     Ok(())
 }
 
-/// Marks the nodes with fewer than s(n) neighbours.
-pub fn find_low_nodes(graph: &Graph) -> Result<Vec<bool>, u8> {
-    let n = graph.node_count();
-    let s = threshold(n)?;
-    Ok((0..n).map(|v| graph.degree(v) < s).collect())
+/// Marks the nodes with fewer neighbours than the threshold in force.
+pub fn find_low_nodes(graph: &Graph, threshold: usize) -> Vec<bool> {
+    let nodes = 0..graph.node_count();
+    nodes.map(|v| graph.degree(v) < threshold).collect()
 }
 
 /// The hubs in the order chosen.

@@ -2,7 +2,7 @@
 
 use crate::commands::{line, outcome, sum, test_numbers};
 use crate::common::{Random, Sample};
-use reference::{build, read, test};
+use reference::{build, read, test, STORED};
 
 const NODES: usize = 1024;
 const LINKS: usize = 16384;
@@ -57,6 +57,7 @@ pub fn run(text: &[u8]) -> String {
     let mut hubs = vec![7; NODES];
     let answer = build(
         n,
+        STORED,
         &starts,
         &neighbours,
         &mut full,
@@ -70,6 +71,6 @@ pub fn run(text: &[u8]) -> String {
         &outcome(answer.map(|count| vec![count as u64]), 1, &sums),
     );
 
-    let answer = test(n, &starts, &neighbours);
+    let answer = test(n, STORED, &starts, &neighbours);
     lines + &line('T', &outcome(answer.map(test_numbers), 2, &[]))
 }

@@ -5,12 +5,12 @@
 use crate::commands::{self, outcome, run_reading, sum, test_numbers, Command, Script};
 use reference::{ask, build, read, test, walk, Answer};
 
-/// The lengths of the lists.
-pub const LENGTHS: Numbers = [0, 1100, 33000, 22600, 22600, 22600, 160, 320];
+/// The lengths of the lists; the count of nodes and the threshold are 0.
+pub const LENGTHS: Numbers = [0, 1100, 33000, 22600, 22600, 22600, 160, 320, 0];
 
 /// The numbers that command N sets: the count of nodes, then how many
-/// entries of each list are lent.
-pub type Numbers = [usize; 8];
+/// entries of each list are lent, then the threshold.
+pub type Numbers = [usize; 9];
 
 pub const NODES: usize = 0;
 pub const STARTS: usize = 1;
@@ -20,6 +20,7 @@ pub const LOW: usize = 4;
 pub const REPORT: usize = 5;
 pub const HUBS: usize = 6;
 pub const WALK: usize = 7;
+pub const THRESHOLD: usize = 8;
 
 struct Lists {
     numbers: Numbers,
@@ -35,7 +36,7 @@ struct Lists {
 /// The outcomes of all calls, one per line.
 pub fn run(script: &[u8]) -> String {
     let mut lists = Lists {
-        numbers: [0; 8],
+        numbers: [0; 9],
         starts: vec![7; LENGTHS[STARTS]],
         neighbours: vec![7; LENGTHS[NEIGHBOURS]],
         full: vec![7; LENGTHS[FULL]],
@@ -83,6 +84,7 @@ impl Lists {
         let lent = self.numbers;
         let answer = build(
             lent[NODES],
+            lent[THRESHOLD],
             &self.starts[..lent[STARTS]],
             &self.neighbours[..lent[NEIGHBOURS]],
             &mut self.full[..lent[FULL]],
@@ -124,6 +126,7 @@ impl Lists {
         let lent = self.numbers;
         let answer = walk(
             lent[NODES],
+            lent[THRESHOLD],
             &self.starts[..lent[STARTS]],
             &self.neighbours[..lent[NEIGHBOURS]],
             &self.full[..lent[FULL]],
@@ -140,6 +143,7 @@ impl Lists {
         let lent = self.numbers;
         let answer = test(
             lent[NODES],
+            lent[THRESHOLD],
             &self.starts[..lent[STARTS]],
             &self.neighbours[..lent[NEIGHBOURS]],
         );

@@ -1,16 +1,17 @@
 //! Makes the script that the Rattle program `test_tables` is run on:
 //! the rules' examples, surveys of many shapes, wrong lengths and
-//! numbers, lists that are no survey's, and altered or older tables.
+//! numbers, lists that are no survey's, altered or older tables, and
+//! thresholds that callers give.
 
 use crate::common::{
-    blocks, complete_and_path, course, cycle, from_links, joined_blocks, path, random_links, star,
-    tree, two_parts, Built, Random, Sample, COURSE, SENT_BACK, SEPARATE_NODE,
+    blocks, complete_and_path, course, cycle, from_links, joined_blocks, pairs, path, random_links,
+    star, tree, two_parts, Built, Random, Sample, COURSE, SENT_BACK, SEPARATE_NODE,
 };
 use crate::test_surveys_input::{line, read_into};
 use crate::test_tables::{
-    Numbers, FULL, HUBS, LENGTHS, LOW, NEIGHBOURS, NODES, REPORT, STARTS, WALK,
+    Numbers, FULL, HUBS, LENGTHS, LOW, NEIGHBOURS, NODES, REPORT, STARTS, THRESHOLD, WALK,
 };
-use reference::NONE;
+use reference::{NONE, STORED};
 
 /// Tables of at most so many nodes are printed whole.
 const MOST_PRINTED: usize = 40;
@@ -19,7 +20,7 @@ const MOST_PRINTED: usize = 40;
 pub fn make() -> Vec<u8> {
     let mut maker = Maker {
         script: Vec::new(),
-        numbers: [0; 8],
+        numbers: [0; 9],
     };
     examples(&mut maker);
     let mut random = Random::new(11);
@@ -40,6 +41,12 @@ pub fn make() -> Vec<u8> {
     }
     ones_by_hand(&mut maker);
     zeros_by_hand(&mut maker);
+    course_by_thresholds(&mut maker);
+    for sample in every_threshold_shapes(&mut random) {
+        every_threshold(&mut maker, &sample);
+    }
+    refused_thresholds(&mut maker);
+    two_thresholds(&mut maker);
     maker.script
 }
 
@@ -71,6 +78,12 @@ impl Maker {
     fn read(&mut self, text: &str) {
         let (p, q) = (LENGTHS[STARTS], LENGTHS[NEIGHBOURS]);
         read_into(&mut self.script, text.as_bytes(), p, q);
+    }
+
+    /// Reads a survey, and lends lists with not an entry to spare.
+    fn begin(&mut self, sample: &Sample) {
+        self.read(&sample.text());
+        self.numbers(&exact(sample.n, sample.links().len()));
     }
 
     fn build(&mut self) {
@@ -111,7 +124,7 @@ impl Maker {
 
 /// Lists with not an entry to spare, but for the walk list.
 fn exact(n: usize, m: usize) -> Numbers {
-    [n, n + 1, 2 * m, n * n, n * n, n * n, n, 2 * n]
+    [n, n + 1, 2 * m, n * n, n * n, n * n, n, 2 * n, STORED]
 }
 
 /// The rules' examples. Those that are not starred:
@@ -266,9 +279,8 @@ fn grid(rows: usize, columns: usize) -> Sample {
 /// Builds, tests, and asks and walks many pairs, of exact lists and of
 /// longer ones.
 fn whole_survey(maker: &mut Maker, sample: &Sample, random: &mut Random) {
-    let (n, built) = (sample.n, Built::of_sample(sample));
-    maker.read(&sample.text());
-    maker.numbers(&exact(n, sample.links().len()));
+    let (n, built) = (sample.n, Built::of_sample(sample, STORED));
+    maker.begin(sample);
     maker.build_and_print();
     maker.test();
     for (a, b) in some_pairs(n, random) {
@@ -289,7 +301,7 @@ fn whole_survey(maker: &mut Maker, sample: &Sample, random: &mut Random) {
 /// All pairs of few nodes, or some of many.
 fn some_pairs(n: usize, random: &mut Random) -> Vec<(usize, usize)> {
     if n <= 5 {
-        return (0..n * n).map(|i| (i / n, i % n)).collect();
+        return pairs(n);
     }
     let mut pairs = vec![(0, n - 1), (n - 1, 0), (n / 2, n / 2)];
     for _ in 0..24 {
@@ -400,8 +412,7 @@ fn wrong_lists(maker: &mut Maker, sample: &Sample, random: &mut Random) {
 /// Entries of the tables changed by chance, then pairs near them.
 fn altered_tables(maker: &mut Maker, sample: &Sample, random: &mut Random) {
     let n = sample.n;
-    maker.read(&sample.text());
-    maker.numbers(&exact(n, sample.links().len()));
+    maker.begin(sample);
     for _ in 0..12 {
         maker.build();
         for _ in 0..1 + random.below(3) {
@@ -519,8 +530,7 @@ fn alter_pair(
     lengths: &[usize],
 ) {
     let n = sample.n;
-    maker.read(&sample.text());
-    maker.numbers(&exact(n, sample.links().len()));
+    maker.begin(sample);
     maker.build();
     for &(letter, row, column, entry) in entries {
         maker.put(letter, row * n + column, entry);
@@ -539,19 +549,17 @@ const LINK_LENGTHS: [usize; 4] = [0, 1, 2, 3];
 /// 11 where they do not link the pair.
 fn all_ones(maker: &mut Maker, sample: &Sample) {
     let n = sample.n;
-    maker.read(&sample.text());
-    maker.numbers(&exact(n, sample.links().len()));
+    maker.begin(sample);
     maker.build();
-    let pairs = || (0..n * n).map(|place| (place / n, place % n));
     for place in 0..n * n {
         maker.put(b'P', place, 1);
     }
-    for (a, b) in pairs() {
+    for (a, b) in pairs(n) {
         maker.ask(a, b);
     }
     for length in LINK_LENGTHS {
         maker.number(WALK, length);
-        for (a, b) in pairs() {
+        for (a, b) in pairs(n) {
             maker.walk(a, b);
         }
     }
@@ -560,9 +568,8 @@ fn all_ones(maker: &mut Maker, sample: &Sample) {
 /// Tables from before linked nodes reported 1 are walked as they say.
 fn before_links(maker: &mut Maker, sample: &Sample) {
     let n = sample.n;
-    let older = Built::of_sample(sample).before_links(sample);
-    maker.read(&sample.text());
-    maker.numbers(&exact(n, sample.links().len()));
+    let older = Built::of_sample(sample, STORED).before_links(sample);
+    maker.begin(sample);
     maker.build();
     for (a, b) in sample.links() {
         let report = usize::from(older.report[a * n + b]);
@@ -604,6 +611,142 @@ fn zeros_by_hand(maker: &mut Maker) {
         let by_hub = [zero, (b'F', 4, a, 0), (b'F', 4, b, 0)];
         for entries in [&[zero][..], &by_low, &by_hub] {
             alter_pair(maker, &course(), (a, b), entries, &LINK_LENGTHS);
+        }
+    }
+}
+
+/// The course survey: by 0, 3 or 5 the hub is 0, by 1 it is 5, by 2 it is 1;
+/// from 6 on there is none, and the report of (1, 3) is 2.
+fn course_by_thresholds(maker: &mut Maker) {
+    maker.begin(&course());
+    for threshold in [STORED, 1, 2, 3, 5, 6, 7, 1024] {
+        maker.number(THRESHOLD, threshold);
+        maker.build_and_print();
+        maker.test();
+        for (a, b) in [
+            (0, 1),
+            (0, 5),
+            (1, 2),
+            (1, 3),
+            (3, 1),
+            (2, 4),
+            (4, 3),
+            (5, 5),
+        ] {
+            maker.ask(a, b);
+            maker.walk(a, b);
+        }
+    }
+}
+
+/// Small surveys whose split changes with the threshold, joined and parted.
+fn every_threshold_shapes(random: &mut Random) -> Vec<Sample> {
+    vec![
+        Sample::new("no link", 1),
+        Sample::new("no link", 2),
+        path(4),
+        two_parts(5, 2),
+        joined_blocks(6, 2),
+        Sample::of_text("sent back", SENT_BACK),
+        Sample::of_text("separate node", SEPARATE_NODE),
+        random_links(random, 9, 40),
+    ]
+}
+
+/// Every threshold up to one more than there are nodes.
+fn every_threshold(maker: &mut Maker, sample: &Sample) {
+    let n = sample.n;
+    maker.begin(sample);
+    for threshold in 1..=n + 1 {
+        maker.number(THRESHOLD, threshold);
+        maker.build_and_print();
+        maker.test();
+        maker.ask(0, n - 1);
+        for a in 0..n {
+            maker.walk(a, n - 1 - a);
+        }
+    }
+}
+
+/// The largest number that a line of a script can hold.
+const LARGEST: usize = 9_999_999_999;
+
+/// Thresholds above 1,024; some of them end, in binary, as a good one does.
+fn refused_thresholds(maker: &mut Maker) {
+    let right = exact(6, 6);
+    maker.begin(&course());
+    maker.build();
+    for threshold in [1025, 65536, 65541, 4294967301, LARGEST] {
+        // A walk stands in the list, of which nothing is left.
+        maker.number(THRESHOLD, STORED);
+        maker.walk(1, 3);
+        maker.number(THRESHOLD, threshold);
+        maker.all_calls(1, 3);
+    }
+    // Beside each other fault: 2 comes before 14, and 14 before the others.
+    for (number, fault) in [
+        (NODES, 0),
+        (NODES, 1025),
+        (STARTS, 6),
+        (FULL, 35),
+        (LOW, 35),
+        (REPORT, 35),
+        (HUBS, 5),
+        (NEIGHBOURS, 11),
+        (WALK, 4),
+    ] {
+        maker.number(number, fault);
+        refused_and_not(maker, 1, 3);
+        maker.number(number, right[number]);
+    }
+    refused_and_not(maker, 6, 0);
+    maker.put(b'P', 6 + 3, 3);
+    refused_and_not(maker, 1, 3);
+    maker.number(THRESHOLD, 1024);
+    maker.all_calls(1, 3);
+}
+
+/// The calls that take a threshold, with two that are refused and one that is
+/// not. Building comes last, since it may write the tables anew.
+fn refused_and_not(maker: &mut Maker, a: usize, b: usize) {
+    for threshold in [1025, LARGEST, STORED] {
+        maker.number(THRESHOLD, threshold);
+        maker.walk(a, b);
+        maker.test();
+        maker.build();
+    }
+}
+
+/// Tables built with one threshold and walked with another.
+fn two_thresholds(maker: &mut Maker) {
+    let pairs = [(1, 3), (3, 1), (0, 2)];
+    walk_by_others(maker, &course(), &[STORED, 1, 2, 6], &pairs);
+    // Nodes 1 and 2 lie between 0 and 3. From tables in which all nodes are
+    // low the walk goes by 1; with threshold 3 by 2; with 2 it is refused.
+    let links = [(0, 1), (0, 2), (1, 3), (2, 3), (1, 4)];
+    let fork = from_links("fork", 5, &links);
+    let pairs = [(0, 3), (3, 0), (4, 2)];
+    walk_by_others(maker, &fork, &[1, 2, 3, 4], &pairs);
+    let pairs = [(0, 8), (8, 0), (1, 7), (3, 5)];
+    walk_by_others(maker, &grid(3, 3), &[2, 3, 4, 5], &pairs);
+}
+
+/// Builds with each of the thresholds, and walks pairs with each of them.
+fn walk_by_others(
+    maker: &mut Maker,
+    sample: &Sample,
+    thresholds: &[usize],
+    pairs: &[(usize, usize)],
+) {
+    maker.begin(sample);
+    for &own in thresholds {
+        maker.number(THRESHOLD, own);
+        maker.build();
+        for &other in thresholds {
+            maker.number(THRESHOLD, other);
+            for &(a, b) in pairs {
+                maker.walk(a, b);
+            }
         }
     }
 }

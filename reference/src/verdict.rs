@@ -1,7 +1,7 @@
 //! The two-or-four test.
 
 use crate::survey::Graph;
-use crate::tables::{choose_hubs, find_low_nodes};
+use crate::tables::{choose_hubs, find_low_nodes, threshold_in_force};
 use crate::NONE;
 
 #[derive(Debug, Clone, Copy, PartialEq, Eq)]
@@ -29,9 +29,10 @@ pub struct Tested {
 }
 
 /// Searches from the chosen nodes and judges by what the searches reach.
-pub fn test(n: usize, starts: &[u32], neighbours: &[u16]) -> Result<Tested, u8> {
+pub fn test(n: usize, threshold: usize, starts: &[u32], neighbours: &[u16]) -> Result<Tested, u8> {
+    let threshold = threshold_in_force(n, threshold)?;
     let graph = Graph::accept(n, starts, neighbours)?;
-    let sources = choose_sources(&graph)?;
+    let sources = choose_sources(&graph, threshold);
     let searches: Vec<Vec<u16>> = sources.iter().map(|&v| graph.all_distances(v)).collect();
     let misses_a_node = searches.iter().flatten().any(|&distance| distance == NONE);
     let goes_deeper = searches.iter().flatten().any(|&distance| distance > 2);
@@ -49,13 +50,13 @@ pub fn test(n: usize, starts: &[u32], neighbours: &[u16]) -> Result<Tested, u8> 
 }
 
 /// The smallest low node and its neighbours; every hub if no node is low.
-fn choose_sources(graph: &Graph) -> Result<Vec<usize>, u8> {
-    let low_nodes = find_low_nodes(graph)?;
+fn choose_sources(graph: &Graph, threshold: usize) -> Vec<usize> {
+    let low_nodes = find_low_nodes(graph, threshold);
     let first_low = low_nodes.iter().position(|&is_low| is_low);
     let Some(v) = first_low else {
-        return Ok(choose_hubs(graph, &low_nodes));
+        return choose_hubs(graph, &low_nodes);
     };
     let mut sources = vec![v];
     sources.extend(graph.neighbours(v).iter().map(|&x| x as usize));
-    Ok(sources)
+    sources
 }

@@ -2,19 +2,24 @@
 
 mod common;
 
-use common::{Built, Random, Sample, COURSE};
+use common::{Built, Random, Sample, COURSE, REFUSED_THRESHOLDS};
 use reference::{ask, build, export, test, walk, write, Route, NONE};
 
-/// The refusals of build, walk, test, write and export for these lists, with
-/// everything else long enough. 0 stands for success. Checks that refused
-/// operations leave their lists as the rules say.
-fn refusals(n: usize, starts: &[u32], neighbours: &[u16]) -> [u8; 5] {
+/// The refusals of build, walk, test, write and export.
+type Refusals = [u8; 5];
+
+/// The refusals for these lists, with everything else long enough. 0 stands
+/// for success. Checks that refused operations leave their lists as the rules
+/// say.
+fn refusals(n: usize, threshold: usize, starts: &[u32], neighbours: &[u16]) -> Refusals {
     let mut tables = vec![vec![5u16; 2000]; 3];
     let mut hubs = vec![5u16; 40];
     let [full, low, report] = &mut tables[..] else {
         unreachable!()
     };
-    let built = build(n, starts, neighbours, full, low, report, &mut hubs);
+    let built = build(
+        n, threshold, starts, neighbours, full, low, report, &mut hubs,
+    );
     if built.is_err() {
         assert!(tables
             .iter()
@@ -28,11 +33,13 @@ fn refusals(n: usize, starts: &[u32], neighbours: &[u16]) -> [u8; 5] {
     let [full, low, report] = &tables[..] else {
         unreachable!()
     };
-    let walked = walk(n, starts, neighbours, full, low, report, 0, 1, &mut list);
+    let walked = walk(
+        n, threshold, starts, neighbours, full, low, report, 0, 1, &mut list,
+    );
     if walked.is_err() {
         assert_eq!(list, [NONE; 10]);
     }
-    let tested = test(n, starts, neighbours);
+    let tested = test(n, threshold, starts, neighbours);
     let mut buffer = [5; 200];
     let written = write(n, starts, neighbours, &mut buffer);
     if written.is_err() {
@@ -52,9 +59,33 @@ fn refusals(n: usize, starts: &[u32], neighbours: &[u16]) -> [u8; 5] {
     ]
 }
 
+/// The same refusal with every threshold, but that one above 1,024 is refused
+/// straight after 2 by the calls that take one.
+#[track_caller]
+fn check_thresholds(refusal: u8, n: usize, refusals: impl Fn(usize) -> Refusals) {
+    for threshold in common::thresholds(n) {
+        assert_eq!(refusals(threshold), [refusal; 5], "{threshold}");
+    }
+    let first = or_14(refusal);
+    for threshold in REFUSED_THRESHOLDS {
+        assert_eq!(refusals(threshold), [first, first, first, refusal, refusal]);
+    }
+}
+
+/// The refusal with a threshold above 1,024, where it is otherwise this one.
+fn or_14(refusal: u8) -> u8 {
+    if refusal == 2 {
+        2
+    } else {
+        14
+    }
+}
+
 #[track_caller]
 fn check(refusal: u8, n: usize, starts: &[u32], neighbours: &[u16]) {
-    assert_eq!(refusals(n, starts, neighbours), [refusal; 5]);
+    check_thresholds(refusal, n, |threshold| {
+        refusals(n, threshold, starts, neighbours)
+    });
 }
 
 /// The path 0-1-2.
@@ -69,8 +100,7 @@ fn accepted() {
     check(0, 3, &[0, 0, 0, 0], &[]);
     check(0, 3, &[0, 0, 0, 0], &[7, 7]);
     check(0, 2, &[0, 1, 2], &[1, 0]);
-    let (starts, neighbours) = common::blocks(20, 1).lists();
-    assert_eq!(refusals(20, &starts, &neighbours)[..3], [0; 3]);
+    check_larger(0, &common::blocks(20, 1));
 }
 
 #[test]
@@ -135,15 +165,16 @@ fn neighbours_not_a_survey() {
     check(9, 3, &[0, 2, 3, 4], &[1, 2, 2, 0]);
 }
 
-/// The refusals of build, walk, test, write and export for a larger graph.
-/// Checks that a refused build alters nothing.
-fn larger_refusals(sample: &Sample) -> [u8; 5] {
+/// The refusals for a larger graph. Checks that a refused build alters
+/// nothing.
+fn larger_refusals(sample: &Sample, threshold: usize) -> Refusals {
     let n = sample.n;
     let (starts, neighbours) = sample.lists();
     let [mut full, mut low, mut report] = [(); 3].map(|()| vec![5; n * n]);
     let mut hubs = vec![5; n];
     let built = build(
         n,
+        threshold,
         &starts,
         &neighbours,
         &mut full,
@@ -156,8 +187,19 @@ fn larger_refusals(sample: &Sample) -> [u8; 5] {
         assert!(lists.into_iter().flatten().all(|&entry| entry == 5));
     }
     report.fill(NONE);
-    let walked = walk(n, &starts, &neighbours, &full, &low, &report, 0, 1, &mut []);
-    let tested = test(n, &starts, &neighbours);
+    let walked = walk(
+        n,
+        threshold,
+        &starts,
+        &neighbours,
+        &full,
+        &low,
+        &report,
+        0,
+        1,
+        &mut [],
+    );
+    let tested = test(n, threshold, &starts, &neighbours);
     let written = write(n, &starts, &neighbours, &mut vec![5; 300_000]);
     let exported = export(n, &starts, &neighbours, &mut vec![5; 300_000]);
     [
@@ -169,12 +211,19 @@ fn larger_refusals(sample: &Sample) -> [u8; 5] {
     ]
 }
 
+#[track_caller]
+fn check_larger(refusal: u8, sample: &Sample) {
+    check_thresholds(refusal, sample.n, |threshold| {
+        larger_refusals(sample, threshold)
+    });
+}
+
 /// More than 16,384 links in lists that are otherwise a survey's.
 #[test]
 fn too_many_links() {
     // 182 nodes, all linked, are 16,471 links; 181 nodes are 16,290.
-    assert_eq!(larger_refusals(&common::blocks(181, 1)), [0; 5]);
-    assert_eq!(larger_refusals(&common::blocks(182, 1)), [9; 5]);
+    check_larger(0, &common::blocks(181, 1));
+    check_larger(9, &common::blocks(182, 1));
     // Node 181 has 94 links more: exactly 16,384, and then one more.
     let mut sample = Sample::new("most links", 300);
     for (a, b) in common::blocks(181, 1).links() {
@@ -184,16 +233,18 @@ fn too_many_links() {
         sample.link(181, b);
     }
     assert_eq!(sample.links().len(), 16384);
-    assert_eq!(larger_refusals(&sample), [0; 5]);
+    check_larger(0, &sample);
     sample.link(181, 94);
-    assert_eq!(larger_refusals(&sample), [9; 5]);
+    check_larger(9, &sample);
 }
 
-/// The refusal of a build of the path 0-1-2 with lists of these lengths.
-fn build_with_lengths(starts: &[u32], lengths: [usize; 4]) -> u8 {
+/// The refusal of a build from the neighbours of the path 0-1-2 into lists of
+/// these lengths.
+fn build_with_lengths(n: usize, threshold: usize, starts: &[u32], lengths: [usize; 4]) -> u8 {
     let [mut full, mut low, mut report, mut hubs] = lengths.map(|length| vec![5u16; length]);
     let built = build(
-        3,
+        n,
+        threshold,
         starts,
         &NEIGHBOURS,
         &mut full,
@@ -208,53 +259,60 @@ fn build_with_lengths(starts: &[u32], lengths: [usize; 4]) -> u8 {
     built.err().unwrap_or(0)
 }
 
+/// The refusal with every threshold; 14 comes straight after 2.
+#[track_caller]
+fn check_build(refusal: u8, n: usize, starts: &[u32], lengths: [usize; 4]) {
+    for threshold in common::thresholds(n) {
+        let found = build_with_lengths(n, threshold, starts, lengths);
+        assert_eq!(found, refusal, "{threshold}");
+    }
+    for threshold in REFUSED_THRESHOLDS {
+        let found = build_with_lengths(n, threshold, starts, lengths);
+        assert_eq!(found, or_14(refusal), "{threshold}");
+    }
+}
+
 #[test]
 fn build_refusal_order() {
     let broken = [0, 3, 1, 4];
-    assert_eq!(build_with_lengths(&STARTS, [9, 9, 9, 3]), 0);
+    check_build(0, 3, &STARTS, [9, 9, 9, 3]);
     for place in 0..4 {
         let mut lengths = [9, 9, 9, 3];
         lengths[place] -= 1;
-        assert_eq!(build_with_lengths(&STARTS, lengths), 8);
-        assert_eq!(build_with_lengths(&broken, lengths), 8);
+        check_build(8, 3, &STARTS, lengths);
+        check_build(8, 3, &broken, lengths);
     }
-    assert_eq!(build_with_lengths(&broken, [9, 9, 9, 3]), 9);
-    assert_eq!(build_with_lengths(&broken[..3], [9, 9, 9, 3]), 8);
-    assert_eq!(build_with_lengths(&STARTS, [0; 4]), 8);
-    let nothing: &mut [u16] = &mut [];
-    assert_eq!(
-        build(0, &[], &[], nothing, &mut [], &mut [], &mut []),
-        Err(2)
-    );
-    assert_eq!(
-        build(usize::MAX, &[], &[], nothing, &mut [], &mut [], &mut []),
-        Err(2)
-    );
+    check_build(9, 3, &broken, [9, 9, 9, 3]);
+    check_build(8, 3, &broken[..3], [9, 9, 9, 3]);
+    check_build(8, 3, &STARTS, [0; 4]);
+    for n in [0, 1025, usize::MAX] {
+        check_build(2, n, &[], [0; 4]);
+    }
 }
 
 #[test]
 fn build_keeps_further_entries() {
-    let exact = Built::of_text(COURSE);
-    let (starts, neighbours) = (&exact.starts, &exact.neighbours);
-    let [mut full, mut low, mut report, mut hubs] =
-        [36, 36, 36, 6].map(|size| vec![5u16; size + 4]);
-    let built = build(
-        6,
-        starts,
-        neighbours,
-        &mut full,
-        &mut low,
-        &mut report,
-        &mut hubs,
-    );
-    assert_eq!(built, Ok(1));
-    assert_eq!(full, [&exact.full[..], &[5; 4]].concat());
-    assert_eq!(low, [&exact.low[..], &[5; 4]].concat());
-    assert_eq!(report, [&exact.report[..], &[5; 4]].concat());
-    assert_eq!(hubs, [&exact.hubs[..], &[5; 4]].concat());
-    // Asking takes longer tables too.
-    let asked = ask(6, &full, &low, &report, 1, 3);
-    assert_eq!(asked, exact.ask(1, 3));
+    for threshold in common::thresholds(6) {
+        let exact = Built::of_sample(&common::course(), threshold);
+        let mut longer = exact.clone();
+        for list in [
+            &mut longer.full,
+            &mut longer.low,
+            &mut longer.report,
+            &mut longer.hubs,
+        ] {
+            list.fill(5);
+            list.extend([5; 4]);
+        }
+        assert_eq!(longer.build(), Ok(exact.hub_count));
+        let further = |list: &[u16]| [list, &[5; 4]].concat();
+        assert_eq!(longer.full, further(&exact.full));
+        assert_eq!(longer.low, further(&exact.low));
+        assert_eq!(longer.report, further(&exact.report));
+        assert_eq!(longer.hubs, further(&exact.hubs));
+        // Asking takes longer tables too.
+        assert_eq!(longer.ask(1, 3), exact.ask(1, 3));
+    }
 }
 
 #[test]
@@ -283,14 +341,20 @@ fn ask_refusal_order() {
     assert_eq!(ask(6, full, low, &threes, 1, 3), Err(11));
 }
 
-/// The refusal of a walk; the list must be all none when refused.
+/// The refusal of a walk; the list must be all none when refused. With a
+/// threshold above 1,024 the refusal is 14, if it is not 2.
 fn walk_refusal(built: &Built, a: usize, b: usize, length: usize) -> u8 {
     let mut list = vec![5; length];
     let walked = built.walk(a, b, &mut list);
     if walked.is_err() || walked.unwrap().route == Route::NoRoute {
         assert_eq!(list, vec![NONE; length]);
     }
-    walked.err().unwrap_or(0)
+    let refusal = walked.err().unwrap_or(0);
+    for threshold in REFUSED_THRESHOLDS {
+        let built = built.given(threshold);
+        built.check_refused_walk(or_14(refusal), (a, b));
+    }
+    refusal
 }
 
 #[test]
@@ -370,9 +434,11 @@ fn check_random_call(random: &mut Random, n: usize, limit: usize) -> bool {
         [26, 25, 26, 6].map(|length| random_list(random, length, limit));
     let (a, b) = (random.below(6), random.below(6));
     let asked = ask(n, &full, &low, &report, a, b);
+    let threshold = [0, 1, 2, 3, 6, 1024, 1025, usize::MAX][random.below(8)];
     let mut nodes = vec![5; random.below(9)];
     let walked = walk(
         n,
+        threshold,
         &starts,
         &neighbours,
         &full,
@@ -387,6 +453,7 @@ fn check_random_call(random: &mut Random, n: usize, limit: usize) -> bool {
     let old = [full.clone(), low.clone(), report.clone(), hubs.clone()];
     let built = build(
         n,
+        threshold,
         &starts,
         &neighbours,
         &mut full,
@@ -395,14 +462,18 @@ fn check_random_call(random: &mut Random, n: usize, limit: usize) -> bool {
         &mut hubs,
     );
     assert!(built.is_ok() || [full, low, report, hubs] == old);
-    assert_eq!(test(n, &starts, &neighbours).is_ok(), built.is_ok());
+    let tested = test(n, threshold, &starts, &neighbours);
+    assert_eq!(tested.is_ok(), built.is_ok());
+    let refused_14 = (1..=1024).contains(&n) && threshold > 1024;
+    let refusals = [built.err(), walked.err(), tested.err()];
+    assert_eq!(refusals.map(|refusal| refusal == Some(14)), [refused_14; 3]);
     let mut buffer = [5; 99];
     let written = write(n, &starts, &neighbours, &mut buffer);
-    assert_eq!(written.is_ok(), built.is_ok());
+    assert_eq!(written.is_ok() && threshold <= 1024, built.is_ok());
     assert!(written.is_ok() || buffer == [5; 99]);
     let mut buffer = [5; 99];
     let exported = export(n, &starts, &neighbours, &mut buffer);
-    assert_eq!(exported.is_ok(), built.is_ok());
+    assert_eq!(exported.is_ok(), written.is_ok());
     assert!(exported.is_ok() || buffer == [5; 99]);
     built.is_ok()
 }

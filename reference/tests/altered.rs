@@ -1,8 +1,12 @@
-//! Altered tables: nothing panics, and a walk given out is a chain.
+//! Altered tables, walked with any threshold: nothing panics, and a walk
+//! given out is a chain.
 
 mod common;
 
-use common::{expected_ask, expected_walk, is_chain, Built, Expected, Random, Sample};
+use common::{
+    expected_ask, expected_low_nodes, expected_walk, is_chain, Built, Random, Sample,
+    REFUSED_THRESHOLDS,
+};
 use reference::{Route, NONE};
 
 /// How often each outcome came up.
@@ -14,6 +18,7 @@ struct Seen {
     failed_walk: usize,
     written_link: usize,
     failed_link: usize,
+    refused_threshold: usize,
 }
 
 /// A value near the old one or at an edge of the range.
@@ -56,25 +61,34 @@ fn attain(random: &mut Random, built: &mut Built, a: usize, b: usize) {
     };
 }
 
+/// The survey's tables built with some threshold, walked with some other or
+/// the same one; some of these are refused.
+fn built_with_any(random: &mut Random, sample: &Sample) -> Built {
+    let mut thresholds = common::thresholds(sample.n);
+    let built = Built::of_sample(sample, thresholds[random.below(thresholds.len())]);
+    thresholds.extend(REFUSED_THRESHOLDS);
+    built.given(thresholds[random.below(thresholds.len())])
+}
+
 /// Asks and walks one pair, and compares with the second statement.
-fn check_pair(
-    sample: &Sample,
-    built: &Built,
-    low_nodes: &[bool],
-    (a, b): (usize, usize),
-    seen: &mut Seen,
-) {
+fn check_pair(sample: &Sample, built: &Built, (a, b): (usize, usize), seen: &mut Seen) {
     let asked = built.ask(a, b).map(|answer| (answer.report, answer.route));
     assert_eq!(asked, expected_ask(built, a, b), "{}", sample.name);
+    if REFUSED_THRESHOLDS.contains(&built.threshold) {
+        built.check_refused_walk(14, (a, b));
+        seen.refused_threshold += 1;
+        return;
+    }
     let Ok((report, route)) = asked else {
-        check_refused_walk(built, a, b);
+        built.check_refused_walk(11, (a, b));
         seen.no_attaining_route += 1;
         return;
     };
-    let nodes = expected_walk(sample, built, low_nodes, route, a, b);
+    let low_nodes = expected_low_nodes(sample, built.threshold);
+    let nodes = expected_walk(sample, built, &low_nodes, route, a, b);
     let by_link = usize::from(route == Route::Link);
     let Some(nodes) = nodes else {
-        check_refused_walk(built, a, b);
+        built.check_refused_walk(11, (a, b));
         seen.failed_walk += 1;
         seen.failed_link += by_link;
         return;
@@ -96,15 +110,6 @@ fn check_pair(
     seen.written_link += by_link;
 }
 
-/// Refused 11 in a list that is long enough and in one that is not.
-fn check_refused_walk(built: &Built, a: usize, b: usize) {
-    for length in [0, 1, 2 * built.n + 3] {
-        let mut list = vec![3; length];
-        assert_eq!(built.walk(a, b, &mut list), Err(11));
-        assert!(list.iter().all(|&entry| entry == NONE));
-    }
-}
-
 fn check_short_list(built: &Built, a: usize, b: usize, report: u16) {
     let mut short = vec![3; report as usize];
     assert_eq!(built.walk(a, b, &mut short), Err(8));
@@ -118,16 +123,15 @@ fn altered_tables() {
     let mut samples = common::small_samples(9);
     samples.retain(|sample| sample.n <= 24);
     for sample in &samples {
-        let (built, expected) = (Built::of_sample(sample), Expected::of(sample));
         for _ in 0..30 {
-            let mut altered = built.clone();
+            let mut altered = built_with_any(&mut random, sample);
             alter(&mut random, &mut altered);
             for _ in 0..10 {
                 let (a, b) = (random.below(sample.n), random.below(sample.n));
                 if random.percent(50) {
                     attain(&mut random, &mut altered, a, b);
                 }
-                check_pair(sample, &altered, &expected.low_nodes, (a, b), &mut seen);
+                check_pair(sample, &altered, (a, b), &mut seen);
             }
         }
     }
@@ -135,6 +139,7 @@ fn altered_tables() {
     assert!(seen.written > 10_000 && seen.no_route > 1000);
     assert!(seen.no_attaining_route > 1000 && seen.failed_walk > 1000);
     assert!(seen.written_link > 1000 && seen.failed_link > 1000);
+    assert!(seen.refused_threshold > 1000);
 }
 
 /// Tables that hold nothing but random values.
@@ -146,16 +151,14 @@ fn random_tables() {
         .iter()
         .filter(|sample| sample.n <= 16)
     {
-        let expected = Expected::of(sample);
-        let mut built = Built::of_sample(sample);
         for _ in 0..20 {
+            let mut built = built_with_any(&mut random, sample);
             let limit = [2, 3, 5, 65536][random.below(4)];
             for table in [&mut built.full, &mut built.low, &mut built.report] {
                 table.fill_with(|| random.below(limit) as u16);
             }
-            for pair in 0..sample.n * sample.n {
-                let (a, b) = (pair / sample.n, pair % sample.n);
-                check_pair(sample, &built, &expected.low_nodes, (a, b), &mut seen);
+            for pair in common::pairs(sample.n) {
+                check_pair(sample, &built, pair, &mut seen);
             }
         }
     }

@@ -3,7 +3,7 @@
 mod common;
 
 use common::{from_links, Built, COURSE, SENT_BACK, SEPARATE_NODE};
-use reference::{read, reports, test, threshold, write, Answer, Route, Tested, Verdict, NONE};
+use reference::{read, reports, threshold, write, Answer, Route, Tested, Verdict, NONE};
 use std::io::Write;
 use std::process::{Command, Stdio};
 
@@ -16,8 +16,7 @@ fn refusal_of(text: &str) -> u8 {
 }
 
 fn tested(text: &str) -> Tested {
-    let built = Built::of_text(text);
-    test(built.n, &built.starts, &built.neighbours).unwrap()
+    Built::of_text(text).test().unwrap()
 }
 
 fn walk_nodes(built: &Built, a: usize, b: usize) -> Vec<u16> {

@@ -3,7 +3,7 @@
 
 mod common;
 
-use common::{Built, Expected, Sample, COURSE};
+use common::{expected_low_nodes, pairs, Built, Sample, COURSE, REFUSED_THRESHOLDS};
 use reference::{Answer, Route, NONE};
 
 const LINK: Answer = Answer {
@@ -12,7 +12,8 @@ const LINK: Answer = Answer {
 };
 
 /// The walk of a report of 1 in lists of 0 to 3 entries: 11 in each if the
-/// nodes are not linked, else 8 where two nodes do not fit.
+/// nodes are not linked, else 8 where two nodes do not fit. A threshold that
+/// is too great is refused before all that.
 fn check_walks(built: &Built, linked: bool, a: usize, b: usize) {
     for length in 0..=3 {
         let mut list = vec![9; length];
@@ -28,19 +29,20 @@ fn check_walks(built: &Built, linked: bool, a: usize, b: usize) {
         }
         assert_eq!(list, expected);
     }
+    for threshold in REFUSED_THRESHOLDS {
+        built.given(threshold).check_refused_walk(14, (a, b));
+    }
 }
 
-/// The samples of few nodes, each with the tables built from it.
+/// The samples of few nodes, each with the tables built from it with every
+/// threshold.
 fn small_built(seed: u64) -> impl Iterator<Item = (Sample, Built)> {
     let samples = common::small_samples(seed).into_iter();
-    samples.filter(|sample| sample.n <= 20).map(|sample| {
-        let built = Built::of_sample(&sample);
-        (sample, built)
+    let samples = samples.filter(|sample| sample.n <= 20);
+    samples.flat_map(|sample| {
+        let thresholds = common::thresholds(sample.n).into_iter();
+        thresholds.map(move |threshold| (sample.clone(), Built::of_sample(&sample, threshold)))
     })
-}
-
-fn pairs(n: usize) -> impl Iterator<Item = (usize, usize)> {
-    (0..n * n).map(move |place| (place / n, place % n))
 }
 
 #[test]
@@ -78,7 +80,7 @@ fn tables_from_before() {
     let mut met = [0; 4];
     for (sample, built) in small_built(23) {
         let older = built.before_links(&sample);
-        let low_nodes = Expected::of(&sample).low_nodes;
+        let low_nodes = expected_low_nodes(&sample, older.threshold);
         for (a, b) in sample.links() {
             let answer = older.ask(a, b).unwrap();
             let nodes = common::expected_walk(&sample, &older, &low_nodes, answer.route, a, b);

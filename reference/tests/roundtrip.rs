@@ -2,8 +2,8 @@
 
 mod common;
 
-use common::{Random, Sample};
-use reference::{build, read, test, write};
+use common::{Built, Random, Sample};
+use reference::{read, write};
 
 /// Reads the text into lists with spare entries and checks what is left.
 fn read_checked(text: &[u8], spare: usize) -> (usize, usize, Vec<u32>, Vec<u16>) {
@@ -96,15 +96,12 @@ fn largest_survey() {
     }
     let sample = sample.renumbered(&mut random);
     check(&sample, &mut random);
-    let (starts, neighbours) = sample.lists();
-    let mut tables = vec![vec![1; 1024 * 1024]; 3];
-    let [full, low, report] = &mut tables[..] else {
-        unreachable!()
-    };
-    let mut hubs = vec![1; 1024];
-    let hub_count = build(1024, &starts, &neighbours, full, low, report, &mut hubs).unwrap();
-    assert!(hub_count > 0);
-    assert!(test(1024, &starts, &neighbours).is_ok());
+    for threshold in common::thresholds(1024) {
+        let built = Built::of_sample(&sample, threshold);
+        // No node of 1,024 has 1,024 neighbours.
+        assert_eq!(built.hub_count > 0, threshold < 1024);
+        assert!(built.test().is_ok());
+    }
 }
 
 /// Entries past those that a survey uses are not looked at.

@@ -5,7 +5,7 @@
 
 mod common;
 
-use common::{number, Built, Sample, COURSE, SENT_BACK, SEPARATE_NODE, UNJOINED};
+use common::{is_allowed, number, Built, Sample, COURSE, SENT_BACK, SEPARATE_NODE};
 use reference::{reports, Route, NONE};
 use std::fs;
 
@@ -38,13 +38,7 @@ impl Fewest {
     }
 
     fn check(&self, a: usize, b: usize, report: usize) {
-        let distance = self.0[a][b];
-        if distance >= UNJOINED {
-            assert_eq!(report, usize::from(NONE), "{a} and {b}");
-        } else {
-            let allowed = distance..=distance + 2;
-            assert!(allowed.contains(&report), "{a} and {b}: {report}");
-        }
+        assert!(is_allowed(self.0[a][b], report), "{a} and {b}: {report}");
     }
 
     fn check_table(&self, report: &[usize]) {
@@ -110,32 +104,66 @@ fn shown(built: &Built, a: usize, b: usize) -> String {
     format!("{a} and {b}: report {report}{route}\nwalk of {a} and {b}:{nodes}\n")
 }
 
+/// What examples/survey.c prints of the hubs.
+fn shown_hubs(built: &Built) -> String {
+    let hubs = built.hubs.iter().take(built.hub_count);
+    let hubs: String = hubs.map(|h| format!(" {h}")).collect();
+    format!("hubs:{hubs}\n")
+}
+
+/// A line of examples/run: the title that it prints, the survey, the threshold
+/// and the pairs.
+fn show(line: &str) -> Option<(String, String, usize, Vec<usize>)> {
+    let words: Vec<&str> = line.split(" ||").next()?.split(' ').collect();
+    let name = *words.get(1)?;
+    let numbers = |words: &[&str]| {
+        words
+            .iter()
+            .map(|word| word.parse().expect("a number"))
+            .collect()
+    };
+    let (title, threshold, pairs) = match words[0] {
+        "show" => (format!("== {name}\n"), 0, numbers(&words[2..])),
+        "show_file" => (format!("== {name}, a file\n"), 0, numbers(&words[2..])),
+        "show_by" => {
+            let title = format!("== {name}, by threshold {}\n", words[2]);
+            (title, words[2].parse().ok()?, numbers(&words[3..]))
+        }
+        _ => return None,
+    };
+    Some((
+        title,
+        stored(&format!("examples/{name}.txt")),
+        threshold,
+        pairs,
+    ))
+}
+
 /// The pairs of examples/run are those of its lines `show`.
 #[test]
 fn c_example() {
     let expected = stored("examples/expected");
     let run = stored("examples/run");
     let mut shows = 0;
-    for line in run.lines().map(str::trim_start) {
-        let words: Vec<&str> = line.split(' ').collect();
-        let title = match words[0] {
-            "show" => format!("== {}\n", words[1]),
-            "show_file" => format!("== {}, a file\n", words[1]),
-            _ => continue,
-        };
-        let text = stored(&format!("examples/{}.txt", words[1]));
-        let (built, fewest) = (Built::of_text(&text), Fewest::of(&text));
+    for (title, text, threshold, pairs) in run.lines().map(str::trim_start).filter_map(show) {
         let (_, part) = expected.split_once(&title).expect("its title");
         let part = part.split("== ").next().unwrap_or(part);
-        for pair in words[2..].chunks(2) {
-            let [a, b] = [pair[0], pair[1]].map(|word| word.parse().expect("a node"));
+        shows += 1;
+        if threshold > 1024 {
+            assert!(part.contains("build: refused 14\n"), "{title}");
+            continue;
+        }
+        let sample = Sample::of_text(&title, &text);
+        let (built, fewest) = (Built::of_sample(&sample, threshold), Fewest::of(&text));
+        assert!(part.contains(&shown_hubs(&built)), "{title}");
+        for pair in pairs.chunks(2) {
+            let (a, b) = (pair[0], pair[1]);
             let lines = shown(&built, a, b);
-            assert!(part.contains(&lines), "{lines} of {}", words[1]);
+            assert!(part.contains(&lines), "{lines} of {title}");
             if a < built.n && b < built.n {
                 fewest.check(a, b, built.report[a * built.n + b].into());
             }
         }
-        shows += 1;
     }
     assert_eq!(shows, expected.matches("== ").count());
 }

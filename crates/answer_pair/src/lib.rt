@@ -10,7 +10,7 @@ ghost use Prim.Native.Nat.{_*_, _≤_, _<_};
 ghost use lib.Dec.{eqb};
 ghost use lib.ListN.{length};
 ghost use Rattle.model.specs.Answers.{answered, pairAnswer};
-ghost use Rattle.model.specs.Tables.{entryAt, via, shortTables};
+ghost use Rattle.model.specs.Tables.{entryAt, via};
 ghost use Rattle.model.specs.Pair.{withRoute, taken, attaining, pair};
 ghost use Rattle.model.specs.Asking.{asking};
 ghost use Rattle.model.specs.Demand.{AskRight};
@@ -99,40 +99,19 @@ pub fn pair_answer(
     answer_by(r, Route::Through(h))
 }
 
-// Whether one of the three tables is shorter than n * n.
-pub fn tables_short(n: usize, full: &[u16], low: &[u16], report: &[u16]) -> bool
-    requires { ⌜ n ≤ 1024 ⌝ }
-    ensures { λ r. ⌜ r ≡ shortTables n (length (now (full .entry))) (length (now (low .entry))) (length (now (report .entry))) ⌝ }
-{
-    let size = n * n;
-    if full.len() < size {
-        return true;
-    }
-    if low.len() < size {
-        return true;
-    }
-    report.len() < size
-}
-
-// Asking a pair: the report with its route. With the tables built from a survey it is not refused, and the report is allowed, and 1 by
-// link exactly for linked nodes.
+// Asking a pair: the report with its route. With the tables built from a survey with any threshold it is not refused, and the report is
+// allowed, and 1 by link exactly for linked nodes.
 pub fn ask(n: usize, full: &[u16], low: &[u16], report: &[u16], a: usize, b: usize) -> Asking
     ensures { λ r. ⌜ pairAnswer r ≡ asking n (now (full .entry)) (now (low .entry)) (now (report .entry)) a b ⌝ }
     ensures { λ r. ⌜ AskRight n (now (full .entry)) (now (low .entry)) (now (report .entry)) a b (pairAnswer r) ⌝ }
 {
-    if n < 1 {
+    if base_refusals::bad_size(n) {
         return Asking::Refused(Refusal::NodeCount);
     }
-    if 1024 < n {
-        return Asking::Refused(Refusal::NodeCount);
-    }
-    if tables_short(n, full, low, report) {
+    if base_refusals::short_tables(n, full.len(), low.len(), report.len()) {
         return Asking::Refused(Refusal::ShortList);
     }
-    if n <= a {
-        return Asking::Refused(Refusal::NoNode);
-    }
-    if n <= b {
+    if base_refusals::bad_pair(n, a, b) {
         return Asking::Refused(Refusal::NoNode);
     }
     pair_answer(n, full, low, report, a, b)

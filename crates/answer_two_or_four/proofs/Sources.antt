@@ -92,6 +92,6 @@ module _ (n s : ℕ) (G : Graph) {v : ℕ} (e : v ≡ firstOf (isLow s G) none (
       at (nothing q miss) = absurd (h q)
 
 -- an answer by the rules is right
-pub tested : {n : ℕ} {starts neighbours : List ℕ} {o : Outcome TestResult}
-    → o ≡ testing n starts neighbours → (o ≡ testing n starts neighbours) × TestRight n starts neighbours o
-tested {n} {starts} {neighbours} e = promised (TestRight n starts neighbours) (testing-right _ _ _) e
+pub tested : {n t : ℕ} {starts neighbours : List ℕ} {o : Outcome TestResult}
+    → o ≡ testing n t starts neighbours → (o ≡ testing n t starts neighbours) × TestRight n t starts neighbours o
+tested {n} {t} {starts} {neighbours} e = promised (TestRight n t starts neighbours) (testing-right _ _ _ _) e

@@ -1,6 +1,6 @@
 // The two-or-four test: searches from a few nodes, and the verdict that they give, parted, long or short.
-use model::Accepting;
 use model::NONE;
+use model::Refusal;
 use model::TestResult;
 use model::Testing;
 use model::Verdict;
@@ -84,16 +84,26 @@ fn run_test(n: usize, s: usize, starts: &[u32], neighbours: &[u16]) -> TestResul
     test_from(n, starts, neighbours, v)
 }
 
-// The two-or-four test of a survey. For every accepted survey it is not refused, and the verdict is right.
-pub fn test(n: usize, starts: &[u32], neighbours: &[u16]) -> Testing
-    ensures { λ r. ⌜ testAnswer r ≡ testing n (now (starts .entry)) (now (neighbours .entry)) ⌝ }
-    ensures { λ r. ⌜ TestRight n (now (starts .entry)) (now (neighbours .entry)) (testAnswer r) ⌝ }
+// The two-or-four test of a survey, split by the threshold t, or by the stored one where t is 0. For every accepted survey and every
+// threshold that is not refused there is a verdict, and it is right.
+pub fn test(n: usize, t: usize, starts: &[u32], neighbours: &[u16]) -> Testing
+    ensures { λ r. ⌜ testAnswer r ≡ testing n t (now (starts .entry)) (now (neighbours .entry)) ⌝ }
+    ensures { λ r. ⌜ TestRight n t (now (starts .entry)) (now (neighbours .entry)) (testAnswer r) ⌝ }
 {
-    match survey_acceptance::accept(n, starts, neighbours) {
-        Accepting::Refused(r) => Testing::Refused(r),
-        Accepting::Accepted => {
-            let s = base_threshold::threshold_at(n);
-            Testing::Answered(run_test(n, s, starts, neighbours))
-        }
+    if base_refusals::bad_size(n) {
+        return Testing::Refused(Refusal::NodeCount);
     }
+    let above = base_refusals::bad_threshold(t);
+    let short = base_refusals::short_starts(n, starts.len());
+    if above {
+        return Testing::Refused(Refusal::BadThreshold);
+    }
+    if short {
+        return Testing::Refused(Refusal::ShortList);
+    }
+    if !survey_acceptance::is_survey(n, starts, neighbours) {
+        return Testing::Refused(Refusal::NotSurvey);
+    }
+    let s = base_threshold::in_force(n, t);
+    Testing::Answered(run_test(n, s, starts, neighbours))
 }

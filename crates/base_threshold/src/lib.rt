@@ -1,10 +1,10 @@
-// The threshold between low and high nodes, from a stored table.
+// The threshold between low and high nodes: from a stored table, or as a caller gives it.
 use model::Counting;
 use model::Refusal;
 ghost use mathlib.Core.Path.{_≡_};
 ghost use Prim.Native.Nat.{_≤_};
 ghost use Rattle.model.specs.Answers.{countAnswer};
-ghost use Rattle.model.specs.Threshold.{threshold, thresholdAnswer};
+ghost use Rattle.model.specs.Threshold.{threshold, inForce, thresholdAnswer};
 
 // Entry n - 1 is the threshold of n, for n from 1 to 1,024.
 const THRESHOLD: [u16; 1024] = [
@@ -1034,7 +1034,7 @@ const THRESHOLD: [u16; 1024] = [
     107,
 ];
 
-pub fn threshold_at(n: usize) -> usize
+fn threshold_at(n: usize) -> usize
     requires { ⌜ (1 ≤ n) × (n ≤ 1024) ⌝ }
     ensures { λ r. ⌜ r ≡ threshold n ⌝ }
 {
@@ -1046,11 +1046,20 @@ pub fn threshold_at(n: usize) -> usize
 pub fn threshold_of(n: usize) -> Counting
     ensures { λ r. ⌜ countAnswer r ≡ thresholdAnswer n ⌝ }
 {
-    if n < 1 {
-        return Counting::Refused(Refusal::NodeCount);
-    }
-    if 1024 < n {
+    if base_refusals::bad_size(n) {
         return Counting::Refused(Refusal::NodeCount);
     }
     Counting::Count(threshold_at(n))
+}
+
+// The threshold in force where a caller gives t: 0 stands for the stored one. The open calls hand it down, so that nothing below them sees
+// that 0.
+pub fn in_force(n: usize, t: usize) -> usize
+    requires { ⌜ (1 ≤ n) × (n ≤ 1024) ⌝ }
+    ensures { λ r. ⌜ r ≡ inForce n t ⌝ }
+{
+    if t == 0 {
+        return threshold_at(n);
+    }
+    t
 }

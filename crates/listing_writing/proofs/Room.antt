@@ -20,7 +20,6 @@ use Rattle.model.specs.Numbers.{digits}
 use Rattle.model.specs.SurveyText.{lineOf}
 use Rattle.model.specs.Survey.{Graph, IsGraph}
 use Rattle.model.specs.Graph.{linked}
-use Rattle.model.specs.Threshold.{threshold}
 use Rattle.model.specs.Hubs.{hubs}
 use Rattle.model.specs.Tables.{entryAt, fullTable, lowTable, reportTable}
 use Rattle.model.specs.Pair.{withRoute, attaining, choose, pairBy, pair}
@@ -130,10 +129,9 @@ report-most n s G g size a b ha hb =
     (λ c. inr (r .no-route .1 (c .1)))
     (fewest-cases (linked n G) n a (linked-ends n G) ha b)
 
-pub listing-few : (n : ℕ) (G : Graph) → IsGraph n G → n ≤ 128 → length (listingOf n (threshold n) G) ≤ mostListing
+pub listing-few : (n s : ℕ) (G : Graph) → IsGraph n G → n ≤ 128 → length (listingOf n s G) ≤ mostListing
 unfolding listingOf pairLines upTo
-listing-few n G g size =
-    let s = threshold n in
+listing-few n s G g size =
     let full : List ℕ = fullTable n s G in
     let low : List ℕ = lowTable n s G in
     let report : List ℕ = reportTable n s G in
@@ -163,7 +161,7 @@ listing-few n G g size =
 
 -- ---- a refusal's line
 
-pub refusal-few : (r : Refusal) {k : ℕ} → k ≡ number r → length (listingText (refused k)) ≤ mostListing
+pub refusal-few : (r : Refusal) {k : ℕ} → k ≡ number r → length (listingText (refused k)) ≤ 5
 unfolding listingText
 refusal-few r {k} e =
     omega (arith, length-append (digits k) (10 ∷ []), length-le 1 k (omega (arith, number-bounds r .1, e)))

@@ -2,13 +2,12 @@
 -- Assumes nothing.
 use mathlib.Core.Path.{_≡_, refl, sym, ap, _∙_}
 use mathlib.Core.List.{List, _++_}
-use Prim.Native.Nat.{ℕ, _+_, _*_, _≤_, _<_}
+use Prim.Native.Nat.{ℕ, _+_, _*_, _≤_}
 use native.Mathlib.Nat.{mul-le-mul}
 use native.Mathlib.Omega.{arith}
 use lib.ListN.{length, take, drop, length-append}
 use lib.Seq.{take-at}
 use Rattle.model.specs.declared.Refusal.{Refusal}
-use Rattle.model.specs.declared.Refusal.the-variants.{ShortBuffer}
 use Rattle.model.specs.declared.Size.{Size}
 use Rattle.model.specs.declared.Counting.the-variants as counting
 use Rattle.model.specs.declared.Reading.the-variants as read
@@ -16,7 +15,7 @@ use Rattle.model.specs.Answers.{Outcome, refused, answered, number}
 use Rattle.model.specs.Basics.{over}
 use Rattle.model.specs.SurveyText.{lineOf}
 use Rattle.model.specs.Survey.{Graph, neighboursOf, Accepted}
-use Rattle.model.specs.Threshold.{threshold}
+use Rattle.model.specs.Threshold.{inForce}
 use Rattle.model.specs.Hubs.{hubs}
 use Rattle.model.specs.Tables.{fullTable, lowTable, reportTable}
 use Rattle.model.specs.Building.{AfterBuilding, built}
@@ -27,7 +26,7 @@ use Rattle.model.proofs.Covering.{hubs-length}
 use Rattle.model.proofs.Entries.{length-table}
 use Rattle.model.proofs.Links.{parse-sound}
 use Rattle.model.proofs.Outcomes.{never, numberIn}
-use Rattle.model.proofs.ReadBack.{read-accepted, read-graph, write-whole, write-short}
+use Rattle.model.proofs.ReadBack.{read-accepted, read-graph, write-whole}
 use Rattle.base_lists.specs.Written.{Wrote}
 use Rattle.base_lists.proofs.Written.{wrote-over, over-whole}
 
@@ -37,41 +36,39 @@ square-most n h = mul-le-mul h h
 -- ---- what building leaves in tables of exactly n x n entries
 
 -- the number of hubs, and the three tables
-pub record AreTables (n : ℕ) (G : Graph) (count : ℕ) (full low report : List ℕ) : Type 0 where
-  pub count-is : count ≡ length (hubs n (threshold n) G)
-  pub full-is : full ≡ fullTable n (threshold n) G
-  pub low-is : low ≡ lowTable n (threshold n) G
-  pub report-is : report ≡ reportTable n (threshold n) G
+pub record AreTables (n s : ℕ) (G : Graph) (count : ℕ) (full low report : List ℕ) : Type 0 where
+  pub count-is : count ≡ length (hubs n s G)
+  pub full-is : full ≡ fullTable n s G
+  pub low-is : low ≡ lowTable n s G
+  pub report-is : report ≡ reportTable n s G
 
 pub tables-built : (n s : ℕ) (G : Graph) (full low report list : List ℕ) {full′ low′ report′ list′ : List ℕ} {count : ℕ}
     → record { answer = answered count; full = full′; low = low′; report = report′; hubs = list′ } ≡ built n s G full low report list
-    → s ≡ threshold n → length full ≡ n * n → length low ≡ n * n → length report ≡ n * n → AreTables n G count full′ low′ report′
+    → length full ≡ n * n → length low ≡ n * n → length report ≡ n * n → AreTables n s G count full′ low′ report′
 unfolding built fullTable lowTable reportTable numberIn
-tables-built n s G full low report list e s-is full-size low-size report-size =
-    let after = rw s-is at e in
-    record {
-      count-is = ap (λ (b : AfterBuilding). numberIn (λ k. k) (b .answer)) after;
-      full-is = ap (λ (b : AfterBuilding). b .full) after ∙ over-whole _ full (full-size ∙ sym (length-table n _));
-      low-is = ap (λ (b : AfterBuilding). b .low) after ∙ over-whole _ low (low-size ∙ sym (length-table n _));
-      report-is = ap (λ (b : AfterBuilding). b .report) after ∙ over-whole _ report (report-size ∙ sym (length-table n _));
-    }
+tables-built n s G full low report list e full-size low-size report-size = record {
+  count-is = ap (λ (b : AfterBuilding). numberIn (λ k. k) (b .answer)) e;
+  full-is = ap (λ (b : AfterBuilding). b .full) e ∙ over-whole _ full (full-size ∙ sym (length-table n _));
+  low-is = ap (λ (b : AfterBuilding). b .low) e ∙ over-whole _ low (low-size ∙ sym (length-table n _));
+  report-is = ap (λ (b : AfterBuilding). b .report) e ∙ over-whole _ report (report-size ∙ sym (length-table n _));
+}
 
-module _ {n : ℕ} {G : Graph} {count : ℕ} {full low report : List ℕ} (t : AreTables n G count full low report) where
+module _ {n s : ℕ} {G : Graph} {count : ℕ} {full low report : List ℕ} (t : AreTables n s G count full low report) where
   pub count-few : count ≤ n
-  count-few = omega (arith, t .count-is, hubs-length n G (threshold n))
+  count-few = omega (arith, t .count-is, hubs-length n G s)
 
   -- the listing is made of the first line and the pairs' lines from these tables
-  pub listing-by-tables : lineOf 82 n count ++ pairLines n full low report ≡ listingOf n (threshold n) G
+  pub listing-by-tables : lineOf 82 n count ++ pairLines n full low report ≡ listingOf n s G
   unfolding listingOf
   listing-by-tables = rw (t .count-is, t .full-is, t .low-is, t .report-is) refl
 
 -- ---- what reading leaves in lists for 128 nodes and 2,048 links
 
--- a survey of at most 128 nodes whose listing is that of the text
+-- a survey of at most 128 nodes whose listing, with the stored threshold, is that of the text
 pub record IsListed (text starts neighbours : List ℕ) (n : ℕ) : Type 0 where
   pub survey : Accepted n starts neighbours
   pub few : n ≤ 128
-  pub lines : listingOf n (threshold n) (neighboursOf starts neighbours) ≡ listing text
+  pub lines : listingOf n (inForce n 0) (neighboursOf starts neighbours) ≡ listing text
 
 listing-said : (text : List ℕ) {p q : ℕ} → p ≡ 128 + 1 → q ≡ 2 * 2048 → listingText (parse 128 2048 p q text) ≡ listing text
 unfolding listing
@@ -117,21 +114,14 @@ module _ {t buf buf′ : List ℕ} {e : ℕ} (w : Wrote buf buf′ 0 e t) where
       let o = wrote-over t w in
       omega (arith, o .1, ap length (o .0) ∙ length-append t (drop (length t) buf))
 
-  pub listing-fits : {k : ℕ} → length buf′ ≡ k → length t ≤ k
-  listing-fits l = omega (arith, front-fits, wrote-over t w .1)
-
-  front-is : take e buf′ ≡ t
+  pub front-is : take e buf′ ≡ t
   unfolding over
   front-is =
       let o = wrote-over t w in
       ap (take e) (o .0) ∙ take-at t (drop (length t) buf) e (sym (o .1))
 
-  pub listing-short : (buffer : List ℕ) → length buffer < e
-      → writeReturned (counting.Refused ShortBuffer) buffer ≡ writingOf (answered tt) t buffer
-  listing-short buffer h = sym (write-short t buffer (omega (arith, wrote-over t w .1)))
+-- ---- and is copied into a buffer
 
-  pub listing-whole : {buffer buffer′ : List ℕ} {k : ℕ} → e ≤ length buffer → Wrote buffer buffer′ 0 k (take e buf′)
-      → writeReturned (counting.Count e) buffer′ ≡ writingOf (answered tt) t buffer
-  listing-whole {buffer} h v =
-      let l = wrote-over t w .1 in
-      rw (wrote-over (take e buf′) v .0, front-is, l) (sym (write-whole t buffer (omega arith)))
+pub copied : {t buffer buffer′ : List ℕ} {k : ℕ} → length t ≤ length buffer → Wrote buffer buffer′ 0 k t
+    → writeReturned (counting.Count (length t)) buffer′ ≡ writingOf (answered tt) t buffer
+copied {t} {buffer} h v = rw (wrote-over t v .0) (sym (write-whole t buffer h))

@@ -6,31 +6,30 @@ ghost use mathlib.Core.Path.{_≡_};
 ghost use Prim.Native.Nat.{_*_, _≤_};
 ghost use lib.ListN.{length};
 ghost use Rattle.base_lists.specs.Written.{Wrote};
-ghost use Rattle.model.specs.Answers.{number, refused};
+ghost use Rattle.model.specs.Answers.{number, refused, answered};
 ghost use Rattle.model.specs.Survey.{neighboursOf, Accepted};
-ghost use Rattle.model.specs.Threshold.{threshold};
 ghost use Rattle.model.specs.Listing.{listingOf, listingText, listing, writingListing};
-ghost use Rattle.model.specs.Writing.{writeReturned};
+ghost use Rattle.model.specs.Writing.{writingOf, writeReturned};
 ghost use Rattle.listing_writing.specs.Length.{mostListing};
 
-// Builds the three tables of a survey and writes its listing, from the first byte on. Returns the listing's length.
+// Builds the three tables of a survey for threshold s and writes its listing, from the first byte on. Returns the listing's length.
 fn list_tables(
     n: usize,
+    s: usize,
     starts: &[u32],
     neighbours: &[u16],
     full: &mut [u16],
     low: &mut [u16],
     report: &mut [u16],
-    buffer: &mut [u8],
+    lines: &mut [u8],
 ) -> usize
     requires { ⌜ Accepted n (now starts) (now neighbours) × (n ≤ 128)
         × (length (now full) ≡ n * n) × (length (now low) ≡ n * n) × (length (now report) ≡ n * n) ⌝ }
-    requires { ⌜ length (listingOf n (threshold n) (neighboursOf (now starts) (now neighbours))) ≤ length (now buffer) ⌝ }
-    ensures { λ r. ⌜ Wrote (now (buffer .entry)) (now (buffer .exit)) 0 r
-        (listingOf n (threshold n) (neighboursOf (now (starts .entry)) (now (neighbours .entry)))) ⌝ }
+    requires { ⌜ length (listingOf n s (neighboursOf (now starts) (now neighbours))) ≤ length (now lines) ⌝ }
+    ensures { λ r. ⌜ Wrote (now (lines .entry)) (now (lines .exit)) 0 r
+        (listingOf n s (neighboursOf (now (starts .entry)) (now (neighbours .entry)))) ⌝ }
 {
     let mut hubs = [0u16; 128];
-    let s = base_threshold::threshold_at(n);
     let count = table_building::build_tables(
         n,
         s,
@@ -41,15 +40,15 @@ fn list_tables(
         report,
         &mut hubs,
     );
-    let i = text_writing::write_line(buffer, 0, b"R", b',', &[n as u32, count as u32]);
-    listing_lines::write_pairs(n, full, low, report, buffer, i)
+    let i = text_writing::write_line(lines, 0, b"R", b',', &[n as u32, count as u32]);
+    listing_lines::write_pairs(n, full, low, report, lines, i)
 }
 
 // The same with its own lists for the tables, of a survey of at most 128 nodes.
-fn list_survey(n: usize, starts: &[u32], neighbours: &[u16], buffer: &mut [u8]) -> usize
-    requires { ⌜ Accepted n (now starts) (now neighbours) × (n ≤ 128) × (mostListing ≤ length (now buffer)) ⌝ }
-    ensures { λ r. ⌜ Wrote (now (buffer .entry)) (now (buffer .exit)) 0 r
-        (listingOf n (threshold n) (neighboursOf (now (starts .entry)) (now (neighbours .entry)))) ⌝ }
+fn list_survey(n: usize, s: usize, starts: &[u32], neighbours: &[u16], lines: &mut [u8]) -> usize
+    requires { ⌜ Accepted n (now starts) (now neighbours) × (n ≤ 128) × (mostListing ≤ length (now lines)) ⌝ }
+    ensures { λ r. ⌜ Wrote (now (lines .entry)) (now (lines .exit)) 0 r
+        (listingOf n s (neighboursOf (now (starts .entry)) (now (neighbours .entry)))) ⌝ }
 {
     let size = n * n;
     let mut full = [0u16; 16384];
@@ -57,65 +56,85 @@ fn list_survey(n: usize, starts: &[u32], neighbours: &[u16], buffer: &mut [u8]) 
     let mut report = [0u16; 16384];
     list_tables(
         n,
+        s,
         starts,
         neighbours,
         &mut full[..size],
         &mut low[..size],
         &mut report[..size],
-        buffer,
+        lines,
     )
 }
 
-// Writes a refusal's line from the first byte on, and returns its length.
-fn write_refusal(refusal: Refusal, buffer: &mut [u8]) -> usize
-    requires { ⌜ mostListing ≤ length (now buffer) ⌝ }
-    ensures { λ r. ⌜ Wrote (now (buffer .entry)) (now (buffer .exit)) 0 r (listingText (refused (number refusal))) ⌝ }
+// Copies a listing into the buffer if it fits.
+fn copy_listing(lines: &[u8], buffer: &mut [u8]) -> Counting
+    ensures { λ r. ⌜ writeReturned r (now (buffer .exit)) ≡ writingOf (answered tt) (now (lines .entry)) (now (buffer .entry)) ⌝ }
 {
-    let number = base_refusals::refusal_number(refusal);
-    text_writing::write_line(buffer, 0, b"X", b',', &[number])
+    if buffer.len() < lines.len() {
+        return Counting::Refused(Refusal::ShortBuffer);
+    }
+    base_lists::copy8(lines, buffer, 0);
+    Counting::Count(lines.len())
 }
 
-// Writes the listing of a text from the first byte on, and returns its length.
-fn list_text(text: &[u8], buffer: &mut [u8]) -> usize
-    requires { ⌜ mostListing ≤ length (now buffer) ⌝ }
-    ensures { λ r. ⌜ Wrote (now (buffer .entry)) (now (buffer .exit)) 0 r (listing (now (text .entry))) ⌝ }
+// Writes the listing of a text that is refused: one line with the refusal's number, of at most 5 bytes.
+fn write_refusal(refusal: Refusal, buffer: &mut [u8]) -> Counting
+    ensures { λ r. ⌜ writeReturned r (now (buffer .exit))
+        ≡ writingOf (answered tt) (listingText (refused (number refusal))) (now (buffer .entry)) ⌝ }
+{
+    let mut lines = [0u8; 5];
+    let number = base_refusals::refusal_number(refusal);
+    let length = text_writing::write_line(&mut lines, 0, b"X", b',', &[number]);
+    copy_listing(&lines[..length], buffer)
+}
+
+// Writes the listing of a survey for threshold s: into a lent list of the greatest length, and from there into the buffer if it fits.
+fn write_survey(
+    n: usize,
+    s: usize,
+    starts: &[u32],
+    neighbours: &[u16],
+    lines: &mut [u8],
+    buffer: &mut [u8],
+) -> Counting
+    requires { ⌜ Accepted n (now starts) (now neighbours) × (n ≤ 128) × (mostListing ≤ length (now lines)) ⌝ }
+    ensures { λ r. ⌜ writeReturned r (now (buffer .exit))
+        ≡ writingOf (answered tt) (listingOf n s (neighboursOf (now (starts .entry)) (now (neighbours .entry)))) (now (buffer .entry)) ⌝ }
+{
+    let length = list_survey(n, s, starts, neighbours, lines);
+    copy_listing(&lines[..length], buffer)
+}
+
+// The same with an array of that length, lent whole, so that the check does not look at its entries.
+fn write_in_array(
+    n: usize,
+    s: usize,
+    starts: &[u32],
+    neighbours: &[u16],
+    lines: &mut [u8; 146314],
+    buffer: &mut [u8],
+) -> Counting
+    requires { ⌜ Accepted n (now starts) (now neighbours) × (n ≤ 128) ⌝ }
+    ensures { λ r. ⌜ writeReturned r (now (buffer .exit))
+        ≡ writingOf (answered tt) (listingOf n s (neighboursOf (now (starts .entry)) (now (neighbours .entry)))) (now (buffer .entry)) ⌝ }
+{
+    write_survey(n, s, starts, neighbours, lines, buffer)
+}
+
+// Writes the listing of a text into a buffer, with the stored threshold. Refused where the buffer is too short, which is then not altered;
+// 146,314 bytes are always enough.
+pub fn write_listing(text: &[u8], buffer: &mut [u8]) -> Counting
+    ensures { λ r. ⌜ writeReturned r (now (buffer .exit)) ≡ writingListing (now (text .entry)) (now (buffer .entry)) ⌝ }
+    ensures { λ _. ⌜ length (listing (now (text .entry))) ≤ mostListing ⌝ }
 {
     let mut starts = [0u32; 129];
     let mut neighbours = [0u16; 4096];
     match survey_reading::read_within(text, 128, 2048, &mut starts, &mut neighbours) {
         Reading::Refused(r) => write_refusal(r, buffer),
-        Reading::Read(size) => list_survey(size.nodes, &starts, &neighbours, buffer),
+        Reading::Read(size) => {
+            let s = base_threshold::in_force(size.nodes, 0);
+            let mut lines = [0u8; 146314];
+            write_in_array(size.nodes, s, &starts, &neighbours, &mut lines, buffer)
+        }
     }
-}
-
-// Writes the listing of a text into a lent list of the greatest length, and copies it into the buffer if it fits.
-fn write_and_copy(text: &[u8], lines: &mut [u8], buffer: &mut [u8]) -> Counting
-    requires { ⌜ length (now lines) ≡ mostListing ⌝ }
-    ensures { λ r. ⌜ writeReturned r (now (buffer .exit)) ≡ writingListing (now (text .entry)) (now (buffer .entry)) ⌝ }
-    ensures { λ _. ⌜ length (listing (now (text .entry))) ≤ mostListing ⌝ }
-{
-    let length = list_text(text, lines);
-    if buffer.len() < length {
-        return Counting::Refused(Refusal::ShortBuffer);
-    }
-    base_lists::copy8(&lines[..length], buffer, 0);
-    Counting::Count(length)
-}
-
-// The same with an array of that length, lent whole, so that the check does not look at its entries.
-fn write_in_array(text: &[u8], lines: &mut [u8; 146314], buffer: &mut [u8]) -> Counting
-    ensures { λ r. ⌜ writeReturned r (now (buffer .exit)) ≡ writingListing (now (text .entry)) (now (buffer .entry)) ⌝ }
-    ensures { λ _. ⌜ length (listing (now (text .entry))) ≤ mostListing ⌝ }
-{
-    write_and_copy(text, lines, buffer)
-}
-
-// Writes the listing of a text into a buffer. Refused where the buffer is too short, which is then not altered; 146,314 bytes are
-// always enough.
-pub fn write_listing(text: &[u8], buffer: &mut [u8]) -> Counting
-    ensures { λ r. ⌜ writeReturned r (now (buffer .exit)) ≡ writingListing (now (text .entry)) (now (buffer .entry)) ⌝ }
-    ensures { λ _. ⌜ length (listing (now (text .entry))) ≤ mostListing ⌝ }
-{
-    let mut lines = [0u8; 146314];
-    write_in_array(text, &mut lines, buffer)
 }

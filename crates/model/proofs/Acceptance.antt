@@ -9,11 +9,13 @@ use native.Mathlib.Omega.{arith}
 use borrow.Author.Tests.{lt-ltb, le-ltb, ltb-false}
 use lib.Dec.{T, eqb, ltb, leb, eqb→eq, leb→le, le→leb, ltb→lt, lt→ltb, T-not, not-T}
 use lib.ListN.{length, getD}
-use Rattle.model.specs.Answers.{Outcome, answered, isAnswered}
+use Rattle.model.specs.Answers.{Outcome, refused, answered, isAnswered}
 use Rattle.model.specs.Basics.{upTo, has, all, keep}
-use Rattle.model.specs.Survey.{Graph, neighboursOf, ascending, isSurvey, outside, badSize, accepting, accepted, IsSurvey, IsGraph, Accepted}
+use Rattle.model.specs.Survey.{Graph, neighboursOf, ascending, isSurvey, outside, badSize, shortStarts, acceptRefusals, accepting}
+use Rattle.model.specs.Survey.{accepted, IsSurvey, IsGraph, Accepted}
 use Rattle.model.specs.Graph.{linked}
-use Rattle.model.proofs.Tests.{picked, not-not, and-l, and-r, and-i, or-r, or-false, of-or-false, T-true, same-test, eq-T}
+use Rattle.model.proofs.Outcomes.{Passed, judged-done, of-judged}
+use Rattle.model.proofs.Tests.{not-not, passed, and-l, and-r, and-i, or-r, or-false, of-or-false, T-true, same-test, eq-T}
 use Rattle.model.proofs.Lists.{of-all, all-of, has-upTo, of-upTo, keep-same, keep-grows, keep-length, length-upTo}
 use Rattle.model.proofs.Ascending.{ascending-keep}
 
@@ -111,8 +113,8 @@ unfolding badSize
 size-bounds = of-in-range 1024
 
 module _ (n : ℕ) (starts neighbours : List ℕ) where
-  -- the facts, where the three tests are passed
-  pub tests-facts : badSize n ≡ false → ltb (length starts) (n + 1) ≡ false → not (isSurvey n starts neighbours) ≡ false
+  -- the facts, where none of the three tests refuses; and the other way round
+  pub tests-facts : badSize n ≡ false → shortStarts n (length starts) ≡ false → not (isSurvey n starts neighbours) ≡ false
       → Accepted n starts neighbours
   tests-facts size room lists = let b = size-bounds _ size in record {
     some-node = b .0;
@@ -121,23 +123,26 @@ module _ (n : ℕ) (starts neighbours : List ℕ) where
     lists = survey-facts _ _ _ (not-not (isSurvey n starts neighbours) lists);
   }
 
+  module _ (f : Accepted n starts neighbours) where
+    pub sized : badSize n ≡ false
+    sized = good-size n (f .some-node) (f .size)
+
+    pub starts-long : shortStarts n (length starts) ≡ false
+    starts-long = le-ltb (length starts) (n + 1) (f .room)
+
+    pub is-survey : not (isSurvey n starts neighbours) ≡ false
+    is-survey = passed (isSurvey n starts neighbours) (survey-test n starts neighbours (f .lists))
+
   pub accepted-facts : T (accepted n starts neighbours) → Accepted n starts neighbours
   unfolding accepted accepting
   accepted-facts =
-      let P : Outcome (Unit {0}) → Type 0 = λ o. T (isAnswered o) → Accepted n starts neighbours in
-      picked P (badSize n) _ _ (λ _ t. absurd t) (λ size.
-      picked P (ltb (length starts) (n + 1)) _ _ (λ _ t. absurd t) (λ room.
-      picked P (not (isSurvey n starts neighbours)) _ _ (λ _ t. absurd t) (λ lists t. tests-facts size room lists)))
+      of-judged (λ (o : Outcome (Unit {0})). T (isAnswered o) → Accepted n starts neighbours) refused (acceptRefusals n starts neighbours) _
+      (λ k t. absurd t) (λ p t. tests-facts (p .0) (p .1 .0) (p .1 .1 .0))
 
   -- what is accepted is not refused, and the other way round
   pub accepting-answers : Accepted n starts neighbours → accepting n starts neighbours ≡ answered tt
   unfolding accepting
-  accepting-answers f =
-      rw (
-        good-size n (f .some-node) (f .size),
-        le-ltb (length starts) (n + 1) (f .room),
-        T-true (isSurvey n starts neighbours) (survey-test n starts neighbours (f .lists)),
-      ) refl
+  accepting-answers f = judged-done refused (acceptRefusals n starts neighbours) _ (sized f, (starts-long f, (is-survey f, tt)))
 
   pub accepting-facts : (x : Unit {0}) → accepting n starts neighbours ≡ answered x → Accepted n starts neighbours
   unfolding accepted

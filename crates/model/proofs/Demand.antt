@@ -2,14 +2,14 @@
 -- Assumes nothing.
 use mathlib.Core.Path.{_≡_, refl, sym, ap, _∙_, subst}
 use mathlib.Core.Logic.{⊎-elim, _↔_}
-use mathlib.Core.Bool.{Bool, true, false, not, _||_}
+use mathlib.Core.Bool.{false}
 use mathlib.Core.List.{List, _++_}
 use mathlib.Core.Option.{some}
 use Prim.Native.Nat.{ℕ, _+_, _-_, _*_, _≤_, _<_}
 use native.Mathlib.Numerals.{add-one}
 use native.Mathlib.Omega.{arith}
 use borrow.Author.Tests.{le-ltb, lt-leb, leb-false}
-use lib.Dec.{T, ltb, leb}
+use lib.Dec.{T}
 use lib.ListN.{length, replicate, take, length-append, length-replicate}
 use lib.Seq.{take-at}
 use Rattle.model.specs.declared.Route.the-variants.{NoRoute, Link}
@@ -17,32 +17,29 @@ use Rattle.model.specs.declared.Answer.{Answer}
 use Rattle.model.specs.Answers.{Outcome, refused, answered}
 use Rattle.model.specs.Basics.{none, over}
 use Rattle.model.specs.Graph.{Edges, Chain, Fewest, linked}
-use Rattle.model.specs.Survey.{Graph, neighboursOf, badSize, isSurvey, Accepted}
-use Rattle.model.specs.Threshold.{threshold}
+use Rattle.model.specs.Survey.{Graph, neighboursOf, Accepted}
+use Rattle.model.specs.Threshold.{inForce}
 use Rattle.model.specs.Hubs.{hubs}
 use Rattle.model.specs.Tables.{entryAt, fullTable, lowTable, reportTable, AreBuilt, AreBuiltWith, shortTables, hubList}
-use Rattle.model.specs.Pair.{withRoute, taken, attaining, pairBy, pair}
+use Rattle.model.specs.Pair.{badPair, withRoute, taken, attaining, pairBy, pair}
 use Rattle.model.specs.Walk.{walkNodes}
 use Rattle.model.specs.TwoOrFour.{testResult}
-use Rattle.model.specs.Building.{AfterBuilding, shortLists, built, building}
-use Rattle.model.specs.Asking.{asking}
-use Rattle.model.specs.Walking.{AfterWalking, refuseWalk, fit, walkOf, walking}
-use Rattle.model.specs.Testing.{testing}
+use Rattle.model.specs.Building.{AfterBuilding, built, buildRefusals, refuseBuild, building}
+use Rattle.model.specs.Asking.{askRefusals, asking}
+use Rattle.model.specs.Walking.{AfterWalking, refuseWalk, fit, walkOf, walkRefusals, walking}
+use Rattle.model.specs.Testing.{testRefusals, testing}
 use Rattle.model.specs.Demand.{AllowedAnswer, AskRight, WalkSound, WalkAnswers, WalkRight, RightVerdict, TestRight, BuildRight}
-use Rattle.model.proofs.Outcomes.{never, numberIn}
-use Rattle.model.proofs.Tests.{or-false, of-or-false, picked, not-not, lt-or}
+use Rattle.model.proofs.Outcomes.{never, numberIn, judged-done, of-judged, judged-passed}
+use Rattle.model.proofs.Tests.{or-false, of-or-false, lt-or}
 use Rattle.model.proofs.Chains.{walked-chain}
-use Rattle.model.proofs.Acceptance.{survey-test, survey-facts, tests-facts, good-size, accepting-answers, no-loop}
+use Rattle.model.proofs.Acceptance.{sized, starts-long, is-survey, tests-facts, no-loop}
+use Rattle.model.proofs.Threshold.{good-threshold}
 use Rattle.model.proofs.Entries.{front-length, length-table, long-tables, of-long-tables}
 use Rattle.model.proofs.Covering.{hubs-length}
 use Rattle.model.proofs.Allowance.{allowed, report-one, report-exact}
 use Rattle.model.proofs.Walks.{Chosen, chosen, Given-out, refusal, no-way, walked, fit-short, fit-long, found-longer, walk-given-out}
 use Rattle.model.proofs.BuiltWalks.{report-at, pair-linked, pair-built, walk-built, taken-right}
 use Rattle.model.proofs.Verdicts.{verdict-right}
-
-passed : (b : Bool) → T b → not b ≡ false
-passed true t = refl
-passed false t = absurd t
 
 -- ---- lists that tables were built into have room for them
 
@@ -97,44 +94,28 @@ given-out-sound E a b w (walked y l g m room) x e f =
     }
 
 -- whatever is lent, a walk that is given out is a chain of the survey's links, of exactly the reported length
-pub walking-sound : (n : ℕ) (starts neighbours full low report : List ℕ) (a b w : ℕ)
-    → WalkSound (linked n (neighboursOf starts neighbours)) a b (walking n starts neighbours full low report a b w)
+pub walking-sound : (n t : ℕ) (starts neighbours full low report : List ℕ) (a b w : ℕ)
+    → WalkSound (linked n (neighboursOf starts neighbours)) a b (walking n t starts neighbours full low report a b w)
 unfolding walking refuseWalk pair
-walking-sound n starts neighbours full low report a b w =
-    picked P (badSize n) _ _ (λ _. refuses) (λ size.
-    picked P (ltb (length starts) (n + 1) || shortTables n (length full) (length low) (length report)) _ _ (λ _. refuses) (λ room.
-    picked P (not (isSurvey n starts neighbours)) _ _ (λ _. refuses) (λ lists.
-    picked P (leb n a || leb n b) _ _ (λ _. refuses) (λ below.
-    let h = of-or-false _ _ below in
-    let g = survey-facts _ _ _ (not-not (isSurvey n starts neighbours) lists) .graph in
-    given-out-sound _ _ _ w (walk-given-out (threshold n) g full low (leb-false _ _ (h .0)) (leb-false _ _ (h .1)) _ report w)))))
-  where
-    G : Graph
-    G = neighboursOf starts neighbours
-
-    P : AfterWalking → Type 0
-    P r = WalkSound (linked n G) a b r
-
-    refuses : {k : ℕ} → P (record { answer = refused k; walk = replicate w none })
-    refuses x e f = never e
+walking-sound n t starts neighbours full low report a b w =
+    of-judged (λ (r : AfterWalking). WalkSound (linked n (neighboursOf starts neighbours)) a b r) (refuseWalk w)
+    (walkRefusals n t starts neighbours full low report a b) _ (λ k x e f. never e) (λ p.
+    let lengths = p .1 .1 in
+    let survey = lengths .1 .1 in
+    let below = of-or-false _ _ (survey .1 .0) in
+    let g = tests-facts n starts neighbours (p .0) (lengths .0) (survey .0) .lists .graph in
+    given-out-sound _ _ _ w (walk-given-out (inForce n t) g full low (leb-false _ _ (below .0)) (leb-false _ _ (below .1)) _ report w))
 
 -- ---- what an answer says of the tests before it
 
 asking-passed : (n : ℕ) (full low report : List ℕ) (a b : ℕ) {x : Answer} → asking n full low report a b ≡ answered x
     → (n * n ≤ length full) × (n * n ≤ length low) × (n * n ≤ length report) × (a < n) × (b < n) × (pair n full low report a b ≡ answered x)
 unfolding asking
-asking-passed n full low report a b {x} =
-    picked P (badSize n) _ _ (λ _ e. never e) (λ _.
-    picked P (shortTables n (length full) (length low) (length report)) _ _ (λ _ e. never e) (λ room.
-    picked P (leb n a || leb n b) _ _ (λ _ e. never e) (λ below e.
-    let r = of-long-tables n (length full) (length low) (length report) room in
-    let h = of-or-false (leb n a) (leb n b) below in
-    (r .0, r .1, r .2, leb-false n a (h .0), leb-false n b (h .1), e))))
-  where
-    P : Outcome Answer → Type 0
-    P o = o ≡ answered x
-        → (n * n ≤ length full) × (n * n ≤ length low) × (n * n ≤ length report) × (a < n) × (b < n)
-        × (pair n full low report a b ≡ answered x)
+asking-passed n full low report a b e =
+    let p = judged-passed (askRefusals n full low report a b) _ e in
+    let r = of-long-tables n (length full) (length low) (length report) (p .0 .1 .0) in
+    let h = of-or-false _ _ (p .0 .1 .1 .0) in
+    (r .0, r .1, r .2, leb-false n a (h .0), leb-false n b (h .1), p .1)
 
 short-fit : (w : ℕ) (x : Answer) (l : List ℕ) → (fit w x (some l) .answer ≡ refused 8) ↔ (w < length l)
 unfolding refuseWalk
@@ -149,25 +130,24 @@ module _ {n : ℕ} {starts neighbours : List ℕ} (acc : Accepted n starts neigh
   abbrev pub G : Graph
   G = neighboursOf starts neighbours
 
-  is-survey : not (isSurvey n starts neighbours) ≡ false
-  is-survey = passed (isSurvey n starts neighbours) (survey-test _ _ _ (acc .lists))
-
-  -- the test is not refused, and its verdict is right
-  pub testing-answers : testing n starts neighbours ≡ answered (testResult n (threshold n) G)
+  -- the test is not refused, and its verdict is right, with every threshold that is not refused
+  pub testing-answers : {t : ℕ} → t ≤ 1024 → testing n t starts neighbours ≡ answered (testResult n (inForce n t) G)
   unfolding testing
-  testing-answers = rw (accepting-answers n starts neighbours acc) refl
+  testing-answers {t} small =
+      judged-done refused (testRefusals n t starts neighbours) _
+      (sized _ _ _ acc, (good-threshold t small, (starts-long _ _ _ acc, (is-survey _ _ _ acc, tt))))
 
-  testing-verdict : RightVerdict n (linked n G) (testing n starts neighbours)
-  testing-verdict = record {
-    value = testResult n (threshold n) G;
-    given = testing-answers;
+  testing-verdict : {t : ℕ} → t ≤ 1024 → RightVerdict n (linked n G) (testing n t starts neighbours)
+  testing-verdict {t} small = record {
+    value = testResult n (inForce n t) G;
+    given = testing-answers small;
     right = verdict-right _ _ _ (acc .lists .graph) (acc .size);
   }
 
   -- with tables that are long enough and two nodes below n, all tests of asking and walking are passed
   module _ (full low report : List ℕ) (hf : n * n ≤ length full) (hl : n * n ≤ length low) (hr : n * n ≤ length report) {a b : ℕ}
       (ha : a < n) (hb : b < n) where
-    below : (leb n a || leb n b) ≡ false
+    below : badPair n a b ≡ false
     below = or-false _ _ (lt-leb _ _ ha) (lt-leb _ _ hb)
 
     fits : shortTables n (length full) (length low) (length report) ≡ false
@@ -175,28 +155,30 @@ module _ {n : ℕ} {starts neighbours : List ℕ} (acc : Accepted n starts neigh
 
     pub asks : asking n full low report a b ≡ pair n full low report a b
     unfolding asking
-    asks = rw (good-size n (acc .some-node) (acc .size), fits, below) refl
+    asks = judged-done refused (askRefusals n full low report a b) _ (sized _ _ _ acc, (fits, (below, tt)))
 
-    pub walks : (w : ℕ)
-        → walking n starts neighbours full low report a b w ≡ walkOf w n (threshold n) G full low a b (pair n full low report a b)
+    pub walks : {t : ℕ} → t ≤ 1024 → (w : ℕ)
+        → walking n t starts neighbours full low report a b w ≡ walkOf w n (inForce n t) G full low a b (pair n full low report a b)
     unfolding walking
-    walks w = rw (good-size n (acc .some-node) (acc .size), le-ltb (length starts) (n + 1) (acc .room), fits, is-survey, below) refl
+    walks {t} small w =
+        judged-done (refuseWalk w) (walkRefusals n t starts neighbours full low report a b) _
+        (sized _ _ _ acc, (good-threshold t small, (starts-long _ _ _ acc, (fits, (is-survey _ _ _ acc, (below, tt))))))
 
   -- for any tables: where asking answers x and the walk's nodes are found, the walk is refused 8 exactly where there is a route and
   -- the walk list has fewer than report + 1 entries
-  pub walking-short : (full low report : List ℕ) (a b : ℕ) {x : Answer} → asking n full low report a b ≡ answered x
-      → {l : List ℕ} → walkNodes n (threshold n) G full low a b (x .route) ≡ some l
-      → (w : ℕ) → (walking n starts neighbours full low report a b w .answer ≡ refused 8) ↔ ((x .report ≡ none → ⊥) × (w < x .report + 1))
+  pub walking-short : {t : ℕ} → t ≤ 1024 → (full low report : List ℕ) (a b : ℕ) {x : Answer} → asking n full low report a b ≡ answered x
+      → {l : List ℕ} → walkNodes n (inForce n t) G full low a b (x .route) ≡ some l
+      → (w : ℕ) → (walking n t starts neighbours full low report a b w .answer ≡ refused 8) ↔ ((x .report ≡ none → ⊥) × (w < x .report + 1))
   unfolding pair pairBy walkOf
-  walking-short full low report a b {x} e {l} f w =
+  walking-short {t} small full low report a b {x} e {l} f w =
       let p = asking-passed n full low report a b e in
       let r = entryAt n report a b in
       let c = subst (λ (q : Outcome Answer). Chosen a b r (entryAt n low a b) (attaining (taken n full a b) n full a b r) q) (p .5)
       (chosen a b r _ _) in
       let i = found-longer _ (acc .lists .graph) full low (p .3) (p .4) _ report x c l f w in
-      let o : walking n starts neighbours full low report a b w ≡ fit w x (some l) =
-      walks full low report (p .0) (p .1) (p .2) (p .3) (p .4) w
-      ∙ ap (walkOf w n (threshold n) G full low a b) (p .5)
+      let o : walking n t starts neighbours full low report a b w ≡ fit w x (some l) =
+      walks full low report (p .0) (p .1) (p .2) (p .3) (p .4) small w
+      ∙ ap (walkOf w n (inForce n t) G full low a b) (p .5)
       ∙ ap (fit w x) f in
       let j = short-fit w x l in
       (λ q. i .0 (j .0 (sym (rw o) ∙ q)), λ h. rw o (j .1 (i .1 h)))
@@ -245,63 +227,54 @@ module _ {n : ℕ} {starts neighbours : List ℕ} (acc : Accepted n starts neigh
         rw is (report-exact s (acc .lists .graph) ha hb (rw is at h))
 
   -- and writing the walk answers as asking does, if the walk list has report + 1 entries or there is no route
-  walking-answers : {full low report : List ℕ} → AreBuilt n (threshold n) (neighboursOf starts neighbours) full low report
+  walking-answers : {t : ℕ} → t ≤ 1024 → {full low report : List ℕ} → AreBuilt n (inForce n t) (neighboursOf starts neighbours) full low report
       → {a b : ℕ} → a < n → b < n → (w : ℕ)
-      → WalkAnswers w (asking n full low report a b) (walking n starts neighbours full low report a b w)
+      → WalkAnswers w (asking n full low report a b) (walking n t starts neighbours full low report a b w)
   unfolding pair
-  walking-answers {full} {low} {report} own {a} {b} ha hb w x e room =
+  walking-answers {t} small {full} {low} {report} own {a} {b} ha hb w x e room =
       let g = acc .lists .graph in
       let p = taken-right g (acc .size) own ha hb in
       let i = pair-built g (acc .size) own ha hb (taken n full a b) p in
       let q : withRoute (entryAt n report a b) (i .0) ≡ x = cc (asked own ha hb, i .1) in
-      (rw (walks full low report (full-room own) (low-room own) (report-room own) ha hb w))
+      (rw (walks full low report (full-room own) (low-room own) (report-room own) ha hb small w))
       ∙ walk-built g (acc .size) own ha hb (taken n full a b) p w
       (rw (← q) at room)
       ∙ sym (asked own ha hb) ∙ e
 
 -- building into lists that are long enough
-pub building-answers : (n : ℕ) (starts neighbours : List ℕ) → Accepted n starts neighbours → (full low report list : List ℕ)
+pub building-answers : (n t : ℕ) (starts neighbours : List ℕ) → Accepted n starts neighbours → t ≤ 1024 → (full low report list : List ℕ)
     → n * n ≤ length full → n * n ≤ length low → n * n ≤ length report → n ≤ length list
-    → building n starts neighbours full low report list ≡ built n (threshold n) (neighboursOf starts neighbours) full low report list
+    → building n t starts neighbours full low report list ≡ built n (inForce n t) (neighboursOf starts neighbours) full low report list
 unfolding building
-building-answers n starts neighbours acc full low report list hf hl hr hh =
-    rw (
-      good-size n (acc .some-node) (acc .size),
-      le-ltb (length starts) (n + 1) (acc .room),
-      long-tables n (length full) (length low) (length report) hf hl hr,
-      le-ltb (length list) n hh,
-      is-survey acc,
-    ) refl
+building-answers n t starts neighbours acc small full low report list hf hl hr hh =
+    let fits = long-tables n (length full) (length low) (length report) hf hl hr in
+    judged-done (refuseBuild full low report list) (buildRefusals n t starts neighbours full low report list) _
+    (sized _ _ _ acc, (good-threshold t small, (starts-long _ _ _ acc, (fits, (le-ltb (length list) n hh, (is-survey _ _ _ acc, tt))))))
 
 -- ---- what the calls promise, in the words of specs/Demand.antt
 
 pub asking-right : (n : ℕ) (full low report : List ℕ) (a b : ℕ) → AskRight n full low report a b (asking n full low report a b)
 asking-right n full low report a b s starts neighbours acc own = asking-allowed acc own
 
-pub walking-right : (n : ℕ) (starts neighbours full low report : List ℕ) (a b w : ℕ)
-    → WalkRight n (threshold n) starts neighbours full low report a b w (walking n starts neighbours full low report a b w)
-walking-right n starts neighbours full low report a b w acc own ha hb = (
+pub walking-right : (n t : ℕ) (starts neighbours full low report : List ℕ) (a b w : ℕ)
+    → WalkRight n t starts neighbours full low report a b w (walking n t starts neighbours full low report a b w)
+walking-right n t starts neighbours full low report a b w acc small own ha hb = (
   asking-allowed acc own ha hb,
-  walking-answers acc own ha hb w,
+  walking-answers acc small own ha hb w,
 )
 
-pub testing-right : (n : ℕ) (starts neighbours : List ℕ) → TestRight n starts neighbours (testing n starts neighbours)
-testing-right n starts neighbours acc = testing-verdict acc
+pub testing-right : (n t : ℕ) (starts neighbours : List ℕ) → TestRight n t starts neighbours (testing n t starts neighbours)
+testing-right n t starts neighbours acc small = testing-verdict acc small
 
-pub building-right : (n : ℕ) (starts neighbours full low report list : List ℕ)
-    → BuildRight n (threshold n) starts neighbours (building n starts neighbours full low report list)
+pub building-right : (n t : ℕ) (starts neighbours full low report list : List ℕ)
+    → BuildRight n t starts neighbours (building n t starts neighbours full low report list)
 unfolding building built numberIn
-building-right n starts neighbours full low report list =
-    picked P (badSize n) _ _ (λ _ k e. never e) (λ size.
-    picked P (shortLists n (length starts) (length full) (length low) (length report) (length list)) _ _ (λ _ k e. never e) (λ room.
-    picked P (not (isSurvey n starts neighbours)) _ _ (λ _ k e. never e) (λ lists k e.
-    let some-room = of-or-false _ _
-    (of-or-false _ _ room .0) .0 in
+building-right n t starts neighbours full low report list =
+    of-judged (λ (r : AfterBuilding). BuildRight n t starts neighbours r) (refuseBuild full low report list)
+    (buildRefusals n t starts neighbours full low report list) _ (λ _ k e. never e) (λ p k e.
+    let lengths = p .1 .1 in
     record {
-      survey = tests-facts _ _ _ size some-room lists;
+      survey = tests-facts _ _ _ (p .0) (lengths .0) (lengths .1 .1 .1 .0);
       tables = built-right _ _ _ full _ _ _;
       count = sym (ap (numberIn (λ i. i)) e);
-    })))
-  where
-    P : AfterBuilding → Type 0
-    P r = BuildRight n (threshold n) starts neighbours r
+    })

@@ -20,12 +20,12 @@ use Rattle.model.specs.Survey.{outside, neighboursOf, Accepted}
 use Rattle.model.specs.Reading.{limitsOf, named, onLinks, readOn, countsOf, Parsed, parsed, graphOf, readingOf}
 use Rattle.model.specs.Demand.{asRead}
 use Rattle.model.specs.Dimacs.{isComment, uncommented, headWord, edgeWord, headLine, edgeLine, edgeLines, fileText}
-use Rattle.model.specs.Dimacs.{headOf, edgeOf, readEdges, fileOf, onceAfter, keptOnce, importing, exportOf, exporting}
+use Rattle.model.specs.Dimacs.{headOf, edgeRefusals, edgeOf, readEdges, fileOf, onceAfter, keptOnce, importing, exportOf, exporting}
 use Rattle.model.specs.Dimacs.{Item, comment, edge, itemText, commentsText, OneLines, edgesAmong}
 use Rattle.model.specs.Dimacs.{IsFile, IsImported, ImportRight, ExportRight}
 use Rattle.model.proofs.Tests.{picked, T-true, true-T, or-false, of-or-false, or-e, or-turned}
 use Rattle.model.proofs.Lists.{none-in}
-use Rattle.model.proofs.Outcomes.{never, past-refusal, of-then, of-mapped}
+use Rattle.model.proofs.Outcomes.{never, judged-passed, of-then, of-mapped}
 use Rattle.model.proofs.Acceptance.{in-range, of-in-range, accepting-facts, accepting-answers}
 use Rattle.model.proofs.Lines.{two-complete, two-sound}
 use Rattle.model.proofs.Comments.{comment-goes, end-stays, comments-go, only-comments, numbers-stay, first-numbers}
@@ -73,13 +73,12 @@ module _ (n : ℕ) where
   unfolding edgeOf
   of-edge-taken missing x e = never e
   of-edge-taken (some l) x e =
-      let four = past-refusal (outside n (l .0) || outside n (l .1)) _ _ e in
-      let five = past-refusal (eqb (l .0) (l .1)) _ _ (four .1) in
-      let ends = of-or-false _ _ (four .0) in
+      let p = judged-passed (edgeRefusals n (l .0) (l .1)) _ e in
+      let ends = of-or-false _ _ (p .0 .0) in
       let a = of-in-range _ (l .0) (ends .0) in
       let b = of-in-range _ (l .1) (ends .1) in
-      let d = eqb-false (l .0) _ (five .0) in
-      let is : _≡_ {A = ℕ × ℕ × List ℕ} (l .0 - 1, l .1 - 1, l .2) x = cc (five .1) in
+      let d = eqb-false (l .0) _ (p .0 .1 .0) in
+      let is : _≡_ {A = ℕ × ℕ × List ℕ} (l .0 - 1, l .1 - 1, l .2) x = cc (p .1) in
       let ea : l .0 ≡ l .0 - 1 + 1 = omega arith in
       let eb : l .1 ≡ l .1 - 1 + 1 = omega arith in
       subst (λ (y : ℕ × ℕ × List ℕ). (some l ≡ some (y .0 + 1, y .1 + 1, y .2)) × IsEdge n (y .0) (y .1)) is (

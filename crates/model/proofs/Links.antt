@@ -14,8 +14,8 @@ use Rattle.model.specs.Answers.{Outcome, answered}
 use Rattle.model.specs.Basics.{gather}
 use Rattle.model.specs.SurveyText.{line, lineOf, linkLines, surveyText}
 use Rattle.model.specs.Survey.{outside}
-use Rattle.model.specs.Reading.{limitsOf, named, onLinks, linkOf, readOn, readLinks, Parsed, parsed, countsOf, parseLinks, parse}
-use Rattle.model.proofs.Outcomes.{never, past-refusal, of-then, of-mapped}
+use Rattle.model.specs.Reading.{limitRefusals, limitsOf, named, onLinks, linkRefusals, linkOf, readOn, readLinks, Parsed, parsed, countsOf, parseLinks, parse}
+use Rattle.model.proofs.Outcomes.{never, judged-passed, of-then, of-mapped}
 use Rattle.model.proofs.Tests.{or-false, of-or-false}
 use Rattle.model.proofs.Acceptance.{in-range, of-in-range}
 use Rattle.model.proofs.Lines.{line-complete, line-sound}
@@ -49,17 +49,18 @@ module _ (n : ℕ) (given : ℕ → ℕ → Bool) where
   unfolding linkOf
   of-link-taken missing x e = never e
   of-link-taken (some l) x e =
-      let four = past-refusal (leb n (l .0) || leb n (l .1)) _ _ e in
-      let five = past-refusal (eqb (l .0) (l .1)) _ _ (four .1) in
-      let six = past-refusal (given (l .0) (l .1)) _ _ (five .1) in
-      let below = of-or-false _ _ (four .0) in
-      let i : l ≡ x = cc (six .1) in (
+      let p = judged-passed (linkRefusals n given (l .0) (l .1)) _ e in
+      let four = p .0 .0 in
+      let five = p .0 .1 .0 in
+      let six = p .0 .1 .1 .0 in
+      let below = of-or-false _ _ four in
+      let i : l ≡ x = cc (p .1) in (
         ap some i,
         subst (λ (y : ℕ × ℕ × List ℕ). Fresh n given (y .0) (y .1)) i (record {
           below-a = leb-false _ _ (below .0);
           below-b = leb-false _ _ (below .1);
-          different = eqb-false _ _ (five .0);
-          new = six .0;
+          different = eqb-false _ _ five;
+          new = six;
         }),
       )
 
@@ -133,17 +134,18 @@ module _ (N M p q : ℕ) where
   of-first-taken (some f) x e =
       let n = f .0 in
       let m = f .1 in
-      let two = past-refusal (outside N n) _ _ e in
-      let three = past-refusal (ltb M m) _ _ (two .1) in
-      let eight = past-refusal (ltb p (n + 1) || ltb q (2 * m)) _ _ (three .1) in
-      let b = of-in-range _ _ (two .0) in
-      let r = of-or-false _ _ (eight .0) in
-      let i : f ≡ x = cc (eight .1) in (
+      let passed = judged-passed (limitRefusals N M p q n m) _ e in
+      let two = passed .0 .0 in
+      let three = passed .0 .1 .0 in
+      let eight = passed .0 .1 .1 .0 in
+      let b = of-in-range _ _ two in
+      let r = of-or-false _ _ eight in
+      let i : f ≡ x = cc (passed .1) in (
         ap some i,
         subst (λ (y : ℕ × ℕ × List ℕ). Within N M p q (y .0) (y .1)) i (record {
           some-node = b .0;
           size = b .1;
-          few = ltb-false _ _ (three .0);
+          few = ltb-false _ _ three;
           room = ltb-false _ _ (r .0);
           list-room = ltb-false _ _ (r .1);
         }),

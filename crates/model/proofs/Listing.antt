@@ -14,7 +14,7 @@ use Rattle.model.specs.Basics.{none, upTo, keep, gather}
 use Rattle.model.specs.SurveyText.{lineOf, ordered}
 use Rattle.model.specs.Survey.{Graph, IsGraph}
 use Rattle.model.specs.Graph.{linked}
-use Rattle.model.specs.Threshold.{threshold}
+use Rattle.model.specs.Threshold.{inForce}
 use Rattle.model.specs.Hubs.{hubs}
 use Rattle.model.specs.Tables.{entryAt, fullTable, lowTable, reportTable, AreBuilt}
 use Rattle.model.specs.Pair.{withRoute, taken, pair}
@@ -63,7 +63,7 @@ module _ (text : List ℕ) (x : Parsed) (e : parse 128 2048 (128 + 1) (2 * 2048)
   G = graphOf (x .nodes) (x .links)
 
   abbrev s : ℕ
-  s = threshold (x .nodes)
+  s = inForce (x .nodes) 0
 
   reply : ℕ → ℕ → Outcome Answer
   reply a b = pair n (fullTable n s G) (lowTable n s G) (reportTable n s G) a b
@@ -93,7 +93,7 @@ module _ (text : List ℕ) (x : Parsed) (e : parse 128 2048 (128 + 1) (2 * 2048)
 
   -- the first line, then for each a < b in order a line with an allowed report and a route, by link where the two are linked
   pub listing-lines : (f : ℕ → ℕ → Answer)
-      × (listing text ≡ lineOf 82 (x .nodes) (length (hubs (x .nodes) (threshold (x .nodes)) (graphOf (x .nodes) (x .links))))
+      × (listing text ≡ lineOf 82 (x .nodes) (length (hubs (x .nodes) (inForce (x .nodes) 0) (graphOf (x .nodes) (x .links))))
       ++ gather (λ p. pairLine p (answered (f (p .0) (p .1)))) (pairsBelow (x .nodes)))
       × ((a b : ℕ) → a < x .nodes → b < x .nodes → Allowed (linked (x .nodes) (graphOf (x .nodes) (x .links))) a b (f a b .report))
       × ((a b : ℕ) → a < x .nodes → b < x .nodes → (a ≡ b → ⊥)

@@ -1,16 +1,17 @@
--- Laws of outcomes: a refusal is no answer, and a missing value is no value; where there is an answer, each step before it was passed;
--- promises of outcomes; the number in an outcome; how large a refusal's number is.
+-- Laws of outcomes: a refusal is no answer, and a missing value is no value; refusals in their order; where there is an answer, each step
+-- before it was passed; promises of outcomes; the number in an outcome; how large a refusal's number is.
 -- Assumes nothing.
 use mathlib.Core.Path.{_≡_, refl, sym, subst}
-use mathlib.Core.Bool.{Bool, true, false}
+use mathlib.Core.Bool.{Bool, true, false, _||_}
+use mathlib.Core.List.{[], _∷_}
 use mathlib.Core.Option.{none as missing, some}
 use Prim.Native.Nat.{ℕ, _<_}
 use native.Mathlib.Omega.{arith}
 use Rattle.model.specs.declared.Refusal.{Refusal}
 use Rattle.model.specs.declared.Refusal.the-variants.{Form, NodeCount, LinkCount, LineNode, EqualEnds, RepeatedLink, LineCount}
-use Rattle.model.specs.declared.Refusal.the-variants.{ShortList, NotSurvey, NoNode, NotAttained, ShortBuffer, FileForm}
-use Rattle.model.specs.Answers.{Outcome, refused, answered, mapAnswer, andThen, number}
-use Rattle.model.specs.Basics.{if_then_else_}
+use Rattle.model.specs.declared.Refusal.the-variants.{ShortList, NotSurvey, NoNode, NotAttained, ShortBuffer, FileForm, BadThreshold}
+use Rattle.model.specs.Answers.{Outcome, refused, answered, mapAnswer, andThen, number, Refusals, _when_, judged}
+use Rattle.model.proofs.Tests.{picked}
 
 pub never : {A B : Type 0} {k : ℕ} {x : A} → refused k ≡ answered x → B
 never {k = k} {x = x} e = let z : _≡_ {A = ℕ} 0 1 = cc in absurd (omega arith)
@@ -18,11 +19,33 @@ never {k = k} {x = x} e = let z : _≡_ {A = ℕ} 0 1 = cc in absurd (omega arit
 pub no-value : {A B : Type 0} {x : A} → missing ≡ some x → B
 no-value {x = x} e = let z : _≡_ {A = ℕ} 0 1 = cc in absurd (omega arith)
 
--- where there is an answer, the test before it did not refuse
-pub past-refusal : {A : Type 0} (t : Bool) (k : ℕ) (o : Outcome A) {x : A} → (if t then refused k else o) ≡ answered x
-    → (t ≡ false) × (o ≡ answered x)
-past-refusal true k o e = never e
-past-refusal false k o e = (refl, e)
+-- none of the tests passes
+abbrev pub Passed : Refusals → Type 0
+Passed [] = Unit {0}
+Passed (c ∷ cs) = (c .1 ≡ false) × Passed cs
+
+-- then nothing is refused
+pub judged-done : {A : Type 0} (refuse : ℕ → A) (cs : Refusals) (done : A) → Passed cs → judged refuse cs done ≡ done
+judged-done refuse [] done p = refl
+judged-done refuse (c ∷ cs) done p = rw (p .0) (judged-done refuse cs done (p .1))
+
+-- what holds of every refusal, and of what is done where no test passes, holds of what is judged
+pub of-judged : {A : Type 0} (P : A → Type 0) (refuse : ℕ → A) (cs : Refusals) (done : A)
+    → ((k : ℕ) → P (refuse k)) → (Passed cs → P done) → P (judged refuse cs done)
+of-judged P refuse [] done f g = g tt
+of-judged P refuse (c ∷ cs) done f g =
+    picked P (c .1) _ _ (λ _. f (c .0)) (λ e. of-judged P refuse cs done f (λ p. g (e, p)))
+
+-- two tests of one refusal are one
+pub judged-either : {A : Type 0} (refuse : ℕ → A) (k : ℕ) (a b : Bool) (cs : Refusals) (done : A)
+    → judged refuse ((k when a) ∷ (k when b) ∷ cs) done ≡ judged refuse ((k when a || b) ∷ cs) done
+judged-either refuse k true b cs done = refl
+judged-either refuse k false b cs done = refl
+
+-- where there is an answer, no test passed
+pub judged-passed : {A : Type 0} (cs : Refusals) (o : Outcome A) {x : A} → judged refused cs o ≡ answered x
+    → Passed cs × (o ≡ answered x)
+judged-passed cs o {x} = of-judged (λ q. q ≡ answered x → Passed cs × (o ≡ answered x)) refused cs o (λ k e. never e) (λ p e. (p, e))
 
 -- what was answered in two steps: each of them was answered
 pub of-then : {A B : Type 0} (o : Outcome A) (f : A → Outcome B) {x : B} → andThen o f ≡ answered x
@@ -58,3 +81,4 @@ number-bounds NoNode = omega arith
 number-bounds NotAttained = omega arith
 number-bounds ShortBuffer = omega arith
 number-bounds FileForm = omega arith
+number-bounds BadThreshold = omega arith

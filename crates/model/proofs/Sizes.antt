@@ -17,13 +17,13 @@ use Rattle.model.specs.Answers.{Outcome, refused, answered, mapAnswer, a
 use Rattle.model.specs.Basics.{none, gather}
 use Rattle.model.specs.Lines.{twoLine, numberLineOf}
 use Rattle.model.specs.SurveyText.{line, lineOf, linkLines, surveyText, ordered}
-use Rattle.model.specs.Survey.{Graph, neighboursOf, outside, badSize, isSurvey, IsGraph, Accepted}
+use Rattle.model.specs.Survey.{Graph, neighboursOf, outside, badSize, shortStarts, isSurvey, IsGraph, Accepted}
 use Rattle.model.specs.Graph.{linked}
 use Rattle.model.specs.Hubs.{isLow}
 use Rattle.model.specs.Tables.{entryAt, shortTables, AreBuilt}
-use Rattle.model.specs.Pair.{pairBy, pair}
+use Rattle.model.specs.Pair.{badPair, pairBy, pair}
 use Rattle.model.specs.Walk.{steps, byLow, toHub, join, byLink, walkNodes}
-use Rattle.model.specs.Threshold.{threshold}
+use Rattle.model.specs.Threshold.{inForce, badThreshold}
 use Rattle.model.specs.Reading.{limitsOf, countsOf, onLinks, linkOf, readOn, readLinks}
 use Rattle.model.specs.Reading.{Parsed, parsed, parseLinks, parse, readingOf, reading}
 use Rattle.model.specs.Writing.{textOf, AfterWriting, writing}
@@ -32,7 +32,7 @@ use Rattle.model.specs.Walking.{AfterWalking, refuseWalk, fit, walkOf, w
 use Rattle.model.specs.Demand.{AllowedAnswer}
 use Rattle.model.specs.Dimacs.{uncommented, headWord, headLine, edgeLine, edgeLines, fileText}
 use Rattle.model.specs.Dimacs.{headOf, edgeOf, readEdges, fileOf, importing, exportOf, exporting}
-use Rattle.model.proofs.Tests.{picked, true-T, false-no, or-false, of-or-false, not-not, eq-T, eq-or, lt-or}
+use Rattle.model.proofs.Tests.{picked, true-T, false-no, or-l, or-r, or-false, of-or-false, not-not, eq-T, eq-or, lt-or}
 use Rattle.model.proofs.Outcomes.{never, no-value, numberIn}
 use Rattle.model.proofs.Acceptance.{of-in-range, survey-facts}
 use Rattle.model.proofs.Numbers.{length-le}
@@ -231,18 +231,20 @@ module _ (n s : ℕ) (G : Graph) (g : IsGraph n G) where
       (λ _ q. let k : a ∷ b ∷ [] ≡ l = cc in omega (arith, ap length k)) (λ _ q. no-value q) e
 
 -- with a walk list of 2 n entries or more, a walk is refused 8 only for `starts` or a table
-pub walking-enough : (n : ℕ) (starts neighbours full low report : List ℕ) (a b w : ℕ) → 2 * n ≤ w
-    → walking n starts neighbours full low report a b w .answer ≡ refused 8
-    → T (ltb (length starts) (n + 1) || shortTables n (length full) (length low) (length report))
+pub walking-enough : (n t : ℕ) (starts neighbours full low report : List ℕ) (a b w : ℕ) → 2 * n ≤ w
+    → walking n t starts neighbours full low report a b w .answer ≡ refused 8
+    → T (shortStarts n (length starts) || shortTables n (length full) (length low) (length report))
 unfolding walking refuseWalk pair pairBy walkOf fit
-walking-enough n starts neighbours full low report a b w h =
+walking-enough n t starts neighbours full low report a b w h =
     picked P (badSize n) _ _ (λ _ e. absurd (omega (arith, same-number 2 8 e))) (λ _.
-    picked P short _ _ (λ t e. true-T _ t) (λ _.
+    picked P (badThreshold t) _ _ (λ _ e. absurd (omega (arith, same-number 14 8 e))) (λ _.
+    picked P starts-short _ _ (λ s e. or-l starts-short tables-short (true-T _ s)) (λ _.
+    picked P tables-short _ _ (λ s e. or-r starts-short tables-short (true-T _ s)) (λ _.
     picked P (not (isSurvey n starts neighbours)) _ _ (λ _ e. absurd (omega (arith, same-number 9 8 e))) (λ lists.
-    picked P (leb n a || leb n b) _ _ (λ _ e. absurd (omega (arith, same-number 10 8 e))) (λ below.
+    picked P (badPair n a b) _ _ (λ _ e. absurd (omega (arith, same-number 10 8 e))) (λ below.
     let i = of-or-false _ _ below in
     let g = survey-facts _ _ _ (not-not (isSurvey n starts neighbours) lists) .graph in
-    answers g (leb-false _ _ (i .0)) (leb-false _ _ (i .1)) (chosen a b r _ _)))))
+    answers g (leb-false _ _ (i .0)) (leb-false _ _ (i .1)) (chosen a b r _ _)))))))
   where
     G : Graph
     G = neighboursOf starts neighbours
@@ -250,22 +252,25 @@ walking-enough n starts neighbours full low report a b w h =
     r : ℕ
     r = entryAt n report a b
 
-    short : Bool
-    short = ltb (length starts) (n + 1) || shortTables n (length full) (length low) (length report)
+    starts-short : Bool
+    starts-short = shortStarts n (length starts)
+
+    tables-short : Bool
+    tables-short = shortTables n (length full) (length low) (length report)
 
     P : AfterWalking → Type 0
-    P x = x .answer ≡ refused 8 → T short
+    P x = x .answer ≡ refused 8 → T (starts-short || tables-short)
 
     fitted : (x : Answer) (o : Option (List ℕ)) → ((l : List ℕ) → o ≡ some l → length l ≤ 2 * n) → P (fit w x o)
     fitted x missing f e = absurd (omega (arith, same-number 11 8 e))
     fitted x (some l) f e = never (sym e ∙ ap (λ (y : AfterWalking). y .answer) (fit-long _ _ l (omega (arith, f l refl))))
 
-    walk : IsGraph n G → a < n → b < n → (x : Answer) → P (fit w x (walkNodes n (threshold n) G full low a b (x .route)))
+    walk : IsGraph n G → a < n → b < n → (x : Answer) → P (fit w x (walkNodes n (inForce n t) G full low a b (x .route)))
     walk g ha hb x =
-        fitted x (walkNodes n (threshold n) G full low a b (x .route)) (nodes-few n _ G g full low a b ha hb (x .route))
+        fitted x (walkNodes n (inForce n t) G full low a b (x .route)) (nodes-few n _ G g full low a b ha hb (x .route))
 
     answers : IsGraph n G → a < n → b < n → {l k : ℕ} {q : Outcome Answer} → Chosen a b r l k q
-        → P (walkOf w n (threshold n) G full low a b q)
+        → P (walkOf w n (inForce n t) G full low a b q)
     answers g ha hb (to-itself e z) = walk g ha hb _
     answers g ha hb (to-none x e) = walk g ha hb _
     answers g ha hb (to-link x e) = walk g ha hb _
@@ -274,12 +279,12 @@ walking-enough n starts neighbours full low report a b w h =
     answers g ha hb (bad-itself e f) = λ q. absurd (omega (arith, same-number 11 8 q))
     answers g ha hb (bad-hub x f o y z) = λ q. absurd (omega (arith, same-number 11 8 q))
 
--- with tables built from an accepted survey, 2 n entries are always enough
-pub built-enough : (n : ℕ) (starts neighbours : List ℕ) → Accepted n starts neighbours → (full low report : List ℕ)
-    → AreBuilt n (threshold n) (neighboursOf starts neighbours) full low report → (a b : ℕ) → a < n → b < n
-    → (w : ℕ) → 2 * n ≤ w → walking n starts neighbours full low report a b w .answer ≡ asking n full low report a b
+-- with tables built from an accepted survey, and the walk given their threshold, 2 n entries are always enough
+pub built-enough : (n t : ℕ) (starts neighbours : List ℕ) → Accepted n starts neighbours → t ≤ 1024 → (full low report : List ℕ)
+    → AreBuilt n (inForce n t) (neighboursOf starts neighbours) full low report → (a b : ℕ) → a < n → b < n
+    → (w : ℕ) → 2 * n ≤ w → walking n t starts neighbours full low report a b w .answer ≡ asking n full low report a b
 unfolding walkOf fit refuseWalk
-built-enough n starts neighbours acc full low report own a b ha hb w h =
+built-enough n t starts neighbours acc small full low report own a b ha hb w h =
     ⊎-elim
     (λ z. answers w (inl z) ∙ sym (asked .given))
     (λ m. ⊎-elim (λ l. answers w (inr l) ∙ sym (asked .given)) (λ l. absurd (found m l (walkNodes n s G full low a b (x .route)) refl))
@@ -287,22 +292,22 @@ built-enough n starts neighbours acc full low report own a b ha hb w h =
     (eq-or (x .report) none)
   where
     s : ℕ
-    s = threshold n
+    s = inForce n t
 
     G : Graph
     G = neighboursOf starts neighbours
 
     asked : AllowedAnswer (linked n G) a b (asking n full low report a b)
-    asked = walking-right n starts neighbours full low report a b w acc own ha hb .0
+    asked = walking-right n t starts neighbours full low report a b w acc small own ha hb .0
 
     x : Answer
     x = asked .value
 
-    answers : (v : ℕ) → (x .report ≡ none) ⊎ (x .report < v) → walking n starts neighbours full low report a b v .answer ≡ answered x
-    answers v room = walking-right n starts neighbours full low report a b v acc own ha hb .1 x (asked .given) room
+    answers : (v : ℕ) → (x .report ≡ none) ⊎ (x .report < v) → walking n t starts neighbours full low report a b v .answer ≡ answered x
+    answers v room = walking-right n t starts neighbours full low report a b v acc small own ha hb .1 x (asked .given) room
 
-    short : (ltb (length starts) (n + 1) || shortTables n (length full) (length low) (length report)) ≡ false
-    short = or-false (ltb (length starts) (n + 1)) _
+    short : (shortStarts n (length starts) || shortTables n (length full) (length low) (length report)) ≡ false
+    short = or-false (shortStarts n (length starts)) _
         (le-ltb (length starts) _ (acc .room)) (long-tables _ (length full) _ _ (full-room own) (low-room own) (report-room own))
 
     -- a report of w or more would have a walk of more than 2 n nodes
@@ -312,10 +317,10 @@ built-enough n starts neighbours acc full low report own a b ha hb w h =
         let given = sym (asks acc full low report (full-room own) (low-room own) (report-room own) ha hb) ∙ asked .given in
         never (
         sym (ap (λ (y : AfterWalking). y .answer) (
-        walks acc full low report (full-room own) (low-room own) (report-room own) ha hb v ∙ ap (walkOf v n s G full low a b) given ∙ ap (fit v x) f
+        walks acc full low report (full-room own) (low-room own) (report-room own) ha hb small v ∙ ap (walkOf v n s G full low a b) given ∙ ap (fit v x) f
         ))
         ∙ answers v (inr (omega arith))
         )
     found m l (some p) f =
-        false-no _ short (walking-enough _ starts _ full low report _ _ _ h
-        (walking-short acc full low report a b (asked .given) f w .1 (m, omega arith)))
+        false-no _ short (walking-enough _ t starts _ full low report _ _ _ h
+        (walking-short acc small full low report a b (asked .given) f w .1 (m, omega arith)))

@@ -8,7 +8,7 @@ use Prim.Native.Nat.{ℕ, _*_}
 use Prim.Native.String.{String}
 use lib.ListN.{replicate}
 use Rattle.model.specs.declared.Size.{Size}
-use Rattle.model.specs.declared.Route.the-variants.{Itself, Through, Link}
+use Rattle.model.specs.declared.Route.the-variants.{Itself, Low, Through, Link}
 use Rattle.model.specs.declared.Answer.{Answer}
 use Rattle.model.specs.declared.TestResult.{TestResult}
 use Rattle.model.specs.declared.Verdict.the-variants.{Long, Short}
@@ -19,7 +19,7 @@ use Rattle.model.specs.Lines.{onFirst, split, onFront, cut, behind, afte
 use Rattle.model.specs.Lines.{numbersIn, numberLine, twoLine}
 use Rattle.model.specs.SurveyText.{line, lineOf, ordered}
 use Rattle.model.specs.Survey.{Graph, neighboursOf, ascending, badSize, isSurvey, accepting}
-use Rattle.model.specs.Threshold.{bitLength, threshold}
+use Rattle.model.specs.Threshold.{bitLength, threshold, inForce, badThreshold}
 use Rattle.model.specs.Hubs.{isHigh, isLow, closed, gain, best, greedy, hubs}
 use Rattle.model.specs.Graph.{reach, fewest, linked}
 use Rattle.model.specs.Tables.{rowsOf, table, entryAt, fullTable, lowLinks, lowTable, sum, via, reportTable, hubList}
@@ -52,7 +52,7 @@ chain = "S,5,4\nL,0,1\nL,1,2\nL,2,3\nL,3,4\n"
 triangle : String
 triangle = "S,5,5\nL,0,1\nL,0,2\nL,1,2\nL,1,3\nL,2,4\n"
 
--- what reading a text leaves, in lists of 8 and 16 entries, and what building from it leaves, in lists of none
+-- what reading a text leaves, in lists of 8 and 16 entries, and what building from it with the threshold t leaves, in lists of none
 lists : String → AfterReading
 lists text = reading (bytes text) 8 16
 
@@ -66,22 +66,23 @@ size text = nodesIn (lists text .answer)
 graph : String → Graph
 graph text = neighboursOf (lists text .starts) (lists text .neighbours)
 
-tables : String → AfterBuilding
-tables text =
+tables : String → (t : ℕ) → AfterBuilding
+tables text t =
     let n = size text in
     let blank = replicate (n * n) none in
-    building n (lists text .starts) (lists text .neighbours) blank blank blank (replicate n none)
+    building n t (lists text .starts) (lists text .neighbours) blank blank blank (replicate n none)
 
--- what is asked: the threshold of n nodes; a survey's high nodes, and its hub list; a pair's answer; its walk in a list of w entries; the
--- sum of its entries of Full through h; the fewest links between two nodes; the test; the listing
+-- what is asked: the threshold of n nodes; and where the caller gives the threshold t: a survey's high nodes, and its hub list; a pair's
+-- answer; its walk in a list of w entries; the sum of its entries of Full through h; the test. Further, the fewest links between two
+-- nodes, and the listing
 pub data Question : Type 0 where
   threshold-of : (n : ℕ) → Question
-  high-nodes hub-list : String → Question
-  ask : String → (a b : ℕ) → Question
-  walk : String → (a b w : ℕ) → Question
-  hub-sum : String → (a b h : ℕ) → Question
+  high-nodes hub-list : String → (t : ℕ) → Question
+  ask : String → (t a b : ℕ) → Question
+  walk : String → (t a b w : ℕ) → Question
+  hub-sum : String → (t a b h : ℕ) → Question
+  test : String → (t : ℕ) → Question
   apart : String → (a b : ℕ) → Question
-  test : String → Question
   listing-of : String → Question
 
 pub data Reply : Type 0 where
@@ -93,15 +94,15 @@ pub data Reply : Type 0 where
 
 pub reply : Question → Reply
 reply (threshold-of n) = number (threshold n)
-reply (high-nodes text) = list (keep (isHigh (threshold (size text)) (graph text)) (upTo (size text)))
-reply (hub-list text) = list (tables text .hubs)
-reply (ask text a b) = let t = tables text in report (asking (size text) (t .full) (t .low) (t .report) a b)
-reply (walk text a b w) =
-    let t = tables text in
-    walked (walking (size text) (lists text .starts) (lists text .neighbours) (t .full) (t .low) (t .report) a b w)
-reply (hub-sum text a b h) = number (via (size text) (tables text .full) a b h)
+reply (high-nodes text t) = list (keep (isHigh (inForce (size text) t) (graph text)) (upTo (size text)))
+reply (hub-list text t) = list (tables text t .hubs)
+reply (ask text t a b) = let made = tables text t in report (asking (size text) (made .full) (made .low) (made .report) a b)
+reply (walk text t a b w) =
+    let made = tables text t in
+    walked (walking (size text) t (lists text .starts) (lists text .neighbours) (made .full) (made .low) (made .report) a b w)
+reply (hub-sum text t a b h) = number (via (size text) (tables text t .full) a b h)
+reply (test text t) = verdict (testing (size text) t (lists text .starts) (lists text .neighbours))
 reply (apart text a b) = number (fewest (linked (size text) (graph text)) (size text) a b)
-reply (test text) = verdict (testing (size text) (lists text .starts) (lists text .neighbours))
 reply (listing-of text) = list (listing (bytes text))
 
 -- the cases in the rules' order. A walk's reply is its answer and the whole list at return
@@ -112,22 +113,32 @@ starred =
     ∷ (threshold-of 100, number 27)
     ∷ (threshold-of 1023, number 102)
     ∷ (threshold-of 1024, number 107)
-    ∷ (high-nodes course, list (5 ∷ []))
-    ∷ (hub-list course, list (0 ∷ none ∷ none ∷ none ∷ none ∷ none ∷ []))
-    ∷ (ask course 1 3, report (answered (withRoute 4 (Through 0))))
-    ∷ (walk course 1 3 5, walked (record { answer = answered (withRoute 4 (Through 0)); walk = 1 ∷ 5 ∷ 0 ∷ 5 ∷ 3 ∷ [] }))
+    ∷ (high-nodes course 0, list (5 ∷ []))
+    ∷ (hub-list course 0, list (0 ∷ none ∷ none ∷ none ∷ none ∷ none ∷ []))
+    ∷ (ask course 0 1 3, report (answered (withRoute 4 (Through 0))))
+    ∷ (walk course 0 1 3 5, walked (record { answer = answered (withRoute 4 (Through 0)); walk = 1 ∷ 5 ∷ 0 ∷ 5 ∷ 3 ∷ [] }))
     ∷ (
-      walk course 1 3 8,
+      walk course 0 1 3 8,
       walked (record { answer = answered (withRoute 4 (Through 0)); walk = 1 ∷ 5 ∷ 0 ∷ 5 ∷ 3 ∷ none ∷ none ∷ none ∷ [] }),
     )
-    ∷ (ask course 5 5, report (answered (withRoute 0 Itself)))
-    ∷ (hub-sum course 5 5 0, number 2)
-    ∷ (test single, verdict (answered (record { verdict = Short; searches = 1 })))
-    ∷ (test chain, verdict (answered (record { verdict = Long; searches = 2 })))
-    ∷ (test triangle, verdict (answered (record { verdict = Short; searches = 3 })))
+    ∷ (ask course 0 5 5, report (answered (withRoute 0 Itself)))
+    ∷ (hub-sum course 0 5 5 0, number 2)
+    ∷ (test single 0, verdict (answered (record { verdict = Short; searches = 1 })))
+    ∷ (test chain 0, verdict (answered (record { verdict = Long; searches = 2 })))
+    ∷ (test triangle 0, verdict (answered (record { verdict = Short; searches = 3 })))
     ∷ (apart triangle 3 4, number 3)
-    ∷ (walk course 5 3 3, walked (record { answer = answered (withRoute 1 Link); walk = 5 ∷ 3 ∷ none ∷ [] }))
+    ∷ (walk course 0 5 3 3, walked (record { answer = answered (withRoute 1 Link); walk = 5 ∷ 3 ∷ none ∷ [] }))
     ∷ (listing-of course, list courseListing)
+    ∷ (hub-list course 1, list (5 ∷ none ∷ none ∷ none ∷ none ∷ none ∷ []))
+    ∷ (hub-list course 2, list (1 ∷ none ∷ none ∷ none ∷ none ∷ none ∷ []))
+    ∷ (hub-list course 3, list (0 ∷ none ∷ none ∷ none ∷ none ∷ none ∷ []))
+    ∷ (hub-list course 5, list (0 ∷ none ∷ none ∷ none ∷ none ∷ none ∷ []))
+    ∷ (hub-list course 6, list (none ∷ none ∷ none ∷ none ∷ none ∷ none ∷ []))
+    ∷ (ask course 6 1 3, report (answered (withRoute 2 Low)))
+    ∷ (walk course 1024 1 3 4, walked (record { answer = answered (withRoute 2 Low); walk = 1 ∷ 5 ∷ 3 ∷ none ∷ [] }))
+    ∷ (walk course 1025 1 3 4, walked (record { answer = refused 14; walk = none ∷ none ∷ none ∷ none ∷ [] }))
+    ∷ (test course 1, verdict (answered (record { verdict = Short; searches = 1 })))
+    ∷ (test course 1025, verdict (refused 14))
     ∷ []
 
 pub starred-cases : map (λ c. reply (c .0)) starred ≡ map (λ c. c .1) starred
@@ -135,7 +146,7 @@ unfolding starred reply tables graph size nodesIn lists bytes triangle chain sin
     from upTo has any all keep firstOf gather same over isDigit isNumber valueFrom valueOf
     onFirst split onFront cut bind behind afterEmpty fieldsBehind fieldLine numbersIn numberLine twoLine line
     neighboursOf linked ascending badSize isSurvey accepting
-    bitLength threshold isHigh isLow closed gain best greedy hubs hubList reach fewest rowsOf table entryAt fullTable
+    bitLength threshold inForce badThreshold isHigh isLow closed gain best greedy hubs hubList reach fewest rowsOf table entryAt fullTable
     lowLinks lowTable sum via reportTable
     taken attaining choose pairBy pair before next steps byLow toHub join byLink walkNodes sources verdictOf testResult
     named onLinks linkOf readOn readLinks parsed limitsOf countsOf parseLinks parse graphOf startsOf neighboursFrom readingOf reading

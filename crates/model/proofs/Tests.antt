@@ -53,6 +53,10 @@ pub not-not : (b : Bool) → not b ≡ false → T b
 not-not true e = tt
 not-not false e = subst T e tt
 
+pub passed : (b : Bool) → T b → not b ≡ false
+passed true t = refl
+passed false t = absurd t
+
 pub no-false : (b : Bool) → (T b → ⊥) → b ≡ false
 no-false true f = absurd (f tt)
 no-false false f = refl

@@ -2,10 +2,11 @@
 -- A list that is lent to it is a slice argument.
 -- Assumes nothing.
 use mathlib.Core.Bool.{Bool, true, false}
+use mathlib.Core.List.{List, [], _∷_}
 use Prim.Native.Nat.{ℕ}
 use Rattle.model.specs.declared.Refusal.{Refusal}
 use Rattle.model.specs.declared.Refusal.the-variants.{Form, NodeCount, LinkCount, LineNode, EqualEnds, RepeatedLink, LineCount}
-use Rattle.model.specs.declared.Refusal.the-variants.{ShortList, NotSurvey, NoNode, NotAttained, ShortBuffer, FileForm}
+use Rattle.model.specs.declared.Refusal.the-variants.{ShortList, NotSurvey, NoNode, NotAttained, ShortBuffer, FileForm, BadThreshold}
 use Rattle.model.specs.declared.Size.{Size}
 use Rattle.model.specs.declared.Answer.{Answer}
 use Rattle.model.specs.declared.TestResult.{TestResult}
@@ -19,6 +20,7 @@ use Rattle.model.specs.declared.Asking.{Asking}
 use Rattle.model.specs.declared.Asking.the-variants as asking
 use Rattle.model.specs.declared.Testing.{Testing}
 use Rattle.model.specs.declared.Testing.the-variants as testing
+use Rattle.model.specs.Basics.{if_then_else_}
 
 -- a refusal with its number, or the answer's value (rule 10.1)
 pub data Outcome (A : Type 0) : Type 0 where
@@ -55,6 +57,21 @@ number NoNode = 10
 number NotAttained = 11
 number ShortBuffer = 12
 number FileForm = 13
+number BadThreshold = 14
+
+infix 10 _when_
+-- a refusal by its number, given when the test passes (rule 10.1)
+abbrev pub _when_ : ℕ → Bool → ℕ × Bool
+k when t = (k, t)
+
+-- a call's refusals, in their order (rule 10.1)
+abbrev pub Refusals : Type 0
+Refusals = List (ℕ × Bool)
+
+-- rule 10.1: the call refuses, as `refuse` says, with the number of the first of them whose test passes; where none does, it is `done`
+abbrev pub judged : {A : Type 0} → (refuse : ℕ → A) → Refusals → (done : A) → A
+judged refuse [] done = done
+judged refuse (c ∷ cs) done = if c .1 then refuse (c .0) else judged refuse cs done
 
 -- what the cases of a call's answer stand for: of acceptance, rule 10.6
 abbrev pub acceptAnswer : Accepting → Outcome (Unit {0})

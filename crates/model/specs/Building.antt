@@ -1,15 +1,15 @@
 -- Building: the answer, and what the three tables and the hub list hold at return.
 -- Assumes nothing.
-use mathlib.Core.Bool.{Bool, not, _||_}
-use mathlib.Core.List.{List}
-use Prim.Native.Nat.{ℕ, _+_}
+use mathlib.Core.Bool.{not}
+use mathlib.Core.List.{List, [], _∷_}
+use Prim.Native.Nat.{ℕ}
 use lib.Dec.{ltb}
 use lib.ListN.{length}
 use Rattle.model.specs.declared.Counting.{Counting}
-use Rattle.model.specs.Answers.{Outcome, refused, answered, countAnswer}
-use Rattle.model.specs.Basics.{if_then_else_, over}
-use Rattle.model.specs.Survey.{Graph, neighboursOf, badSize, isSurvey}
-use Rattle.model.specs.Threshold.{threshold}
+use Rattle.model.specs.Answers.{Outcome, refused, answered, Refusals, _when_, judged, countAnswer}
+use Rattle.model.specs.Basics.{over}
+use Rattle.model.specs.Survey.{Graph, neighboursOf, badSize, shortStarts, isSurvey}
+use Rattle.model.specs.Threshold.{inForce, badThreshold}
 use Rattle.model.specs.Hubs.{hubs}
 use Rattle.model.specs.Tables.{shortTables, fullTable, lowTable, reportTable, hubList}
 
@@ -36,15 +36,23 @@ built n s G full low report list = record {
   hubs = over (hubList n s G) list;
 }
 
--- rule 10.7: a list is too short (refusal 8); given are the lengths
-abbrev pub shortLists : (n starts full low report list : ℕ) → Bool
-shortLists n starts full low report list = ltb starts (n + 1) || shortTables n full low report || ltb list n
+-- rule 10.7: the refusals in their order
+abbrev pub buildRefusals : (n t : ℕ) (starts neighbours full low report list : List ℕ) → Refusals
+buildRefusals n t starts neighbours full low report list =
+    (2 when badSize n)
+    ∷ (14 when badThreshold t)
+    ∷ (8 when shortStarts n (length starts))
+    ∷ (8 when shortTables n (length full) (length low) (length report))
+    ∷ (8 when ltb (length list) n)
+    ∷ (9 when not (isSurvey n starts neighbours))
+    ∷ []
 
--- rule 10.7: refused 2, 8 or 9 with nothing altered; else built with the threshold of rule 4.2
-unfoldable pub building : (n : ℕ) (starts neighbours full low report list : List ℕ) → AfterBuilding
-building n starts neighbours full low report list =
-    let refuse : ℕ → AfterBuilding = λ r. record { answer = refused r; full = full; low = low; report = report; hubs = list } in
-    if badSize n then refuse 2
-    else if shortLists n (length starts) (length full) (length low) (length report) (length list) then refuse 8
-    else if not (isSurvey n starts neighbours) then refuse 9
-    else built n (threshold n) (neighboursOf starts neighbours) full low report list
+-- rule 10.7: building is refused with number k, and nothing is altered
+abbrev pub refuseBuild : (full low report list : List ℕ) → ℕ → AfterBuilding
+refuseBuild full low report list k = record { answer = refused k; full = full; low = low; report = report; hubs = list }
+
+-- rule 10.7: refused, or built with the threshold in force where the caller gives t
+unfoldable pub building : (n t : ℕ) (starts neighbours full low report list : List ℕ) → AfterBuilding
+building n t starts neighbours full low report list =
+    judged (refuseBuild full low report list) (buildRefusals n t starts neighbours full low report list)
+    (built n (inForce n t) (neighboursOf starts neighbours) full low report list)

@@ -17,6 +17,7 @@ use Rattle.model.specs.Graph.{Edges, linked, Chain, Unjoined, Fewest, Wi
 use Rattle.model.specs.declared.Size.{Size}
 use Rattle.model.specs.SurveyText.{surveyText}
 use Rattle.model.specs.Survey.{neighboursOf, Accepted}
+use Rattle.model.specs.Threshold.{inForce}
 use Rattle.model.specs.Hubs.{hubs}
 use Rattle.model.specs.Tables.{AreBuilt, AreBuiltWith}
 use Rattle.model.specs.Pair.{withRoute}
@@ -52,16 +53,17 @@ WriteRight n starts neighbours r =
     (k : ℕ) → r .answer ≡ answered k → (p q : ℕ) → n + 1 ≤ p → getD starts n 0 ≤ q
     → reading (take k (r .buffer)) p q ≡ asRead n starts neighbours p q
 
--- rule 5.6, of building that is not refused: the survey is accepted, the tables and the hub list are built from it, and there are k hubs
+-- rule 5.6, of building that is not refused: the survey is accepted, the tables and the hub list are built from it with the threshold s, and
+-- there are k hubs
 pub record IsBuilt (n s : ℕ) (starts neighbours full low report list : List ℕ) (k : ℕ) : Type 0 where
   pub survey : Accepted n starts neighbours
   pub tables : AreBuiltWith n s (neighboursOf starts neighbours) full low report list
   pub count : k ≡ length (hubs n s (neighboursOf starts neighbours))
 
--- the same of what building answers and leaves (rule 5.6)
-abbrev pub BuildRight : (n s : ℕ) (starts neighbours : List ℕ) → AfterBuilding → Type 0
-BuildRight n s starts neighbours r =
-    (k : ℕ) → r .answer ≡ answered k → IsBuilt n s starts neighbours (r .full) (r .low) (r .report) (r .hubs) k
+-- the same of what building answers and leaves, where the caller gives the threshold t (rule 5.6)
+abbrev pub BuildRight : (n t : ℕ) (starts neighbours : List ℕ) → AfterBuilding → Type 0
+BuildRight n t starts neighbours r =
+    (k : ℕ) → r .answer ≡ answered k → IsBuilt n (inForce n t) starts neighbours (r .full) (r .low) (r .report) (r .hubs) k
 
 -- rule 9.4: a report is none exactly where no chain joins the pair; else at least the fewest links, and at most two more
 pub record Allowed (E : Edges) (a b r : ℕ) : Type 0 where
@@ -95,11 +97,11 @@ pub record IsWalk (E : Edges) (a b r : ℕ) (list : List ℕ) : Type 0 where
 abbrev pub WalkSound : Edges → (a b : ℕ) → AfterWalking → Type 0
 WalkSound E a b r = (x : Answer) → r .answer ≡ answered x → (x .report ≡ none → ⊥) → IsWalk E a b (x .report) (r .walk)
 
--- rules 9.4 and 9.5, for an accepted survey, tables built from it with the threshold s, and two nodes below n. r is what writing the walk
--- into a list of w entries answers and leaves
-abbrev pub WalkRight : (n s : ℕ) (starts neighbours full low report : List ℕ) (a b w : ℕ) → AfterWalking → Type 0
-WalkRight n s starts neighbours full low report a b w r =
-    Accepted n starts neighbours → AreBuilt n s (neighboursOf starts neighbours) full low report → a < n → b < n
+-- rules 9.4 and 9.5, for an accepted survey, every threshold t that is not refused, tables built with it, and two nodes below n. r is what
+-- writing the walk into a list of w entries answers and leaves
+abbrev pub WalkRight : (n t : ℕ) (starts neighbours full low report : List ℕ) (a b w : ℕ) → AfterWalking → Type 0
+WalkRight n t starts neighbours full low report a b w r =
+    Accepted n starts neighbours → t ≤ 1024 → AreBuilt n (inForce n t) (neighboursOf starts neighbours) full low report → a < n → b < n
     → AllowedAnswer (linked n (neighboursOf starts neighbours)) a b (asking n full low report a b)
     × WalkAnswers w (asking n full low report a b) r
 
@@ -116,27 +118,29 @@ pub record RightVerdict (n : ℕ) (E : Edges) (o : Outcome TestResult) : Type 0 
   pub given : o ≡ answered value
   pub right : VerdictRight n E (value .verdict)
 
--- rule 9.6, for every accepted survey
-abbrev pub TestRight : (n : ℕ) (starts neighbours : List ℕ) → Outcome TestResult → Type 0
-TestRight n starts neighbours o = Accepted n starts neighbours → RightVerdict n (linked n (neighboursOf starts neighbours)) o
+-- rule 9.6, for every accepted survey and every threshold t that is not refused
+abbrev pub TestRight : (n t : ℕ) (starts neighbours : List ℕ) → Outcome TestResult → Type 0
+TestRight n t starts neighbours o = Accepted n starts neighbours → t ≤ 1024 → RightVerdict n (linked n (neighboursOf starts neighbours)) o
 
--- ---- the whole way: a text is read into two lists, tables are built from these, two nodes are asked, and their walk is written
+-- ---- the whole way: a text is read into two lists, tables are built from these with a threshold, two nodes are asked, and their walk is
+-- written with the same threshold
 
--- rules 9.3 to 9.5 at once. x, starts and neighbours are what reading answers and leaves, t is what building leaves
-pub record WholeWay (text : List ℕ) (x : Size) (starts neighbours : List ℕ) (t : AfterBuilding) (a b : ℕ) : Type 0 where
+-- rules 9.3 to 9.5 at once. x, starts and neighbours are what reading answers and leaves, t is the threshold that building and walking are
+-- given, and made is what building leaves
+pub record WholeWay (text : List ℕ) (x : Size) (starts neighbours : List ℕ) (t : ℕ) (made : AfterBuilding) (a b : ℕ) : Type 0 where
   -- the links that the text's lines name
   pub links : List (ℕ × ℕ)
   pub as-many : length links ≡ x .links
   pub lines : text ≡ surveyText (x .nodes) (x .links) links
   -- building and asking are not refused, and the report is allowed over those links, and 1 by link exactly where one of them joins the two
   pub count : ℕ
-  pub builds : t .answer ≡ answered count
+  pub builds : made .answer ≡ answered count
   pub value : Answer
-  pub asked : asking (x .nodes) (t .full) (t .low) (t .report) a b ≡ answered value
+  pub asked : asking (x .nodes) (made .full) (made .low) (made .report) a b ≡ answered value
   pub allowed : Allowed (named links) a b (value .report)
   pub by-link : (value ≡ withRoute 1 Link) ↔ T (named links a b)
   -- in every list that is long enough the walk is answered the same, and is a walk along those links
   pub walked : (w : ℕ) → (value .report ≡ none) ⊎ (value .report < w)
-      → (walking (x .nodes) starts neighbours (t .full) (t .low) (t .report) a b w .answer ≡ answered value)
+      → (walking (x .nodes) t starts neighbours (made .full) (made .low) (made .report) a b w .answer ≡ answered value)
       × ((value .report ≡ none → ⊥)
-      → IsWalk (named links) a b (value .report) (walking (x .nodes) starts neighbours (t .full) (t .low) (t .report) a b w .walk))
+      → IsWalk (named links) a b (value .report) (walking (x .nodes) t starts neighbours (made .full) (made .low) (made .report) a b w .walk))

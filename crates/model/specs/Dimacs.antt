@@ -9,7 +9,7 @@ use Prim.Native.Nat.{ℕ, zero, suc, _+_, _-_, _/_, _≤_}
 use lib.Dec.{T, eqb}
 use lib.ListN.{length, getD, take}
 use Rattle.model.specs.declared.Size.{Size}
-use Rattle.model.specs.Answers.{Outcome, refused, answered, mapAnswer, andThen}
+use Rattle.model.specs.Answers.{Outcome, refused, answered, mapAnswer, andThen, Refusals, _when_, judged}
 use Rattle.model.specs.Basics.{if_then_else_, has, gather}
 use Rattle.model.specs.Lines.{split, joined, AllFree, twoLine, numberLineOf}
 use Rattle.model.specs.SurveyText.{ordered}
@@ -68,13 +68,17 @@ unfoldable pub headOf : (p q : ℕ) → Option (ℕ × ℕ × List ℕ) → Outc
 headOf p q missing = refused 13
 headOf p q (some f) = limitsOf 1024 16384 p q f
 
+-- rule 13.5, behind the line's form: the refusals in their order
+abbrev pub edgeRefusals : (n a b : ℕ) → Refusals
+edgeRefusals n a b =
+    (4 when outside n a || outside n b)
+    ∷ (5 when eqb a b)
+    ∷ []
+
 -- rule 13.5: the survey's link that a line names, and the text after the line
 unfoldable pub edgeOf : ℕ → Option (ℕ × ℕ × List ℕ) → Outcome (ℕ × ℕ × List ℕ)
 edgeOf n missing = refused 13
-edgeOf n (some l) =
-    if outside n (l .0) || outside n (l .1) then refused 4
-    else if eqb (l .0) (l .1) then refused 5
-    else answered (l .0 - 1, l .1 - 1, l .2)
+edgeOf n (some l) = judged refused (edgeRefusals n (l .0) (l .1)) (answered (l .0 - 1, l .1 - 1, l .2))
 
 -- rule 13.6: the links that m lines name, up to the text's end
 unfoldable pub readEdges : ℕ → ℕ → List ℕ → Outcome (List (ℕ × ℕ))

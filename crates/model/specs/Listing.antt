@@ -12,7 +12,7 @@ use Rattle.model.specs.Basics.{none, if_then_else_, upTo, gather}
 use Rattle.model.specs.Numbers.{digits}
 use Rattle.model.specs.SurveyText.{lineOf, ordered}
 use Rattle.model.specs.Survey.{Graph}
-use Rattle.model.specs.Threshold.{threshold}
+use Rattle.model.specs.Threshold.{inForce}
 use Rattle.model.specs.Hubs.{hubs}
 use Rattle.model.specs.Tables.{fullTable, lowTable, reportTable}
 use Rattle.model.specs.Pair.{pair}
@@ -50,10 +50,10 @@ unfoldable pub listingOf : ℕ → ℕ → Graph → List ℕ
 listingOf n s G =
     lineOf 82 n (length (hubs n s G)) ++ pairLines n (fullTable n s G) (lowTable n s G) (reportTable n s G)
 
--- rule 11.2: the one line of a text that is refused, or the listing of what it says, with the threshold of rule 4.2
+-- rule 11.2: the one line of a text that is refused, or the listing of what it says, with the stored table's threshold
 unfoldable pub listingText : Outcome Parsed → List ℕ
 listingText (refused k) = 88 ∷ 44 ∷ (digits k ++ 10 ∷ [])
-listingText (answered x) = listingOf (x .nodes) (threshold (x .nodes)) (graphOf (x .nodes) (x .links))
+listingText (answered x) = listingOf (x .nodes) (inForce (x .nodes) 0) (graphOf (x .nodes) (x .links))
 
 -- rule 11.2: a text is read within the listing's own limits, for which its lists are long enough
 unfoldable pub listing : List ℕ → List ℕ

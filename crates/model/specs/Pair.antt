@@ -1,9 +1,9 @@
 -- The answer to a pair: its report with a route.
 -- Assumes nothing.
-use mathlib.Core.Bool.{Bool, not, _&&_}
+use mathlib.Core.Bool.{Bool, not, _&&_, _||_}
 use mathlib.Core.List.{List}
 use Prim.Native.Nat.{ℕ}
-use lib.Dec.{eqb}
+use lib.Dec.{eqb, leb}
 use lib.ListN.{take}
 use Rattle.model.specs.declared.Route.{Route}
 use Rattle.model.specs.declared.Route.the-variants.{Itself, Low, Through, NoRoute, Link}
@@ -11,6 +11,10 @@ use Rattle.model.specs.declared.Answer.{Answer}
 use Rattle.model.specs.Answers.{Outcome, refused, answered}
 use Rattle.model.specs.Basics.{none, if_then_else_, upTo, has, firstOf}
 use Rattle.model.specs.Tables.{entryAt, via}
+
+-- refusal 10: one of two nodes is n or more (rule 10.8)
+abbrev pub badPair : (n a b : ℕ) → Bool
+badPair n a b = leb n a || leb n b
 
 -- rule 6.1: a report with a route
 abbrev pub withRoute : ℕ → Route → Answer

@@ -8,18 +8,22 @@ use lib.Dec.{eqb, ltb, leb}
 use lib.ListN.{length, replicate}
 use Rattle.model.specs.declared.Size.{Size}
 use Rattle.model.specs.declared.Reading as read
-use Rattle.model.specs.Answers.{Outcome, refused, answered, mapAnswer, andThen, readAnswer}
-use Rattle.model.specs.Basics.{if_then_else_, upTo, keep, gather, over}
+use Rattle.model.specs.Answers.{Outcome, refused, answered, mapAnswer, andThen, Refusals, _when_, judged, readAnswer}
+use Rattle.model.specs.Basics.{upTo, keep, gather, over}
 use Rattle.model.specs.SurveyText.{line}
 use Rattle.model.specs.Survey.{Graph, outside}
 
--- rule 10.2, behind the line's form: n, m and the text after the first line, for any limits and for lists of p and q entries
+-- rule 10.2, behind the line's form: the refusals in their order, for any limits and for lists of p and q entries
+abbrev pub limitRefusals : (mostNodes mostLinks p q n m : ℕ) → Refusals
+limitRefusals mostNodes mostLinks p q n m =
+    (2 when outside mostNodes n)
+    ∷ (3 when ltb mostLinks m)
+    ∷ (8 when ltb p (n + 1) || ltb q (2 * m))
+    ∷ []
+
+-- rule 10.2: n, m and the text after the first line
 unfoldable pub limitsOf : (mostNodes mostLinks p q : ℕ) → ℕ × ℕ × List ℕ → Outcome (ℕ × ℕ × List ℕ)
-limitsOf mostNodes mostLinks p q f =
-    if outside mostNodes (f .0) then refused 2
-    else if ltb mostLinks (f .1) then refused 3
-    else if ltb p (f .0 + 1) || ltb q (2 * f .1) then refused 8
-    else answered f
+limitsOf mostNodes mostLinks p q f = judged refused (limitRefusals mostNodes mostLinks p q (f .0) (f .1)) (answered f)
 
 -- rule 10.2: the first line
 unfoldable pub countsOf : (mostNodes mostLinks p q : ℕ) → Option (ℕ × ℕ × List ℕ) → Outcome (ℕ × ℕ × List ℕ)
@@ -35,14 +39,18 @@ named (l ∷ ls) a b = eqb (l .0) a && eqb (l .1) b || eqb (l .0) b && eqb (l .1
 unfoldable pub onLinks : ℕ × ℕ → Outcome (List (ℕ × ℕ)) → Outcome (List (ℕ × ℕ))
 onLinks l o = mapAnswer (λ ls. l ∷ ls) o
 
--- rule 10.3: the link of a line that comes after the links `given`, and the text after the line
+-- rule 10.3, behind the line's form: the refusals in their order, of a line that comes after the links `given`
+abbrev pub linkRefusals : (n : ℕ) (given : ℕ → ℕ → Bool) (a b : ℕ) → Refusals
+linkRefusals n given a b =
+    (4 when leb n a || leb n b)
+    ∷ (5 when eqb a b)
+    ∷ (6 when given a b)
+    ∷ []
+
+-- rule 10.3: the link of a line, and the text after the line
 unfoldable pub linkOf : ℕ → (given : ℕ → ℕ → Bool) → Option (ℕ × ℕ × List ℕ) → Outcome (ℕ × ℕ × List ℕ)
 linkOf n given missing = refused 1
-linkOf n given (some l) =
-    if leb n (l .0) || leb n (l .1) then refused 4
-    else if eqb (l .0) (l .1) then refused 5
-    else if given (l .0) (l .1) then refused 6
-    else answered l
+linkOf n given (some l) = judged refused (linkRefusals n given (l .0) (l .1)) (answered l)
 
 -- the link that a line names, in front of those that `next` reads after it (rule 10.3)
 unfoldable pub readOn : (next : ℕ → ℕ → List ℕ → Outcome (List (ℕ × ℕ))) → Outcome (ℕ × ℕ × List ℕ) → Outcome (List (ℕ × ℕ))

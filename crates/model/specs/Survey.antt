@@ -6,8 +6,8 @@ use mathlib.Core.Path.{_≡_}
 use Prim.Native.Nat.{ℕ, _+_, _-_, _/_, _%_, _≤_, _<_}
 use lib.Dec.{T, eqb, ltb, leb}
 use lib.ListN.{length, getD, take, drop}
-use Rattle.model.specs.Answers.{Outcome, refused, answered, isAnswered}
-use Rattle.model.specs.Basics.{if_then_else_, upTo, has, all}
+use Rattle.model.specs.Answers.{Outcome, refused, answered, isAnswered, Refusals, _when_, judged}
+use Rattle.model.specs.Basics.{upTo, has, all}
 
 -- a graph by each node's own neighbours (rule 3.2)
 abbrev pub Graph : Type 0
@@ -44,13 +44,21 @@ outside most n = ltb n 1 || ltb most n
 unfoldable pub badSize : ℕ → Bool
 badSize n = outside 1024 n
 
+-- refusal 8 for `starts`, of which the length is given (rule 10.6)
+abbrev pub shortStarts : (n starts : ℕ) → Bool
+shortStarts n starts = ltb starts (n + 1)
+
 -- rule 10.6: the refusals in their order
+abbrev pub acceptRefusals : (n : ℕ) (starts neighbours : List ℕ) → Refusals
+acceptRefusals n starts neighbours =
+    (2 when badSize n)
+    ∷ (8 when shortStarts n (length starts))
+    ∷ (9 when not (isSurvey n starts neighbours))
+    ∷ []
+
+-- rule 10.6: acceptance
 unfoldable pub accepting : ℕ → List ℕ → List ℕ → Outcome (Unit {0})
-accepting n starts neighbours =
-    if badSize n then refused 2
-    else if ltb (length starts) (n + 1) then refused 8
-    else if not (isSurvey n starts neighbours) then refused 9
-    else answered tt
+accepting n starts neighbours = judged refused (acceptRefusals n starts neighbours) (answered tt)
 
 -- rule 3.3, as a test
 unfoldable pub accepted : ℕ → List ℕ → List ℕ → Bool

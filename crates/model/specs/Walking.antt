@@ -1,19 +1,19 @@
 -- Writing a walk: the answer, and what the walk list holds at return.
 -- Assumes nothing.
-use mathlib.Core.Bool.{not, _||_}
-use mathlib.Core.List.{List, _++_}
+use mathlib.Core.Bool.{not}
+use mathlib.Core.List.{List, [], _∷_, _++_}
 use mathlib.Core.Option.{Option, none as missing, some}
-use Prim.Native.Nat.{ℕ, _+_, _-_}
-use lib.Dec.{ltb, leb}
+use Prim.Native.Nat.{ℕ, _-_}
+use lib.Dec.{ltb}
 use lib.ListN.{length, replicate}
 use Rattle.model.specs.declared.Answer.{Answer}
 use Rattle.model.specs.declared.Asking.{Asking}
-use Rattle.model.specs.Answers.{Outcome, refused, answered, pairAnswer}
+use Rattle.model.specs.Answers.{Outcome, refused, answered, Refusals, _when_, judged, pairAnswer}
 use Rattle.model.specs.Basics.{none, if_then_else_}
-use Rattle.model.specs.Survey.{Graph, neighboursOf, badSize, isSurvey}
-use Rattle.model.specs.Threshold.{threshold}
+use Rattle.model.specs.Survey.{Graph, neighboursOf, badSize, shortStarts, isSurvey}
+use Rattle.model.specs.Threshold.{inForce, badThreshold}
 use Rattle.model.specs.Tables.{shortTables}
-use Rattle.model.specs.Pair.{pair}
+use Rattle.model.specs.Pair.{badPair, pair}
 use Rattle.model.specs.Walk.{walkNodes}
 
 -- the answer, and what the walk list holds at return (rule 10.9)
@@ -42,11 +42,19 @@ unfoldable pub walkOf : ℕ → (n s : ℕ) → Graph → (full low : List ℕ) 
 walkOf w n s G full low a b (refused k) = refuseWalk w k
 walkOf w n s G full low a b (answered x) = fit w x (walkNodes n s G full low a b (x .route))
 
--- rule 10.9: the refusals in their order; then the walk, with the threshold of rule 4.2
-unfoldable pub walking : (n : ℕ) (starts neighbours full low report : List ℕ) (a b w : ℕ) → AfterWalking
-walking n starts neighbours full low report a b w =
-    if badSize n then refuseWalk w 2
-    else if ltb (length starts) (n + 1) || shortTables n (length full) (length low) (length report) then refuseWalk w 8
-    else if not (isSurvey n starts neighbours) then refuseWalk w 9
-    else if leb n a || leb n b then refuseWalk w 10
-    else walkOf w n (threshold n) (neighboursOf starts neighbours) full low a b (pair n full low report a b)
+-- rule 10.9: the refusals in their order, up to 10
+abbrev pub walkRefusals : (n t : ℕ) (starts neighbours full low report : List ℕ) (a b : ℕ) → Refusals
+walkRefusals n t starts neighbours full low report a b =
+    (2 when badSize n)
+    ∷ (14 when badThreshold t)
+    ∷ (8 when shortStarts n (length starts))
+    ∷ (8 when shortTables n (length full) (length low) (length report))
+    ∷ (9 when not (isSurvey n starts neighbours))
+    ∷ (10 when badPair n a b)
+    ∷ []
+
+-- rule 10.9: refused, or the walk with the threshold in force where the caller gives t, and the rest of the refusals
+unfoldable pub walking : (n t : ℕ) (starts neighbours full low report : List ℕ) (a b w : ℕ) → AfterWalking
+walking n t starts neighbours full low report a b w =
+    judged (refuseWalk w) (walkRefusals n t starts neighbours full low report a b)
+    (walkOf w n (inForce n t) (neighboursOf starts neighbours) full low a b (pair n full low report a b))

@@ -32,6 +32,8 @@ pub enum Refusal {
     ShortBuffer,
     // A file is not in the stated form, or a line of it not in its place.
     FileForm,
+    // The threshold is above its limit.
+    BadThreshold,
 }
 
 // The counts of nodes and links of a survey.

@@ -1,7 +1,7 @@
 -- The values of every answer are within the limits of a survey, so that each fits its field of the code.
 -- Assumes nothing.
 use mathlib.Core.Path.{_≡_, refl, subst}
-use mathlib.Core.List.{List, []}
+use mathlib.Core.List.{List, [], _∷_}
 use Prim.Native.Nat.{ℕ, _*_, _≤_}
 use native.Mathlib.Nat.{le-trans, mul-le-mul}
 use native.Mathlib.Omega.{arith}
@@ -9,23 +9,23 @@ use lib.Dec.{ltb}
 use lib.ListN.{length}
 use Rattle.model.specs.declared.Size.{Size}
 use Rattle.model.specs.declared.TestResult.{TestResult}
-use Rattle.model.specs.Answers.{Outcome, refused, answered, mapAnswer}
+use Rattle.model.specs.Answers.{Outcome, refused, answered, mapAnswer, _when_}
 use Rattle.model.specs.Survey.{Graph, neighboursOf, badSize, accepting, Accepted}
-use Rattle.model.specs.Threshold.{threshold, thresholdAnswer, bitLength}
+use Rattle.model.specs.Threshold.{threshold, inForce, thresholdAnswer, bitLength}
 use Rattle.model.specs.Hubs.{closed}
 use Rattle.model.specs.Reading.{Parsed, parse, readingOf, reading}
 use Rattle.model.specs.TwoOrFour.{sources, testResult}
-use Rattle.model.specs.Testing.{testing}
+use Rattle.model.specs.Testing.{testRefusals, testing}
 use Rattle.model.specs.Demand.{IsBuilt}
 use Rattle.model.specs.Writing.{AfterWriting, textOf, writingOf, writing}
 use Rattle.model.specs.Dimacs.{uncommented, fileOf, keptOnce, importing, exportOf, exporting}
 use Rattle.model.proofs.Tests.{picked}
-use Rattle.model.proofs.Outcomes.{never}
+use Rattle.model.proofs.Outcomes.{never, judged-passed}
 use Rattle.model.proofs.Verdicts.{Sources, round, covers, source-cases}
 use Rattle.model.proofs.Links.{parse-sound}
 use Rattle.model.proofs.Dimacs.{file-exactly, once-few}
 use Rattle.model.proofs.Sizes.{mostText, mostFile, text-few, file-few}
-use Rattle.model.proofs.Acceptance.{size-bounds, accepting-facts, few-neighbours}
+use Rattle.model.proofs.Acceptance.{size-bounds, tests-facts, accepting-facts, few-neighbours}
 use Rattle.model.proofs.Covering.{hubs-length}
 use Rattle.model.proofs.Threshold.{bitLength-is, threshold-is}
 
@@ -74,10 +74,10 @@ few n h = threshold-is n .least 1024 (small n (bitLength n) h (bitLength-is n .l
 
 pub threshold-fits : (n : ℕ) {k : ℕ} → thresholdAnswer n ≡ answered k → k ≤ 1024
 unfolding thresholdAnswer
-threshold-fits n {k} =
-    picked (λ (o : Outcome ℕ). o ≡ answered k → k ≤ 1024) (badSize n) _ _ (λ h e. never e) (λ g e.
-    let j : threshold n ≡ k = cc in
-    omega (arith, few n (size-bounds n g .1)))
+threshold-fits n {k} e =
+    let p = judged-passed ((2 when badSize n) ∷ []) _ e in
+    let j : threshold n ≡ k = cc (p .1) in
+    omega (arith, few n (size-bounds n (p .0 .0) .1))
 
 -- a text that is written: its length
 pub written-length : (text buffer : List ℕ) {k : ℕ} → writingOf (answered tt) text buffer .answer ≡ answered k → k ≡ length text
@@ -117,16 +117,11 @@ sources-few n starts neighbours s acc = at (source-cases n s G (acc .lists .grap
     at (round v h t l) = omega (arith, few-neighbours n starts neighbours acc v h, acc .size)
     at (covers f) = omega (arith, hubs-length n G s, acc .size)
 
-pub searches-fit : (n : ℕ) (starts neighbours : List ℕ) {t : TestResult} → testing n starts neighbours ≡ answered t → t .searches ≤ 1024
+pub searches-fit : (n t : ℕ) (starts neighbours : List ℕ) {r : TestResult} → testing n t starts neighbours ≡ answered r → r .searches ≤ 1024
 unfolding testing testResult
-searches-fit n starts neighbours {t} = at (accepting n starts neighbours) refl
-  where
-    result : TestResult
-    result = testResult n (threshold n) (neighboursOf starts neighbours)
-
-    at : (o : Outcome (Unit {0})) → accepting n starts neighbours ≡ o → mapAnswer (λ _. result) o ≡ answered t → t .searches ≤ 1024
-    at (refused r) h e = never e
-    at (answered x) h e =
-        let j : _≡_ {A = TestResult} result t = cc in
-        subst (λ (y : TestResult). y .searches ≤ 1024) j
-        (sources-few n starts neighbours (threshold n) (accepting-facts n starts neighbours x h))
+searches-fit n t starts neighbours {r} e =
+    let p = judged-passed (testRefusals n t starts neighbours) _ e in
+    let lists = p .0 .1 .1 in
+    let j : _≡_ {A = TestResult} (testResult n (inForce n t) (neighboursOf starts neighbours)) r = cc (p .1) in
+    subst (λ (y : TestResult). y .searches ≤ 1024) j
+    (sources-few n starts neighbours (inForce n t) (tests-facts n starts neighbours (p .0 .0) (lists .0) (lists .1 .0)))

@@ -11,7 +11,7 @@ ghost use Prim.Native.Nat.{_≤_};
 ghost use lib.ListN.{length};
 ghost use Rattle.model.specs.Survey.{neighboursOf, accepting};
 ghost use Rattle.model.specs.Graph.{linked};
-ghost use Rattle.model.specs.Threshold.{threshold, thresholdAnswer};
+ghost use Rattle.model.specs.Threshold.{thresholdAnswer};
 ghost use Rattle.model.specs.Reading.{reading};
 ghost use Rattle.model.specs.Writing.{writing};
 ghost use Rattle.model.specs.Building.{building};
@@ -104,6 +104,7 @@ pub extern "C" fn puxerdau_accept(n: usize, starts: &[u32], neighbours: &[u16]) 
 #[no_mangle]
 pub extern "C" fn puxerdau_build(
     n: usize,
+    t: usize,
     starts: &[u32],
     neighbours: &[u16],
     full: &mut [u16],
@@ -112,15 +113,15 @@ pub extern "C" fn puxerdau_build(
     hubs: &mut [u16],
 ) -> u64
     ensures { λ r. ⌜ IsCode countField countIn
-        (building n (now (starts .entry)) (now (neighbours .entry))
+        (building n t (now (starts .entry)) (now (neighbours .entry))
         (now (full .entry)) (now (low .entry)) (now (report .entry)) (now (hubs .entry)) .answer) r ⌝ }
     ensures { λ r. ⌜ buildDecoded r (now (full .exit)) (now (low .exit)) (now (report .exit)) (now (hubs .exit))
-        ≡ building n (now (starts .entry)) (now (neighbours .entry))
+        ≡ building n t (now (starts .entry)) (now (neighbours .entry))
         (now (full .entry)) (now (low .entry)) (now (report .entry)) (now (hubs .entry)) ⌝ }
-    ensures { λ r. ⌜ BuildRight n (threshold n) (now (starts .entry)) (now (neighbours .entry))
+    ensures { λ r. ⌜ BuildRight n t (now (starts .entry)) (now (neighbours .entry))
         (buildDecoded r (now (full .exit)) (now (low .exit)) (now (report .exit)) (now (hubs .exit))) ⌝ }
 {
-    counting_code(table_building::build(n, starts, neighbours, full, low, report, hubs))
+    counting_code(table_building::build(n, t, starts, neighbours, full, low, report, hubs))
 }
 
 // Asks a pair: the report with its route.
@@ -143,6 +144,7 @@ pub extern "C" fn puxerdau_ask(
 #[no_mangle]
 pub extern "C" fn puxerdau_walk(
     n: usize,
+    t: usize,
     starts: &[u32],
     neighbours: &[u16],
     full: &[u16],
@@ -153,27 +155,27 @@ pub extern "C" fn puxerdau_walk(
     walk: &mut [u16],
 ) -> u64
     ensures { λ r. ⌜ IsCode answerField answerIn
-        (walking n (now (starts .entry)) (now (neighbours .entry))
+        (walking n t (now (starts .entry)) (now (neighbours .entry))
         (now (full .entry)) (now (low .entry)) (now (report .entry)) a b (length (now (walk .entry))) .answer) r ⌝ }
     ensures { λ r. ⌜ walkDecoded r (now (walk .exit))
-        ≡ walking n (now (starts .entry)) (now (neighbours .entry))
+        ≡ walking n t (now (starts .entry)) (now (neighbours .entry))
         (now (full .entry)) (now (low .entry)) (now (report .entry)) a b (length (now (walk .entry))) ⌝ }
     ensures { λ r. ⌜ WalkSound (linked n (neighboursOf (now (starts .entry)) (now (neighbours .entry)))) a b
         (walkDecoded r (now (walk .exit))) ⌝ }
-    ensures { λ r. ⌜ WalkRight n (threshold n) (now (starts .entry)) (now (neighbours .entry))
+    ensures { λ r. ⌜ WalkRight n t (now (starts .entry)) (now (neighbours .entry))
         (now (full .entry)) (now (low .entry)) (now (report .entry)) a b (length (now (walk .entry)))
         (walkDecoded r (now (walk .exit))) ⌝ }
 {
-    asking_code(walk_writing::write_walk(n, starts, neighbours, full, low, report, a, b, walk))
+    asking_code(walk_writing::write_walk(n, t, starts, neighbours, full, low, report, a, b, walk))
 }
 
 // The two-or-four test of a survey.
 #[no_mangle]
-pub extern "C" fn puxerdau_test(n: usize, starts: &[u32], neighbours: &[u16]) -> u64
-    ensures { λ r. ⌜ IsCode testField testIn (testing n (now (starts .entry)) (now (neighbours .entry))) r ⌝ }
-    ensures { λ r. ⌜ TestRight n (now (starts .entry)) (now (neighbours .entry)) (decoded testIn r) ⌝ }
+pub extern "C" fn puxerdau_test(n: usize, t: usize, starts: &[u32], neighbours: &[u16]) -> u64
+    ensures { λ r. ⌜ IsCode testField testIn (testing n t (now (starts .entry)) (now (neighbours .entry))) r ⌝ }
+    ensures { λ r. ⌜ TestRight n t (now (starts .entry)) (now (neighbours .entry)) (decoded testIn r) ⌝ }
 {
-    testing_code(answer_two_or_four::test(n, starts, neighbours))
+    testing_code(answer_two_or_four::test(n, t, starts, neighbours))
 }
 
 // Writes the listing of a text into a buffer.

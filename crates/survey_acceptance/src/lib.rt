@@ -132,17 +132,14 @@ pub fn is_survey(n: usize, starts: &[u32], neighbours: &[u16]) -> bool
     matched(n, starts, neighbours)
 }
 
-// The refusals that all calls over a survey share: 2, 8 for `starts`, 9.
+// Acceptance of a survey: refused 2, 8 for `starts`, or 9.
 pub fn accept(n: usize, starts: &[u32], neighbours: &[u16]) -> Accepting
     ensures { λ r. ⌜ acceptAnswer r ≡ accepting n (now (starts .entry)) (now (neighbours .entry)) ⌝ }
 {
-    if n < 1 {
+    if base_refusals::bad_size(n) {
         return Accepting::Refused(Refusal::NodeCount);
     }
-    if 1024 < n {
-        return Accepting::Refused(Refusal::NodeCount);
-    }
-    if starts.len() < n + 1 {
+    if base_refusals::short_starts(n, starts.len()) {
         return Accepting::Refused(Refusal::ShortList);
     }
     if !is_survey(n, starts, neighbours) {

@@ -2,13 +2,11 @@
 use model::Counting;
 use model::Refusal;
 ghost use mathlib.Core.Path.{_≡_};
-ghost use mathlib.Core.Bool.{not};
 ghost use Prim.Native.Nat.{_*_, _≤_};
 ghost use lib.ListN.{length};
 ghost use Rattle.model.specs.Survey.{neighboursOf, Accepted};
 ghost use Rattle.model.specs.Answers.{answered};
-ghost use Rattle.model.specs.Threshold.{threshold};
-ghost use Rattle.model.specs.Building.{shortLists, built, buildReturned, building};
+ghost use Rattle.model.specs.Building.{built, buildReturned, building};
 ghost use Rattle.model.specs.Demand.{BuildRight};
 
 // The hub list and the three tables for threshold s; the count of hubs is returned.
@@ -36,18 +34,11 @@ pub fn build_tables(
     count
 }
 
-// Whether lists of these lengths have room for n nodes.
-fn has_room(n: usize, starts: usize, full: usize, low: usize, report: usize, hubs: usize) -> bool
-    requires { ⌜ n ≤ 1024 ⌝ }
-    ensures { λ r. ⌜ not r ≡ shortLists n starts full low report hubs ⌝ }
-{
-    let entries = n * n;
-    (n < starts) & (entries <= full) & (entries <= low) & (entries <= report) & (n <= hubs)
-}
-
-// Builds the three tables and the hub list of a survey; where it refuses, it leaves them as they were.
+// Builds the three tables and the hub list of a survey, split by the threshold t, or by the stored one where t is 0; where it refuses, it
+// leaves them as they were.
 pub fn build(
     n: usize,
+    t: usize,
     starts: &[u32],
     neighbours: &[u16],
     full: &mut [u16],
@@ -56,30 +47,27 @@ pub fn build(
     hubs: &mut [u16],
 ) -> Counting
     ensures { λ r. ⌜ buildReturned r (now (full .exit)) (now (low .exit)) (now (report .exit)) (now (hubs .exit))
-        ≡ building n (now (starts .entry)) (now (neighbours .entry))
+        ≡ building n t (now (starts .entry)) (now (neighbours .entry))
         (now (full .entry)) (now (low .entry)) (now (report .entry)) (now (hubs .entry)) ⌝ }
-    ensures { λ r. ⌜ BuildRight n (threshold n) (now (starts .entry)) (now (neighbours .entry))
+    ensures { λ r. ⌜ BuildRight n t (now (starts .entry)) (now (neighbours .entry))
         (buildReturned r (now (full .exit)) (now (low .exit)) (now (report .exit)) (now (hubs .exit))) ⌝ }
 {
-    if n < 1 {
+    if base_refusals::bad_size(n) {
         return Counting::Refused(Refusal::NodeCount);
     }
-    if 1024 < n {
-        return Counting::Refused(Refusal::NodeCount);
+    let above = base_refusals::bad_threshold(t);
+    let short = base_refusals::short_starts(n, starts.len())
+        | base_refusals::short_tables(n, full.len(), low.len(), report.len())
+        | (hubs.len() < n);
+    if above {
+        return Counting::Refused(Refusal::BadThreshold);
     }
-    if !has_room(
-        n,
-        starts.len(),
-        full.len(),
-        low.len(),
-        report.len(),
-        hubs.len(),
-    ) {
+    if short {
         return Counting::Refused(Refusal::ShortList);
     }
     if !survey_acceptance::is_survey(n, starts, neighbours) {
         return Counting::Refused(Refusal::NotSurvey);
     }
-    let s = base_threshold::threshold_at(n);
+    let s = base_threshold::in_force(n, t);
     Counting::Count(build_tables(n, s, starts, neighbours, full, low, report, hubs))
 }

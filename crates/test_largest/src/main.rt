@@ -32,7 +32,7 @@ fn build(
     report: &mut [u16; TABLE],
     hubs: &mut [u16; HUBS],
 ) {
-    let answer = table_building::build(n, starts, neighbours, full, low, report, hubs);
+    let answer = table_building::build(n, 0, starts, neighbours, full, low, report, hubs);
     print_built(answer, full, low, report, hubs);
 }
 
@@ -50,7 +50,7 @@ fn build_and_test(n: usize, starts: &[u32], neighbours: &[u16]) {
         &mut report,
         &mut hubs,
     );
-    let answer = answer_two_or_four::test(n, starts, neighbours);
+    let answer = answer_two_or_four::test(n, 0, starts, neighbours);
     print_tested(answer);
 }
 

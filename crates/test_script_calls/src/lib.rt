@@ -8,7 +8,7 @@ use test_scripts::print_tested;
 use test_scripts::sum16;
 
 pub fn run_build(
-    numbers: &[u64; 8],
+    numbers: &[u64; 9],
     starts: &[u32],
     neighbours: &[u16],
     full: &mut [u16],
@@ -24,6 +24,7 @@ pub fn run_build(
     let h = at_most(numbers[6], hubs.len());
     let answer = table_building::build(
         numbers[0] as usize,
+        numbers[8] as usize,
         &starts[..p],
         &neighbours[..q],
         &mut full[..f],
@@ -37,7 +38,7 @@ pub fn run_build(
 // Prints the entries that are lent of list c.x: Full, Low, Report or the hub list, by their places in `numbers`.
 pub fn run_print(
     c: Command,
-    numbers: &[u64; 8],
+    numbers: &[u64; 9],
     full: &[u16],
     low: &[u16],
     report: &[u16],
@@ -59,7 +60,7 @@ pub fn run_print(
 }
 
 // Asking writes to no list: its sum is 0.
-pub fn run_ask(c: Command, numbers: &[u64; 8], full: &[u16], low: &[u16], report: &[u16]) {
+pub fn run_ask(c: Command, numbers: &[u64; 9], full: &[u16], low: &[u16], report: &[u16]) {
     let f = at_most(numbers[3], full.len());
     let l = at_most(numbers[4], low.len());
     let r = at_most(numbers[5], report.len());
@@ -76,7 +77,7 @@ pub fn run_ask(c: Command, numbers: &[u64; 8], full: &[u16], low: &[u16], report
 
 pub fn run_walk(
     c: Command,
-    numbers: &[u64; 8],
+    numbers: &[u64; 9],
     starts: &[u32],
     neighbours: &[u16],
     full: &[u16],
@@ -92,6 +93,7 @@ pub fn run_walk(
     let w = at_most(numbers[7], walk.len());
     let answer = walk_writing::write_walk(
         numbers[0] as usize,
+        numbers[8] as usize,
         &starts[..p],
         &neighbours[..q],
         &full[..f],
@@ -105,9 +107,14 @@ pub fn run_walk(
     print_answer(c.letter, answer, s);
 }
 
-pub fn run_test(numbers: &[u64; 8], starts: &[u32], neighbours: &[u16]) {
+pub fn run_test(numbers: &[u64; 9], starts: &[u32], neighbours: &[u16]) {
     let p = at_most(numbers[1], starts.len());
     let q = at_most(numbers[2], neighbours.len());
-    let answer = answer_two_or_four::test(numbers[0] as usize, &starts[..p], &neighbours[..q]);
+    let answer = answer_two_or_four::test(
+        numbers[0] as usize,
+        numbers[8] as usize,
+        &starts[..p],
+        &neighbours[..q],
+    );
     print_tested(answer);
 }

@@ -4,7 +4,8 @@
 //   F,i,x  L,i,x  P,i,x     entry i of Full, Low, Report becomes x
 //   H,i,x                   entry i of the hub list becomes x
 //   N,i,x                   number i becomes x. Number 0 is the count of nodes; numbers 1 to 7 say how many entries are lent of
-//                           starts, neighbours, Full, Low, Report, the hub list and the walk list
+//                           starts, neighbours, Full, Low, Report, the hub list and the walk list; number 8 is the threshold
+//                           that building, walking and testing are given
 //   B,0,0                   builds
 //   V,i,0                   prints the entries that are lent of list i (as in N): 3 is Full, 4 Low, 5 Report, 6 the hub list
 //   Q,a,b                   asks nodes a and b
@@ -32,7 +33,7 @@ const WALK: usize = 320;
 // Runs a call; does nothing for another letter.
 fn run_call(
     c: Command,
-    numbers: &[u64; 8],
+    numbers: &[u64; 9],
     starts: &[u32],
     neighbours: &[u16],
     full: &mut [u16],
@@ -66,7 +67,7 @@ fn run_call(
 fn step(
     script: &[u8],
     at: usize,
-    numbers: &mut [u64; 8],
+    numbers: &mut [u64; 9],
     starts: &mut [u32; STARTS],
     neighbours: &mut [u16; NEIGHBOURS],
     full: &mut [u16; TABLE],
@@ -116,7 +117,7 @@ fn step(
 
 // Runs all commands. There are no more of them than bytes.
 fn run(script: &[u8]) {
-    let mut numbers = [0u64; 8];
+    let mut numbers = [0u64; 9];
     let mut starts = [7u32; STARTS];
     let mut neighbours = [7u16; NEIGHBOURS];
     let mut full = [7u16; TABLE];

@@ -14,7 +14,6 @@ use lib.ListN.{length, getD, take, drop, length-drop}
 use lib.Seq.{take-all, getD-drop}
 use Rattle.model.specs.Graph.{Edges, linked}
 use Rattle.model.specs.Survey.{Graph, IsGraph}
-use Rattle.model.specs.Threshold.{threshold}
 use Rattle.model.specs.Hubs.{isLow}
 use Rattle.model.specs.Tables.{entryAt}
 use Rattle.model.specs.Walk.{steps, byLow, toHub}
@@ -121,14 +120,14 @@ by-same part G g may may′ table left v h e f =
 
 module _ {n : ℕ} {G : Graph} (g : IsGraph n G) {may : Nodes} {count : ℕ} {old new : List ℕ} where
   -- the part by low nodes goes by a column of Low
-  pub low-part : {s : ℕ} (low : List ℕ) {a : ℕ} (b : ℕ) → a < n → s ≡ threshold n → may ≡ (λ v. ltb v n && isLow s G v)
+  pub low-part : (s : ℕ) (low : List ℕ) {a : ℕ} (b : ℕ) → a < n → may ≡ (λ v. ltb v n && isLow s G v)
       → PartIs n (stepsIn (byColumn n b) G may (from b low) (leftIn (byColumn n b) (from b low) a) a) count old new
-      → PartIs n (byLow n (threshold n) G low a b) count old new
+      → PartIs n (byLow n s G low a b) count old new
   unfolding byLow
-  low-part {s} low {a} b h e q p =
+  low-part s low {a} b h q p =
       let same = by-same (byColumn n b) G g may (isLow s G) (from b low) (λ x. entryAt n low x b) a h
       (low-are n s G may q) (column-left n low b) in
-      rw (same, e) at p
+      rw same at p
 
   -- and the part to a hub by a row of Full
   pub hub-part : (full : List ℕ) (h : ℕ) {v : ℕ} → v < n → may ≡ (λ v. ltb v n)

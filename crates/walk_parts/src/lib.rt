@@ -6,7 +6,6 @@ ghost use lib.ListN.{length};
 ghost use Rattle.base_nodeset.specs.NodeSet.{member};
 ghost use Rattle.model.specs.Basics.{none, has, firstOf};
 ghost use Rattle.model.specs.Survey.{neighboursOf, Accepted};
-ghost use Rattle.model.specs.Threshold.{threshold};
 ghost use Rattle.model.specs.Walk.{byLow, toHub};
 ghost use Rattle.walk_parts.specs.Parts.{leftIn, leadsOn, stepsIn, Inside, isFound, Leaves, PartIs};
 
@@ -114,9 +113,10 @@ fn write_part(
     d + 1
 }
 
-// The part from a to b over low nodes: their distances from b stand in a column of Low.
+// The part from a to b over nodes that are low for threshold s: their distances from b stand in a column of Low.
 pub fn low_part(
     n: usize,
+    s: usize,
     starts: &[u32],
     neighbours: &[u16],
     low: &[u16],
@@ -125,10 +125,9 @@ pub fn low_part(
     nodes: &mut [u16],
 ) -> usize
     requires { ⌜ Accepted n (now starts) (now neighbours) × (n * n ≤ length (now low)) × (a < n) × (b < n) × (n ≤ length (now nodes)) ⌝ }
-    ensures { λ r. ⌜ PartIs n (byLow n (threshold n) (neighboursOf (now (starts .entry)) (now (neighbours .entry))) (now (low .entry)) a b)
+    ensures { λ r. ⌜ PartIs n (byLow n s (neighboursOf (now (starts .entry)) (now (neighbours .entry))) (now (low .entry)) a b)
         r (now (nodes .entry)) (now (nodes .exit)) ⌝ }
 {
-    let s = base_threshold::threshold_at(n);
     let mut allowed = [0u64; 16];
     table_degree_split::low_nodes(n, s, starts, neighbours, &mut allowed);
     let part = Part {

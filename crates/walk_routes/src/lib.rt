@@ -7,7 +7,6 @@ ghost use Prim.Native.Nat.{_*_, _≤_, _<_};
 ghost use lib.ListN.{length, replicate};
 ghost use Rattle.model.specs.Basics.{none};
 ghost use Rattle.model.specs.Survey.{neighboursOf, Accepted};
-ghost use Rattle.model.specs.Threshold.{threshold};
 ghost use Rattle.model.specs.Walk.{byLink, byLow, toHub, join};
 ghost use Rattle.model.specs.Walking.{walkReturned, fit};
 
@@ -39,9 +38,10 @@ pub fn write_link(
     Asking::Answered(answer)
 }
 
-// Writes the walk over low nodes into a list that is all none. The steps are judged before the list's length.
+// Writes the walk over nodes that are low for threshold s into a list that is all none. The steps are judged before the list's length.
 pub fn write_low(
     n: usize,
+    s: usize,
     starts: &[u32],
     neighbours: &[u16],
     low: &[u16],
@@ -53,10 +53,10 @@ pub fn write_low(
     requires { ⌜ Accepted n (now starts) (now neighbours) × (n * n ≤ length (now low)) × (a < n) × (b < n) ⌝ }
     requires { ⌜ now walk ≡ replicate (length (now walk)) none ⌝ }
     ensures { λ r. ⌜ walkReturned r (now (walk .exit)) ≡ fit (length (now (walk .entry))) answer
-        (byLow n (threshold n) (neighboursOf (now (starts .entry)) (now (neighbours .entry))) (now (low .entry)) a b) ⌝ }
+        (byLow n s (neighboursOf (now (starts .entry)) (now (neighbours .entry))) (now (low .entry)) a b) ⌝ }
 {
     let mut nodes = [0u16; 1024];
-    let count = walk_parts::low_part(n, starts, neighbours, low, a, b, &mut nodes);
+    let count = walk_parts::low_part(n, s, starts, neighbours, low, a, b, &mut nodes);
     if count == 0 {
         return Asking::Refused(Refusal::NotAttained);
     }

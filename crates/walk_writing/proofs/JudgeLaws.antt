@@ -1,53 +1,50 @@
--- What is left to judge once the lists have passed their tests, and what is known where nothing is refused before the steps.
+-- The refusal of short lists, and what is known where nothing is refused before the steps.
 -- Assumes nothing.
-use mathlib.Core.Path.{_≡_}
-use mathlib.Core.Bool.{_||_}
-use mathlib.Core.List.{List}
-use Prim.Native.Nat.{ℕ, _+_, _*_, _≤_, _<_}
-use borrow.Author.Tests.{le-ltb}
-use lib.Dec.{leb}
+use mathlib.Core.Path.{_≡_, refl, _∙_}
+use mathlib.Core.Bool.{true, false, not, _||_}
+use mathlib.Core.List.{List, [], _∷_}
+use Prim.Native.Nat.{ℕ, _*_, _≤_, _<_}
 use lib.ListN.{length}
 use Rattle.model.specs.declared.Answer.{Answer}
-use Rattle.model.specs.Answers.{answered}
-use Rattle.model.specs.Basics.{if_then_else_}
-use Rattle.model.specs.Survey.{neighboursOf, isSurvey, Accepted}
-use Rattle.model.specs.Threshold.{threshold}
-use Rattle.model.specs.Pair.{pair}
+use Rattle.model.specs.Answers.{answered, Refusals, _when_, judged}
+use Rattle.model.specs.Survey.{neighboursOf, badSize, shortStarts, isSurvey, Accepted}
+use Rattle.model.specs.Threshold.{inForce, badThreshold}
+use Rattle.model.specs.Tables.{shortTables}
+use Rattle.model.specs.Pair.{badPair, pair}
 use Rattle.model.specs.Walking.{refuseWalk, walkOf, walking}
-use Rattle.model.proofs.Tests.{T-true}
-use Rattle.model.proofs.Acceptance.{good-size, survey-test}
-use Rattle.model.proofs.Entries.{long-tables}
+use Rattle.model.proofs.Outcomes.{judged-either}
 use Rattle.walk_writing.specs.Ready.{Ready}
 use Rattle.walk_writing.proofs.RouteLaws.{hub-below}
 
--- the five lists have passed their tests
-pub record Listed (n : ℕ) (starts neighbours full low report : List ℕ) : Type 0 where
+-- `starts` or a table is too short
+pub walk-short : (n t : ℕ) (starts neighbours full low report : List ℕ) (a b w : ℕ) → badSize n ≡ false → badThreshold t ≡ false
+    → (shortStarts n (length starts) || shortTables n (length full) (length low) (length report)) ≡ true
+    → walking n t starts neighbours full low report a b w ≡ refuseWalk w 8
+unfolding walking
+walk-short n t starts neighbours full low report a b w size split h =
+    let A = shortStarts n (length starts) in
+    let B = shortTables n (length full) (length low) (length report) in
+    let rest : Refusals = (9 when not (isSurvey n starts neighbours)) ∷ (10 when badPair n a b) ∷ [] in
+    let done = walkOf w n (inForce n t) (neighboursOf starts neighbours) full low a b (pair n full low report a b) in
+    let first : judged (refuseWalk w) ((8 when A || B) ∷ rest) done ≡ refuseWalk w 8 = rw h refl in
+    rw (size, split) (judged-either (refuseWalk w) 8 A B rest done ∙ first)
+
+-- the five lists and the two nodes have passed their tests
+pub record Listed (n : ℕ) (starts neighbours full low report : List ℕ) (a b : ℕ) : Type 0 where
   pub survey : Accepted n starts neighbours
   pub in-full : n * n ≤ length full
   pub in-low : n * n ≤ length low
   pub in-report : n * n ≤ length report
+  pub first : a < n
+  pub last : b < n
 
-module _ {n : ℕ} {starts neighbours full low report : List ℕ} (lists : Listed n starts neighbours full low report) where
-  -- what is left to judge
-  pub nodes-left : (a b w : ℕ) → walking n starts neighbours full low report a b w
-      ≡ (if leb n a || leb n b then refuseWalk w 10
-      else walkOf w n (threshold n) (neighboursOf starts neighbours) full low a b (pair n full low report a b))
-  unfolding walking
-  nodes-left a b w =
-      let survey = lists .survey in
-      rw (
-        good-size n (survey .some-node) (survey .size),
-        le-ltb (length starts) (n + 1) (survey .room),
-        long-tables n (length full) (length low) (length report) (lists .in-full) (lists .in-low) (lists .in-report),
-        T-true (isSurvey n starts neighbours) (survey-test n starts neighbours (survey .lists)),
-      )
-
-  pub ready : {a b : ℕ} {x : Answer} → a < n → b < n → pair n full low report a b ≡ answered x → Ready n starts neighbours full low a b x
-  ready {a} {b} ha hb e = record {
-    survey = lists .survey;
-    in-full = lists .in-full;
-    in-low = lists .in-low;
-    first = ha;
-    last = hb;
-    hub = λ h. hub-below n full low report a b e;
-  }
+pub ready : {n : ℕ} {starts neighbours full low report : List ℕ} {a b : ℕ} {x : Answer} → Listed n starts neighbours full low report a b
+    → pair n full low report a b ≡ answered x → Ready n starts neighbours full low a b x
+ready {n} {full = full} {low = low} {report = report} {a = a} {b = b} lists e = record {
+  survey = lists .survey;
+  in-full = lists .in-full;
+  in-low = lists .in-low;
+  first = lists .first;
+  last = lists .last;
+  hub = λ h. hub-below n full low report a b e;
+}

@@ -9,7 +9,6 @@ use Rattle.model.specs.declared.Answer.{Answer}
 use Rattle.model.specs.Answers.{Outcome, answered}
 use Rattle.model.specs.Survey.{neighboursOf}
 use Rattle.model.specs.Graph.{linked}
-use Rattle.model.specs.Threshold.{threshold}
 use Rattle.model.specs.Tables.{entryAt}
 use Rattle.model.specs.Pair.{taken, attaining, pairBy, pair}
 use Rattle.model.specs.Walking.{AfterWalking, walking}
@@ -40,12 +39,12 @@ hub-below n full low report a b {x} {h} e q = at (chosen a b r (entryAt n low a 
     at (bad-hub i z o l f) e = never e
 
 -- what is left by the rules is sound and right
-pub written : {n : ℕ} {starts neighbours full low report : List ℕ} {a b w : ℕ} {r : AfterWalking}
-    → r ≡ walking n starts neighbours full low report a b w
-    → (r ≡ walking n starts neighbours full low report a b w)
+pub written : {n t : ℕ} {starts neighbours full low report : List ℕ} {a b w : ℕ} {r : AfterWalking}
+    → r ≡ walking n t starts neighbours full low report a b w
+    → (r ≡ walking n t starts neighbours full low report a b w)
     × (WalkSound (linked n (neighboursOf starts neighbours)) a b r
-    × WalkRight n (threshold n) starts neighbours full low report a b w r)
-written {n} {starts} {neighbours} {full} {low} {report} {a} {b} {w} e =
+    × WalkRight n t starts neighbours full low report a b w r)
+written {n} {t} {starts} {neighbours} {full} {low} {report} {a} {b} {w} e =
     promised (λ (r : AfterWalking). WalkSound (linked n (neighboursOf starts neighbours)) a b r
-    × WalkRight n (threshold n) starts neighbours full low report a b w r)
-    (walking-sound n starts neighbours full low report a b w, walking-right n starts neighbours full low report a b w) e
+    × WalkRight n t starts neighbours full low report a b w r)
+    (walking-sound n t starts neighbours full low report a b w, walking-right n t starts neighbours full low report a b w) e

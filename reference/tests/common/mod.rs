@@ -6,7 +6,7 @@
 
 pub mod reading;
 
-use reference::{build, read, Route, NONE};
+use reference::{build, read, Answer, Route, Tested, Verdict, NONE};
 
 pub const COURSE: &str = "S,6,6\nL,0,5\nL,1,5\nL,2,5\nL,3,5\nL,4,5\nL,1,2\n";
 
@@ -373,10 +373,31 @@ pub fn larger_samples(seed: u64) -> Vec<Sample> {
     samples
 }
 
+/// Every pair of n nodes, ascending.
+pub fn pairs(n: usize) -> Vec<(usize, usize)> {
+    (0..n * n).map(|place| (place / n, place % n)).collect()
+}
+
+/// The thresholds that are tried on n nodes, each once, but for those that
+/// are refused. Any n will do.
+pub fn thresholds(n: usize) -> Vec<usize> {
+    let s = reference::threshold(n).unwrap_or(0);
+    let mut all = vec![0, 1, 2, s, n, n.saturating_add(1), 1024];
+    all.retain(|&threshold| threshold <= 1024);
+    all.sort();
+    all.dedup();
+    all
+}
+
+/// Thresholds that are refused 14.
+pub const REFUSED_THRESHOLDS: [usize; 2] = [1025, usize::MAX];
+
 /// A survey with its tables.
-#[derive(Clone)]
+#[derive(Clone, Debug, PartialEq)]
 pub struct Built {
     pub n: usize,
+    /// What building was given, and what walking and testing are given.
+    pub threshold: usize,
     pub starts: Vec<u32>,
     pub neighbours: Vec<u16>,
     pub full: Vec<u16>,
@@ -387,9 +408,10 @@ pub struct Built {
 }
 
 impl Built {
-    pub fn of_lists(n: usize, starts: Vec<u32>, neighbours: Vec<u16>) -> Built {
+    fn of_lists(n: usize, threshold: usize, starts: Vec<u32>, neighbours: Vec<u16>) -> Built {
         let mut built = Built {
             n,
+            threshold,
             starts,
             neighbours,
             full: vec![7; n * n],
@@ -398,28 +420,20 @@ impl Built {
             hubs: vec![7; n],
             hub_count: 0,
         };
-        built.hub_count = build(
-            n,
-            &built.starts,
-            &built.neighbours,
-            &mut built.full,
-            &mut built.low,
-            &mut built.report,
-            &mut built.hubs,
-        )
-        .expect("an accepted survey");
+        built.hub_count = built.build().expect("an accepted survey");
         built
     }
 
-    pub fn of_sample(sample: &Sample) -> Built {
+    pub fn of_sample(sample: &Sample, threshold: usize) -> Built {
         let (starts, neighbours) = sample.lists();
-        Built::of_lists(sample.n, starts, neighbours)
+        Built::of_lists(sample.n, threshold, starts, neighbours)
     }
 
+    /// With the stored table's threshold.
     pub fn of_text(text: &str) -> Built {
         let (mut starts, mut neighbours) = (vec![0; 1025], vec![0; 32768]);
         let (n, _) = read(text.as_bytes(), &mut starts, &mut neighbours).expect("a survey");
-        Built::of_lists(n, starts, neighbours)
+        Built::of_lists(n, 0, starts, neighbours)
     }
 
     /// The tables as they were before linked nodes reported 1.
@@ -428,13 +442,28 @@ impl Built {
         self
     }
 
-    pub fn ask(&self, a: usize, b: usize) -> Result<reference::Answer, u8> {
+    /// Builds the tables anew.
+    pub fn build(&mut self) -> Result<usize, u8> {
+        build(
+            self.n,
+            self.threshold,
+            &self.starts,
+            &self.neighbours,
+            &mut self.full,
+            &mut self.low,
+            &mut self.report,
+            &mut self.hubs,
+        )
+    }
+
+    pub fn ask(&self, a: usize, b: usize) -> Result<Answer, u8> {
         reference::ask(self.n, &self.full, &self.low, &self.report, a, b)
     }
 
-    pub fn walk(&self, a: usize, b: usize, list: &mut [u16]) -> Result<reference::Answer, u8> {
+    pub fn walk(&self, a: usize, b: usize, list: &mut [u16]) -> Result<Answer, u8> {
         reference::walk(
             self.n,
+            self.threshold,
             &self.starts,
             &self.neighbours,
             &self.full,
@@ -444,6 +473,39 @@ impl Built {
             b,
             list,
         )
+    }
+
+    pub fn test(&self) -> Result<Tested, u8> {
+        reference::test(self.n, self.threshold, &self.starts, &self.neighbours)
+    }
+
+    /// The same lists and tables, with another threshold for further calls.
+    pub fn given(&self, threshold: usize) -> Built {
+        let mut other = self.clone();
+        other.threshold = threshold;
+        other
+    }
+
+    /// That building, walking and testing are refused, and that building
+    /// alters nothing.
+    #[track_caller]
+    pub fn check_refused(&self, refusal: u8, pair: (usize, usize)) {
+        let mut other = self.clone();
+        assert_eq!(other.build(), Err(refusal));
+        assert!(other == *self);
+        self.check_refused_walk(refusal, pair);
+        assert_eq!(self.test(), Err(refusal));
+    }
+
+    /// That a walk is refused, into lists that are long enough for every walk
+    /// and into shorter ones, and that these are all none.
+    #[track_caller]
+    pub fn check_refused_walk(&self, refusal: u8, (a, b): (usize, usize)) {
+        for length in [0, 1, 2 * self.hubs.len() + 3] {
+            let mut list = vec![3; length];
+            assert_eq!(self.walk(a, b, &mut list), Err(refusal));
+            assert!(list.iter().all(|&entry| entry == NONE));
+        }
     }
 }
 
@@ -503,12 +565,10 @@ pub struct Expected {
 }
 
 impl Expected {
-    pub fn of(sample: &Sample) -> Expected {
+    pub fn of(sample: &Sample, threshold: usize) -> Expected {
         let n = sample.n;
         let distances_all = distances(sample, &vec![true; n]);
-        let bits = (0..).find(|&bits| n < 1 << bits).unwrap();
-        let is_low = |v: usize| sample.degree(v).pow(2) < n * bits;
-        let low_nodes: Vec<bool> = (0..n).map(is_low).collect();
+        let low_nodes = expected_low_nodes(sample, threshold);
         let distances_low = distances(sample, &low_nodes);
         let hubs = expected_hubs(sample, &low_nodes);
         let (mut full, mut low, mut report) = (Vec::new(), Vec::new(), Vec::new());
@@ -543,12 +603,24 @@ impl Expected {
     }
 }
 
-fn entry(distance: usize) -> u16 {
+/// A table's entry for so many links.
+pub fn entry(distance: usize) -> u16 {
     if distance >= UNJOINED {
         NONE
     } else {
         distance as u16
     }
+}
+
+/// A whole number is below s(n) exactly where its square is below n * L(n).
+pub fn expected_low_nodes(sample: &Sample, threshold: usize) -> Vec<bool> {
+    let n = sample.n;
+    let bits = (0..).find(|&bits| n < 1 << bits).unwrap();
+    let is_low = |neighbours: usize| match threshold {
+        0 => neighbours.pow(2) < n * bits,
+        _ => neighbours < threshold,
+    };
+    (0..n).map(|v| is_low(sample.degree(v))).collect()
 }
 
 fn expected_hubs(sample: &Sample, low_nodes: &[bool]) -> Vec<usize> {
@@ -658,4 +730,26 @@ pub fn is_chain(sample: &Sample, nodes: &[u16], a: usize, b: usize, links: u16) 
         && nodes
             .windows(2)
             .all(|pair| sample.linked[pair[0] as usize][pair[1] as usize])
+}
+
+/// Whether a report is none exactly where no chain joins the pair, and lies
+/// otherwise between the fewest links and two more.
+pub fn is_allowed(fewest: usize, report: usize) -> bool {
+    if fewest >= UNJOINED {
+        report == usize::from(NONE)
+    } else {
+        (fewest..=fewest + 2).contains(&report)
+    }
+}
+
+/// Whether a verdict is parted exactly where some two nodes are unjoined, and
+/// neither short where some two are four or more links apart nor long where
+/// all are within two.
+pub fn is_right(distances: &[Vec<usize>], verdict: Verdict) -> bool {
+    match distances.iter().flatten().max() {
+        Some(UNJOINED..) => verdict == Verdict::Parted,
+        Some(4..) => verdict == Verdict::Long,
+        Some(3) => verdict != Verdict::Parted,
+        _ => verdict == Verdict::Short,
+    }
 }

@@ -5,7 +5,8 @@ use crate::lists::{self, Lists};
 use crate::pairs::Pair;
 use crate::tables::{self, Kind, Tables};
 use crate::texts::Form;
-use crate::{files, many, texts, Counts};
+use crate::thresholds::{self, Split, Splitting};
+use crate::{demand, files, many, texts, Counts};
 use comparison::common::{Random, Sample};
 use comparison::{codes, header, proved};
 use reference::Answer;
@@ -33,10 +34,10 @@ pub const CALLS: [Call; 11] = [
     call("import", 10, &[2, 3, 4, 5, 8, 13]),
     call("export", 6, &[2, 8, 9, 12]),
     call("accept", 6, &[2, 8, 9]),
-    call("build", 4, &[2, 8, 9]),
+    call("build", 4, &[2, 8, 9, 14]),
     call("ask", 10, &[2, 8, 10, 11]),
-    call("walk", 10, &[2, 8, 9, 10, 11]),
-    call("test", 4, &[2, 8, 9]),
+    call("walk", 10, &[2, 8, 9, 10, 11, 14]),
+    call("test", 4, &[2, 8, 9, 14]),
     call("list", 4, &[12]),
 ];
 
@@ -52,6 +53,8 @@ pub struct Round<'a> {
     starts: Vec<u32>,
     neighbours: Vec<u16>,
     built: [Vec<u16>; 3],
+    /// The threshold that the tables were built by.
+    threshold: usize,
 }
 
 type Outcome = Result<u64, String>;
@@ -73,6 +76,13 @@ struct Read {
     neighbours: Vec<u16>,
 }
 
+/// What both answered to a walk and left in the list.
+struct Walked {
+    code: u64,
+    answer: Result<Answer, u8>,
+    walk: Vec<u16>,
+}
+
 /// What both were lent and what they left in the buffer.
 struct Written {
     code: u64,
@@ -88,9 +98,12 @@ impl<'a> Round<'a> {
         let n = sample.n;
         let [mut full, mut low, mut report] = [(); 3].map(|()| vec![0; n * n]);
         let mut hubs = vec![0; n];
+        let degree = some_degree(random, &starts);
+        let threshold = thresholds::taken(random, n, degree);
         // refused where there are too many links
         let _ = reference::build(
             n,
+            threshold,
             &starts,
             &neighbours,
             &mut full,
@@ -104,6 +117,7 @@ impl<'a> Round<'a> {
             starts,
             neighbours,
             built: [full, low, report],
+            threshold,
         }
     }
 
@@ -147,7 +161,7 @@ impl<'a> Round<'a> {
             6 => self.build(counts),
             7 => self.ask(counts),
             8 => self.walk(counts),
-            9 => self.test(),
+            9 => self.test(counts),
             _ => self.list(counts),
         }
     }
@@ -168,6 +182,27 @@ impl<'a> Round<'a> {
             _ => lists.damage(self.random, self.sample.n),
         }
         lists
+    }
+
+    /// Whether they are the survey's own lists, maybe with more behind them.
+    fn are_own(&self, n: usize, lists: &Lists) -> bool {
+        n == self.sample.n
+            && lists.starts.starts_with(&self.starts)
+            && lists.neighbours.starts_with(&self.neighbours)
+    }
+
+    fn any_threshold(&mut self) -> usize {
+        let degree = some_degree(self.random, &self.starts);
+        thresholds::any(self.random, self.sample.n, degree)
+    }
+
+    /// Mostly the threshold of the tables, else any, or one by which more nodes are low, so that walks by low nodes are still given out.
+    fn walk_threshold(&mut self) -> usize {
+        match self.random.below(10) {
+            0 | 1 => self.any_threshold(),
+            2 | 3 => thresholds::MOST,
+            _ => self.threshold,
+        }
     }
 
     fn threshold(&mut self) -> Outcome {
@@ -362,6 +397,7 @@ impl<'a> Round<'a> {
 
     fn build(&mut self, counts: &mut Counts) -> Outcome {
         let n = lists::node_count(self.random, self.sample.n);
+        let threshold = self.any_threshold();
         let lists = self.lists();
         let square = self.sample.n * self.sample.n;
         let wanted = [square, square, square, self.sample.n];
@@ -381,6 +417,7 @@ impl<'a> Round<'a> {
         let [full, low, report, hubs] = &mut lent;
         let code = proved::build(
             n,
+            threshold,
             starts.list(),
             neighbours.list(),
             full.list_mut(),
@@ -389,7 +426,16 @@ impl<'a> Round<'a> {
             hubs.list_mut(),
         );
         let [full, low, report, hubs] = &mut tables;
-        let answer = reference::build(n, &lists.starts, &lists.neighbours, full, low, report, hubs);
+        let answer = reference::build(
+            n,
+            threshold,
+            &lists.starts,
+            &lists.neighbours,
+            full,
+            low,
+            report,
+            hubs,
+        );
         codes::count(answer).check(code)?;
         starts.check("starts", &lists.starts)?;
         neighbours.check("neighbours", &lists.neighbours)?;
@@ -398,7 +444,12 @@ impl<'a> Round<'a> {
         }
         if answer.is_ok() {
             counts.kinds[many::kind(n, &tables[1])] += 1;
+            if self.are_own(n, &lists) {
+                demand::check_reports(&self.sample, &tables[2])?;
+            }
         }
+        let split = Split::new(n, threshold, &lists.starts);
+        counts.thresholds.count(Splitting::Build, &split, &answer);
         Ok(code)
     }
 
@@ -482,11 +533,12 @@ impl<'a> Round<'a> {
     fn walk_by_both(
         &mut self,
         n: usize,
+        threshold: usize,
         (a, b): (usize, usize),
         lists: &Lists,
         tables: &Tables,
         length: usize,
-    ) -> Result<(u64, Result<Answer, u8>), String> {
+    ) -> Result<Walked, String> {
         let Lists { starts, neighbours } = lists;
         let Tables { full, low, report } = tables;
         let mut walk = lists::garbage16(self.random, length);
@@ -497,6 +549,7 @@ impl<'a> Round<'a> {
         let mut lent_walk = Lent::new(self.random, &walk);
         let code = proved::walk(
             n,
+            threshold,
             lent_starts.list(),
             lent_neighbours.list(),
             lent_full.list(),
@@ -506,7 +559,9 @@ impl<'a> Round<'a> {
             b,
             lent_walk.list_mut(),
         );
-        let answer = reference::walk(n, starts, neighbours, full, low, report, a, b, &mut walk);
+        let answer = reference::walk(
+            n, threshold, starts, neighbours, full, low, report, a, b, &mut walk,
+        );
         codes::answer(answer).check(code)?;
         lent_starts.check("starts", starts)?;
         lent_neighbours.check("neighbours", neighbours)?;
@@ -514,7 +569,7 @@ impl<'a> Round<'a> {
         lent_low.check("low", low)?;
         lent_report.check("report", report)?;
         lent_walk.check("walk", &walk)?;
-        Ok((code, answer))
+        Ok(Walked { code, answer, walk })
     }
 
     fn walk(&mut self, counts: &mut Counts) -> Outcome {
@@ -522,9 +577,23 @@ impl<'a> Round<'a> {
         let (a, b) = self.pair();
         let lists = self.walk_lists();
         let (kind, tables) = self.tables(a, b);
+        let threshold = self.walk_threshold();
         let length = self.walk_length(&tables, a, b);
-        let (code, answer) = self.walk_by_both(n, (a, b), &lists, &tables, length)?;
-        let own = lists.starts == self.starts && lists.neighbours == self.neighbours;
+        let Walked { code, answer, walk } =
+            self.walk_by_both(n, threshold, (a, b), &lists, &tables, length)?;
+        let split = Split::new(n, threshold, &lists.starts);
+        counts.thresholds.count(Splitting::Walk, &split, &answer);
+        let own = self.are_own(n, &lists);
+        if own {
+            demand::check_walk(&self.sample, (a, b), answer, &walk)?;
+        }
+        if own && kind == Kind::Built {
+            if split.is_by(self.threshold) {
+                demand::check_built_walk(answer)?;
+            } else {
+                counts.thresholds.count_walk(answer);
+            }
+        }
         counts.pairs.count(&Pair {
             tables: kind,
             linked: self.linked(n, a, b).filter(|_| own),
@@ -536,16 +605,22 @@ impl<'a> Round<'a> {
         Ok(code)
     }
 
-    fn test(&mut self) -> Outcome {
+    fn test(&mut self, counts: &mut Counts) -> Outcome {
         let n = lists::node_count(self.random, self.sample.n);
+        let threshold = self.any_threshold();
         let lists = self.lists();
         let starts = Lent::new(self.random, &lists.starts);
         let neighbours = Lent::new(self.random, &lists.neighbours);
-        let code = proved::test(n, starts.list(), neighbours.list());
-        let answer = reference::test(n, &lists.starts, &lists.neighbours);
+        let code = proved::test(n, threshold, starts.list(), neighbours.list());
+        let answer = reference::test(n, threshold, &lists.starts, &lists.neighbours);
         codes::tested(answer).check(code)?;
         starts.check("starts", &lists.starts)?;
         neighbours.check("neighbours", &lists.neighbours)?;
+        if let (Ok(tested), true) = (answer, self.are_own(n, &lists)) {
+            demand::check_verdict(&self.sample, tested.verdict)?;
+        }
+        let split = Split::new(n, threshold, &lists.starts);
+        counts.thresholds.count(Splitting::Test, &split, &answer);
         Ok(code)
     }
 
@@ -564,6 +639,12 @@ impl<'a> Round<'a> {
         counts.listings[refusal_in(&listing)] += 1;
         Ok(code)
     }
+}
+
+/// The degree of one of the nodes.
+fn some_degree(random: &mut Random, starts: &[u32]) -> usize {
+    let v = random.below(starts.len() - 1);
+    (starts[v + 1] - starts[v]) as usize
 }
 
 /// The refusal that a listing's only line names, or 0.

@@ -2,12 +2,14 @@
 //!
 //! A case is one call of both on the same input. Answers are compared, as numbers and as the header reads them, and every lent list
 //! whole, between guard words. No call may give a refusal that is not one of its own. A text that was read is imported as a file too, and
-//! a file that was exported is imported again; both must leave the same lists. A run of many cases also has to meet every refusal that a
-//! call can give, every kind of survey that building does something else for, every kind of file, and of asking and walking every route,
-//! reports of 1 of nodes that are linked and that are not, with walk lists of every length around two, and at a node itself, reports of 0
-//! between different nodes, and every kind of tables.
+//! a file that was exported is imported again; both must leave the same lists. Whatever the threshold, a walk must be a chain of links,
+//! and of a small survey each report at most two above the fewest links and each verdict right. A run of many cases also has to meet every
+//! refusal that a call can give, every kind of threshold, every kind of survey that building does something else for, every kind of file,
+//! and of asking and walking every route, reports of 1 of nodes that are linked and that are not, with walk lists of every length around
+//! two, and at a node itself, reports of 0 between different nodes, and every kind of tables.
 
 mod calls;
+mod demand;
 mod files;
 mod lent;
 mod lists;
@@ -15,6 +17,7 @@ mod many;
 mod pairs;
 mod tables;
 mod texts;
+mod thresholds;
 
 use calls::{Round, CALLS, LISTED};
 use comparison::common::{self, Random, Sample};
@@ -23,10 +26,10 @@ use std::process::ExitCode;
 use std::time::{Duration, Instant};
 
 /// A run of this many cases has to meet every refusal and every kind.
-const MANY: u64 = 50_000;
+const MANY: u64 = 100_000;
 
 /// How often there was an answer (place 0) or a refusal with a number.
-type Row = [u64; 14];
+type Row = [u64; 15];
 
 #[derive(Default)]
 pub struct Counts {
@@ -40,6 +43,7 @@ pub struct Counts {
     /// How often a text was read, and the same survey imported.
     pub read_and_imported: u64,
     pub exported_and_imported: u64,
+    pub thresholds: thresholds::Met,
     pub pairs: pairs::Met,
 }
 
@@ -48,7 +52,8 @@ impl Counts {
         self.calls.iter().flatten().sum()
     }
 
-    /// The refusals that a call can give, or a listing name, and the kinds for building, importing, asking and walking, that were not met.
+    /// The refusals that a call can give, or a listing name, the kinds of thresholds, and the kinds for building, importing, asking and
+    /// walking, that were not met.
     fn unmet(&self) -> Vec<String> {
         let calls = CALLS.iter().map(|call| (call.name, call.refusals));
         let named = calls.chain([("listing", &LISTED[..])]);
@@ -67,12 +72,12 @@ impl Counts {
         let names = surveys.into_iter().chain(files).chain(both);
         let both = [self.read_and_imported, self.exported_and_imported];
         let counts = self.kinds.into_iter().chain(self.files).chain(both);
-        for (name, count) in names.zip(counts) {
+        let others = [self.thresholds.named(), self.pairs.named()].concat();
+        for (name, count) in names.zip(counts).chain(others) {
             if count == 0 {
                 unmet.push(name);
             }
         }
-        unmet.extend(self.pairs.unmet());
         unmet
     }
 }
@@ -93,8 +98,8 @@ fn main() -> ExitCode {
             println!("{cases} cases agree, seed {seed}");
             let unmet = counts.unmet();
             if unmet.is_empty() {
-                println!("each call met each of its refusals, building each kind of survey, importing each kind of file, and asking and");
-                println!("walking each route, reports of 0 and 1, and each kind of tables");
+                println!("each call met each of its refusals and each kind of threshold, building each kind of survey, importing each kind of");
+                println!("file, and asking and walking each route, reports of 0 and 1, and each kind of tables");
                 return ExitCode::SUCCESS;
             }
             println!("not met: {}", unmet.join("; "));
@@ -211,6 +216,7 @@ fn print_counts(counts: &Counts) {
         "{} texts were read and imported as files, {} files exported and imported again",
         counts.read_and_imported, counts.exported_and_imported
     );
+    counts.thresholds.print();
     counts.pairs.print();
 }
 

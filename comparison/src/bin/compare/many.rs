@@ -60,11 +60,11 @@ fn node_count(random: &mut Random) -> usize {
 pub fn choose(random: &mut Random) -> Sample {
     let n = node_count(random);
     let s = reference::threshold(n).expect("1 to 1,024 nodes");
-    let sample = match random.below(14) {
+    let sample = match random.below(15) {
         0 => common::path(n),
         1 => common::cycle(n),
         2 => long_tree(random, n),
-        3 | 12 => tail(random, n),
+        3 | 12 | 13 => tail(random, n),
         4 => two_paths(n, 1 + random.below(3)),
         5 => two_paths(n, 1 + random.below(n)),
         6 => common::complete_and_path(n, s + random.below(20)),

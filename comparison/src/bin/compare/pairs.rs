@@ -61,8 +61,8 @@ impl Met {
         let (Some(linked), Ok(asked)) = (pair.linked, pair.asked) else {
             return;
         };
-        // too many links for a survey
-        if answer == Err(9) {
+        // a threshold that is refused, or too many links for a survey
+        if matches!(answer, Err(9 | 14)) {
             return;
         }
         if asked.route == Route::Link {
@@ -75,7 +75,7 @@ impl Met {
     }
 
     /// What was met how often, by name.
-    fn named(&self) -> Vec<(String, u64)> {
+    pub fn named(&self) -> Vec<(String, u64)> {
         let mut all = Vec::new();
         for (call, counts) in ["ask", "walk"].iter().zip(self.routes) {
             let names = ROUTES.map(|route| format!("{call} by {route}"));
@@ -97,11 +97,6 @@ impl Met {
         all
     }
 
-    pub fn unmet(&self) -> impl Iterator<Item = String> {
-        let never = |(name, count)| (count == 0).then_some(name);
-        self.named().into_iter().filter_map(never)
-    }
-
     pub fn print(&self) {
         println!("the answers of asking and walking, by their routes:");
         print_table(&ROUTES, &["ask", "walk"], &self.routes);
@@ -121,7 +116,7 @@ impl Met {
     }
 }
 
-fn print_table<const N: usize>(columns: &[&str; N], names: &[&str], rows: &[[u64; N]]) {
+pub fn print_table<const N: usize>(columns: &[&str; N], names: &[&str], rows: &[[u64; N]]) {
     print!("{:10}", "");
     columns.iter().for_each(|column| print!("{column:>9}"));
     println!();

@@ -1,10 +1,10 @@
-//! The three tables, built or altered.
+//! The three tables, built by some threshold or altered.
 
 use comparison::common::{self, Random, Sample};
 use reference::NONE;
 
 /// Which tables they are.
-#[derive(Clone, Copy)]
+#[derive(Clone, Copy, PartialEq)]
 pub enum Kind {
     Built,
     BeforeLinks,

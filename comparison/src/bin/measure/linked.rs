@@ -30,16 +30,7 @@ pub fn measure_all(budget: Duration) -> Vec<LinkedRow> {
 fn lent(sample: &Sample) -> Lent {
     let mut x = Lent::new(sample);
     x.pairs = timing::linked_pairs(sample);
-    let built = careful::build(
-        x.n,
-        &x.starts,
-        &x.neighbours,
-        &mut x.full,
-        &mut x.low,
-        &mut x.report,
-        &mut x.hubs,
-    );
-    assert!(built.is_ok());
+    assert!(x.build().is_ok());
     for &(a, b) in &x.pairs {
         let answer = careful::ask(x.n, &x.full, &x.low, &x.report, a, b);
         assert_eq!(answer.map(|answer| answer.route), Ok(Route::Link));

@@ -6,6 +6,7 @@
 mod exact;
 mod files;
 mod linked;
+mod thresholds;
 
 use comparison::common::Sample;
 use comparison::timing::{self, least, Lent, Times, CALLS};
@@ -42,11 +43,14 @@ fn main() {
     print_listings(budget);
     let linked = linked::measure_all(budget);
     linked::print(&linked);
+    let thresholds = thresholds::measure_all(budget);
+    thresholds::print(&thresholds);
     let files = files::measure_all(budget);
     files::print(&files);
     print_targets(&rows);
     print_least(&rows);
     linked::print_least(&linked);
+    thresholds::print_least(&thresholds);
     files::print_least(&files);
 }
 
@@ -58,14 +62,24 @@ fn surveys() -> impl Iterator<Item = Sample> {
 
 /// Whether the careful version answers as the second implementation does, on this survey.
 fn check_careful(x: &Lent, linked: &[(usize, usize)]) {
-    let n = x.n;
+    let (n, threshold) = (x.n, x.threshold);
     let mut tables = [(); 6].map(|()| vec![7; n * n]);
     let mut lists = [(); 2].map(|()| vec![7; n]);
     let [full, low, report, other_full, other_low, other_report] = &mut tables;
     let [hubs, other_hubs] = &mut lists;
-    let one = reference::build(n, &x.starts, &x.neighbours, full, low, report, hubs);
+    let one = reference::build(
+        n,
+        threshold,
+        &x.starts,
+        &x.neighbours,
+        full,
+        low,
+        report,
+        hubs,
+    );
     let other = careful::build(
         n,
+        threshold,
         &x.starts,
         &x.neighbours,
         other_full,
@@ -75,15 +89,16 @@ fn check_careful(x: &Lent, linked: &[(usize, usize)]) {
     );
     assert_eq!(one, other);
     assert!(full == other_full && low == other_low && report == other_report && hubs == other_hubs);
-    let tested = careful::test(n, &x.starts, &x.neighbours);
+    let tested = careful::test(n, threshold, &x.starts, &x.neighbours);
     assert_eq!(
         codes::tested(tested).code(),
-        proved::test(n, &x.starts, &x.neighbours)
+        proved::test(n, threshold, &x.starts, &x.neighbours)
     );
     let (mut walk, mut other_walk) = (vec![7; 2 * n], vec![7; 2 * n]);
     for &(a, b) in x.pairs.iter().chain(linked) {
         let one = reference::walk(
             n,
+            threshold,
             &x.starts,
             &x.neighbours,
             full,
@@ -95,6 +110,7 @@ fn check_careful(x: &Lent, linked: &[(usize, usize)]) {
         );
         let other = careful::walk(
             n,
+            threshold,
             &x.starts,
             &x.neighbours,
             full,
@@ -133,6 +149,10 @@ fn check_reports(x: &Lent, exact: &Exact) {
     }
 }
 
+fn hub_count(hubs: &[u16]) -> usize {
+    hubs.iter().filter(|&&h| h != NONE).count()
+}
+
 /// The lesser of two times, call by call.
 fn lesser(one: Times, other: Times) -> Times {
     std::array::from_fn(|k| one[k].min(other[k]))
@@ -167,7 +187,7 @@ fn measure(sample: &Sample, budget: Duration) -> Row {
         n: x.n,
         links: x.neighbours.len() / 2,
         high: x.high,
-        hubs: x.hubs.iter().filter(|&&h| h != NONE).count(),
+        hubs: hub_count(&x.hubs),
         bytes: x.text.len(),
         times,
         sum,

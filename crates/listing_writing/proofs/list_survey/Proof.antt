@@ -49,7 +49,7 @@ list-tables-requires c κs =
     let start = c .before .before .before .before .before .before .before in
     let pre = start .pre in (
       (pre .0, pre .1, lent start, lent start, lent start),
-      omega (arith, listing-few _ _ (pre .0 .lists .graph) (pre .1)),
+      omega (arith, listing-few _ (start .args .s) _ (pre .0 .lists .graph) (pre .1)),
     )
 
 same-length : tie.Need-same-length

@@ -9,7 +9,6 @@ use lib.ListN.{length, length-append}
 use Rattle.model.specs.Lines.{numberLineOf}
 use Rattle.model.specs.SurveyText.{lineOf}
 use Rattle.model.specs.Survey.{Graph, neighboursOf}
-use Rattle.model.specs.Threshold.{threshold}
 use Rattle.model.specs.Listing.{pairLines, listingOf}
 use Rattle.base_lists.proofs.Written.{wrote-then, wrote-room}
 use Rattle.listing_writing.proofs.Whole.{AreTables, tables-built, count-few, listing-by-tables}
@@ -19,7 +18,7 @@ use Rattle.listing_writing.proofs.list_tables.Tie as tie
 -- once the tables are built
 module _ (c : tie.After-build-tables) where
   abbrev start : tie.Start
-  start = c .before .before .before .before .before .before .before .before .before .before .before .before
+  start = c .before .before .before .before .before .before .before .before .before .before .before
 
   abbrev G : Graph
   G = neighboursOf (start .args .starts .now) (start .args .neighbours .now)
@@ -39,26 +38,23 @@ module _ (c : tie.After-build-tables) where
   abbrev pairs : List ℕ
   pairs = pairLines (start .args .n) full low report
 
-  tables : AreTables (start .args .n) G (c .build-tables .result) full low report
+  tables : AreTables (start .args .n) (start .args .s) G (c .build-tables .result) full low report
   tables =
       tables-built _ _ G (start .args .full .now) (start .args .low .now) (start .args .report .now) _ (c .build-tables .ensures)
-      (c .before .before .before .before .before .threshold-at .ensures) (start .pre .0 .2) (start .pre .0 .3) (start .pre .0 .4)
+      (start .pre .0 .2) (start .pre .0 .3) (start .pre .0 .4)
 
   -- the first line and the pairs' lines from the tables are the listing
-  listed : first ++ pairs ≡ listingOf (start .args .n) (threshold (start .args .n)) G
+  listed : first ++ pairs ≡ listingOf (start .args .n) (start .args .s) G
   unfolding lineOf
   listed = listing-by-tables tables
 
   -- and both fit the buffer
-  room : 0 + length first + length pairs ≤ length (start .args .buffer .now)
+  room : 0 + length first + length pairs ≤ length (start .args .lines .now)
   room = omega (arith, ap length listed, length-append first pairs)
 
 -- the place where the tables were built, from behind the first line
 abbrev built : tie.After-write-line → tie.After-build-tables
 built c = c .before .before .before .before .before .before .before .before .before .before .before
-
-threshold-at-requires : tie.Need-threshold-at-requires
-threshold-at-requires c κs = search needs
 
 slice-aggregate-build-tables : tie.Need-slice-aggregate-build-tables
 slice-aggregate-build-tables c = search needs
@@ -110,7 +106,6 @@ pub list-tables-spec : {M : Type 1} → statement M
 list-tables-spec =
     tie.close
     (tie.spec
-    threshold-at-requires
     slice-aggregate-build-tables
     build-tables-requires
     slice-aggregate-write-line

@@ -34,7 +34,7 @@ same-length-4 c = search needs
 returns : tie.Need-returns
 returns c =
     let call = c .before .before .before .before .before .before .before .before .before .build in
-    let lent = call .last .1 .1 .1 in
+    let lent = call .last .1 .1 .1 .1 in
     passed-on countField countIn (λ (x : AfterBuilding). x .answer)
     (λ o. record {
       answer = o;

@@ -11,7 +11,7 @@ test-requires : tie.Need-test-requires
 test-requires c κs = search needs
 
 testing-code-requires : tie.Need-testing-code-requires
-testing-code-requires c κs = λ t e. omega (arith, searches-fit _ _ _ (sym (c .test .ensures .0) ∙ e))
+testing-code-requires c κs = λ t e. omega (arith, searches-fit _ _ _ _ (sym (c .test .ensures .0) ∙ e))
 
 returns : tie.Need-returns
 returns c =

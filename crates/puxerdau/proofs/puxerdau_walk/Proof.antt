@@ -5,7 +5,6 @@ use borrow.Author.Needs.{needs}
 use lib.ListN.{length}
 use Rattle.model.specs.Survey.{neighboursOf}
 use Rattle.model.specs.Graph.{linked}
-use Rattle.model.specs.Threshold.{threshold}
 use Rattle.model.specs.Walking.{AfterWalking}
 use Rattle.model.specs.Demand.{WalkSound, WalkRight}
 use Rattle.base_answer_codes.specs.Code.{answerField, answerIn}
@@ -32,9 +31,9 @@ returns c =
     let a = start .args .a in
     let b = start .args .b in
     passed-on answerField answerIn (λ (x : AfterWalking). x .answer)
-    (λ o. record { answer = o; walk = call .last .1 .1 .1 .1 .1 .1 .1 .1 .0 })
+    (λ o. record { answer = o; walk = call .last .1 .1 .1 .1 .1 .1 .1 .1 .1 .0 })
     (λ x. WalkSound (linked n (neighboursOf starts neighbours)) a b x
-    × WalkRight n (threshold n) starts neighbours (start .args .full .now) (start .args .low .now) (start .args .report .now) a b
+    × WalkRight n (start .args .t) starts neighbours (start .args .full .now) (start .args .low .now) (start .args .report .now) a b
     (length (start .args .walk .now)) x)
     (λ o. refl) (c .asking-code .ensures) (call .ensures .0) (call .ensures .1)
 

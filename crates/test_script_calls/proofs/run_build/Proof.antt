@@ -45,6 +45,9 @@ at-most-requires-6 c κs = search needs
 element-copy-out-build : tie.Need-element-copy-out-build
 element-copy-out-build c = search needs
 
+element-copy-out-build-2 : tie.Need-element-copy-out-build-2
+element-copy-out-build-2 c = search needs
+
 slice-aggregate-build : tie.Need-slice-aggregate-build
 slice-aggregate-build c = simp length-take (omega arith)
 
@@ -113,6 +116,7 @@ run-build-spec =
     element-copy-out-at-most-6
     at-most-requires-6
     element-copy-out-build
+    element-copy-out-build-2
     slice-aggregate-build
     slice-aggregate-build-2
     slice-relend-prefix-build

@@ -21,6 +21,9 @@ at-most-requires-2 c κs = search needs
 element-copy-out-test : tie.Need-element-copy-out-test
 element-copy-out-test c = search needs
 
+element-copy-out-test-2 : tie.Need-element-copy-out-test-2
+element-copy-out-test-2 c = search needs
+
 slice-aggregate-test : tie.Need-slice-aggregate-test
 slice-aggregate-test c = simp length-take (omega arith)
 
@@ -45,6 +48,7 @@ run-test-spec =
     element-copy-out-at-most-2
     at-most-requires-2
     element-copy-out-test
+    element-copy-out-test-2
     slice-aggregate-test
     slice-aggregate-test-2
     test-requires

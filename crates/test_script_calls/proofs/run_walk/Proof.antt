@@ -45,6 +45,9 @@ at-most-requires-6 c κs = search needs
 element-copy-out-write-walk : tie.Need-element-copy-out-write-walk
 element-copy-out-write-walk c = search needs
 
+element-copy-out-write-walk-2 : tie.Need-element-copy-out-write-walk-2
+element-copy-out-write-walk-2 c = search needs
+
 slice-aggregate-write-walk : tie.Need-slice-aggregate-write-walk
 slice-aggregate-write-walk c = simp length-take (omega arith)
 
@@ -98,6 +101,7 @@ run-walk-spec =
     element-copy-out-at-most-6
     at-most-requires-6
     element-copy-out-write-walk
+    element-copy-out-write-walk-2
     slice-aggregate-write-walk
     slice-aggregate-write-walk-2
     slice-aggregate-write-walk-3

@@ -13,9 +13,6 @@ use Rattle.walk_parts.proofs.low_part.Tie as tie
 begins : (c : tie.Start) → c .args .b ≤ length (c .args .low .now)
 begins c = omega (arith, place-inside _ (c .args .a) _ (c .pre .2) (c .pre .3), c .pre .1)
 
-threshold-at-requires : tie.Need-threshold-at-requires
-threshold-at-requires c κs = search needs
-
 slice-aggregate-low-nodes : tie.Need-slice-aggregate-low-nodes
 slice-aggregate-low-nodes c = search needs
 
@@ -29,17 +26,17 @@ mul-write-part : tie.Need-mul-write-part
 mul-write-part c = search needs
 
 sub-write-part : tie.Need-sub-write-part
-sub-write-part c = omega (arith, begins (c .before .before .before .before .before .before .before .before .before))
+sub-write-part c = omega (arith, begins (c .before .before .before .before .before .before .before .before))
 
 part-write-part-start : tie.Need-part-write-part-start
-part-write-part-start c = omega (arith, begins (c .before .before .before .before .before .before .before .before .before))
+part-write-part-start c = omega (arith, begins (c .before .before .before .before .before .before .before .before))
 
 part-write-part-end : tie.Need-part-write-part-end
 part-write-part-end c = search needs
 
 write-part-requires : tie.Need-write-part-requires
 write-part-requires c κs =
-    let start = c .before .before .before .before .before .before .before .before .before .before .before in
+    let start = c .before .before .before .before .before .before .before .before .before .before in
     let pre = start .pre in
     ((pre .0, column-inside (pre .0 .size) (start .args .low .now) (pre .1) (pre .3), search needs), (pre .2, pre .4))
 
@@ -50,16 +47,14 @@ returns : tie.Need-returns
 returns c =
     let call = c .before .before in
     let low-nodes = call .before .before .before .before .before in
-    let threshold = low-nodes .before .before in
-    let pre = threshold .before .before .before .before .before .pre in
-    low-part (pre .0 .lists .graph) _ _ (pre .2) (threshold .threshold-at .ensures) (low-nodes .low-nodes .ensures)
+    let pre = low-nodes .before .before .before .before .before .before .pre in
+    low-part (pre .0 .lists .graph) _ _ _ (pre .2) (low-nodes .low-nodes .ensures)
     (call .write-part .ensures)
 
 pub low-part-spec : {M : Type 1} → statement M
 low-part-spec =
     tie.close
     (tie.spec
-    threshold-at-requires
     slice-aggregate-low-nodes
     low-nodes-requires
     slice-aggregate-write-part

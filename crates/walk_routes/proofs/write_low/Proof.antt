@@ -6,7 +6,6 @@ use borrow.Author.Needs.{needs}
 use lib.ListN.{length, replicate, length-take}
 use Rattle.model.specs.Basics.{none}
 use Rattle.model.specs.Survey.{neighboursOf}
-use Rattle.model.specs.Threshold.{threshold}
 use Rattle.model.specs.Walk.{byLow}
 use Rattle.walk_routes.proofs.FitLaws.{Found, found, none-refused, part-short, part-fits}
 use Rattle.walk_routes.proofs.write_low.Statement.{statement}
@@ -22,8 +21,8 @@ part : (c : tie.Else1)
     → (let low-part = c .before .before .low-part in
     let args = c .before .before .before .before .before .before .before .before .args in
     let G = neighboursOf (args .starts .now) (args .neighbours .now) in
-    Found (byLow (args .n) (threshold (args .n)) G (args .low .now) (args .a) (args .b))
-    (low-part .result) (low-part .last .1 .1 .1 .1 .1 .1 .0))
+    Found (byLow (args .n) (args .s) G (args .low .now) (args .a) (args .b))
+    (low-part .result) (low-part .last .1 .1 .1 .1 .1 .1 .1 .0))
 part c = found (c .before .before .low-part .ensures) (c .if1 .left)
 
 slice-aggregate-low-part : tie.Need-slice-aggregate-low-part

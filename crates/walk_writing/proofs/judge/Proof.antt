@@ -1,125 +1,173 @@
 -- `walk_writing::judge` meets its contract: the refusals are judged in their order.
 -- Assumes nothing.
-use mathlib.Core.Path.{_≡_, sym, _∙_}
-use mathlib.Core.Bool.{false}
+use mathlib.Core.Path.{_≡_, sym, ap₂, _∙_}
+use mathlib.Core.Bool.{Bool, true, false, _||_}
 use borrow.Author.Needs.{needs}
-use borrow.Author.Tests.{not-true, not-false, lt-ltb, le-ltb, lt-leb, le-leb}
+use borrow.Author.Tests.{not-true, not-false, ltb-false, leb-false}
 use lib.ListN.{length}
-use Rattle.model.specs.Survey.{badSize}
+use Rattle.model.specs.Survey.{badSize, shortStarts, isSurvey}
+use Rattle.model.specs.Threshold.{badThreshold}
 use Rattle.model.specs.Tables.{shortTables}
+use Rattle.model.specs.Pair.{badPair}
 use Rattle.model.specs.Walking.{walkOf, walking}
-use Rattle.model.proofs.Tests.{true-T}
+use Rattle.model.proofs.Tests.{of-or-false}
 use Rattle.model.proofs.Outcomes.{never}
-use Rattle.model.proofs.Acceptance.{survey-facts, good-size, small-size, large-size}
+use Rattle.model.proofs.Acceptance.{size-bounds, tests-facts}
 use Rattle.model.proofs.Entries.{of-long-tables}
-use Rattle.walk_writing.proofs.JudgeLaws.{Listed, nodes-left, ready}
+use Rattle.walk_writing.proofs.JudgeLaws.{walk-short, Listed, ready}
 use Rattle.walk_writing.proofs.judge.Statement.{statement}
 use Rattle.walk_writing.proofs.judge.Tie as tie
 
 -- the count of nodes is allowed
-sized : (c : tie.Else2) → badSize (c .before .before .before .before .before .before .before .args .n) ≡ false
-sized c = good-size _ (c .before .if1 .left) (c .if2 .left)
+module _ (c : tie.Else1) where
+  abbrev start : tie.Start
+  start = c .before .before .before .before .before .before .before
 
--- no table is short
-tables-long : (c : tie.Else4)
-    → (let args = c .before .before .before .before .before .before .before .before .before .before .args in
-    shortTables (args .n) (length (args .full .now)) (length (args .low .now)) (length (args .report .now)) ≡ false)
-tables-long c = sym (c .before .tables-short .ensures) ∙ c .if4 .left
+  sized : badSize (start .args .n) ≡ false
+  sized = sym (c .before .bad-size .ensures) ∙ c .if1 .left
 
--- the lists have passed their tests
-listed : (c : tie.Else5)
-    → (let args = c .before .before .before .before .before .before .before .before .before .before .before .before .args in
-    Listed (args .n) (args .starts .now) (args .neighbours .now) (args .full .now) (args .low .now) (args .report .now))
-listed c =
-    let tables = c .before .before in
-    let room = tables .before .before in
-    let count = room .before in
-    let fits = of-long-tables _ _ _ _ (tables-long tables) in
-    record {
-      survey = record {
-        some-node = count .before .if1 .left;
-        size = count .if2 .left;
-        room = room .if3 .left;
-        lists = survey-facts _ _ _ (true-T _ (sym (c .before .is-survey .ensures) ∙ not-false _ (c .if5 .left)));
-      };
-      in-full = fits .0;
-      in-low = fits .1;
-      in-report = fits .2;
-    }
+-- the tests of the threshold and of the lists' lengths are made
+module _ (c : tie.After-short-tables) where
+  abbrev size : tie.Else1
+  size = c .before .before .before
+
+  above-is : c .before .before .bad-threshold .result ≡ badThreshold (start size .args .t)
+  above-is = c .before .before .bad-threshold .ensures
+
+  short-is : let args = start size .args in (c .before .short-starts .result || c .short-tables .result)
+      ≡ (shortStarts (args .n) (length (args .starts .now))
+      || shortTables (args .n) (length (args .full .now)) (length (args .low .now)) (length (args .report .now)))
+  short-is = ap₂ (λ (a b : Bool). a || b) (c .before .short-starts .ensures) (c .short-tables .ensures)
+
+-- the threshold is allowed
+split : (c : tie.Else2) → badThreshold (start (size (c .before)) .args .t) ≡ false
+split c = sym (above-is (c .before)) ∙ c .if2 .left
+
+-- the lists are long enough
+module _ (c : tie.Else3) where
+  abbrev made : tie.After-short-tables
+  made = c .before .before
+
+  starts-long : let args = start (size made) .args in shortStarts (args .n) (length (args .starts .now)) ≡ false
+  starts-long = of-or-false _ _ (sym (short-is made) ∙ c .if3 .left) .0
+
+  tables-long : let args = start (size made) .args in
+      shortTables (args .n) (length (args .full .now)) (length (args .low .now)) (length (args .report .now)) ≡ false
+  tables-long =
+      let args = start (size made) .args in
+      of-or-false (shortStarts (args .n) (length (args .starts .now))) _ (sym (short-is made) ∙ c .if3 .left) .1
+
+-- the two lists are a survey
+module _ (c : tie.Else4) where
+  abbrev lists : tie.Else3
+  lists = c .before .before
+
+  survey : let args = start (size (made lists)) .args in isSurvey (args .n) (args .starts .now) (args .neighbours .now) ≡ true
+  survey = sym (c .before .is-survey .ensures) ∙ not-false _ (c .if4 .left)
+
+-- and the two nodes are below n
+module _ (c : tie.Else5) where
+  abbrev accepted : tie.Else4
+  accepted = c .before .before
+
+  nodes : let args = start (size (made (lists accepted))) .args in badPair (args .n) (args .a) (args .b) ≡ false
+  nodes = sym (c .before .bad-pair .ensures) ∙ c .if5 .left
+
+  listed : let args = start (size (made (lists accepted))) .args in
+      Listed (args .n) (args .starts .now) (args .neighbours .now) (args .full .now) (args .low .now) (args .report .now) (args .a) (args .b)
+  listed =
+      let l = lists accepted in
+      let fits = of-long-tables _ _ _ _ (tables-long l) in
+      let below = of-or-false _ _ nodes in
+      record {
+        survey = tests-facts _ _ _ (sized (size (made l))) (starts-long l) (rw (survey accepted));
+        in-full = fits .0;
+        in-low = fits .1;
+        in-report = fits .2;
+        first = leb-false _ _ (below .0);
+        last = leb-false _ _ (below .1);
+      }
+
+bad-size-requires : tie.Need-bad-size-requires
+bad-size-requires c κs = search needs
 
 returns : tie.Need-returns
 unfolding walking walkOf
-returns c = (λ w. rw (small-size _ (c .if1 .taken)), λ x q. never q)
+returns c = (λ w. rw (sym (c .before .bad-size .ensures) ∙ c .if1 .taken), λ x q. never q)
+
+bad-threshold-requires : tie.Need-bad-threshold-requires
+bad-threshold-requires c κs = search needs
+
+short-starts-requires : tie.Need-short-starts-requires
+short-starts-requires c κs = size-bounds _ (sized (c .before)) .1
+
+short-tables-requires : tie.Need-short-tables-requires
+short-tables-requires c κs = size-bounds _ (sized (c .before .before)) .1
 
 returns-2 : tie.Need-returns-2
 unfolding walking walkOf
-returns-2 c = (λ w. rw (large-size _ (c .if2 .taken)), λ x q. never q)
-
-add-if3 : tie.Need-add-if3
-add-if3 c = search needs
+returns-2 c = (λ w. rw (sized (size (c .before)), sym (above-is (c .before)) ∙ c .if2 .taken), λ x q. never q)
 
 returns-3 : tie.Need-returns-3
-unfolding walking walkOf
-returns-3 c = (λ w. rw (sized (c .before), lt-ltb _ _ (c .if3 .taken)), λ x q. never q)
+unfolding walkOf
+returns-3 c =
+    let m = c .before .before in
+    let short = sym (short-is m) ∙ c .if3 .taken in
+    (λ w. walk-short _ _ _ _ _ _ _ _ _ w (sized (size m)) (split (c .before)) short, λ x q. never q)
 
-tables-short-requires : tie.Need-tables-short-requires
-tables-short-requires c κs = search needs
+is-survey-requires : tie.Need-is-survey-requires
+is-survey-requires c κs =
+    let bounds = size-bounds _ (sized (size (made c))) in
+    (bounds .0, bounds .1, ltb-false _ _ (starts-long c))
 
 returns-4 : tie.Need-returns-4
 unfolding walking walkOf
 returns-4 c =
-    let room = c .before .before in
-    let short = sym (c .before .tables-short .ensures) ∙ c .if4 .taken in
-    (λ w. rw (sized (room .before), le-ltb _ _ (room .if3 .left), short), λ x q. never q)
+    let l = c .before .before in
+    let no-survey = sym (c .before .is-survey .ensures) ∙ not-true _ (c .if4 .taken) in
+    (λ w. rw (sized (size (made l)), split (l .before), starts-long l, tables-long l, no-survey), λ x q. never q)
 
-is-survey-requires : tie.Need-is-survey-requires
-is-survey-requires c κs = search needs
+bad-pair-requires : tie.Need-bad-pair-requires
+bad-pair-requires c κs = search needs
 
 returns-5 : tie.Need-returns-5
 unfolding walking walkOf
 returns-5 c =
-    let tables = c .before .before in
-    let room = tables .before .before in
-    let no-survey = sym (c .before .is-survey .ensures) ∙ not-true _ (c .if5 .taken) in
-    (λ w. rw (sized (room .before), le-ltb _ _ (room .if3 .left), tables-long tables, no-survey), λ x q. never q)
-
-returns-6 : tie.Need-returns-6
-unfolding walkOf
-returns-6 c = (λ w. nodes-left (listed (c .before)) _ _ w ∙ rw (le-leb _ _ (c .if6 .taken)), λ x q. never q)
-
-returns-7 : tie.Need-returns-7
-unfolding walkOf
-returns-7 c =
-    let lists = listed (c .before .before) in
-    (λ w. nodes-left lists _ _ w ∙ rw (lt-leb _ _ (c .before .if6 .left), le-leb _ _ (c .if7 .taken)), λ x q. never q)
+    let s = c .before .before in
+    let l = lists s in
+    let outside = sym (c .before .bad-pair .ensures) ∙ c .if5 .taken in
+    (λ w. rw (sized (size (made l)), split (l .before), starts-long l, tables-long l, survey s, outside), λ x q. never q)
 
 pair-answer-requires : tie.Need-pair-answer-requires
 pair-answer-requires c κs =
-    let lists = listed (c .before .before) in
-    (lists .survey .size, lists .in-full, lists .in-low, lists .in-report, c .before .if6 .left, c .if7 .left)
+    let l = listed c in
+    (l .survey .size, l .in-full, l .in-low, l .in-report, l .first, l .last)
 
-returns-8 : tie.Need-returns-8
-returns-8 c =
-    let lists = listed (c .before .before .before) in
-    let a-below = c .before .before .if6 .left in
-    let b-below = c .before .if7 .left in (
-      λ w. nodes-left lists _ _ w ∙ rw (c .pair-answer .ensures, lt-leb _ _ a-below, lt-leb _ _ b-below),
-      λ x q. ready lists a-below b-below (sym (c .pair-answer .ensures) ∙ q),
+returns-6 : tie.Need-returns-6
+unfolding walking
+returns-6 c =
+    let last = c .before in
+    let s = accepted last in
+    let l = lists s in
+    let answer = c .pair-answer .ensures in (
+      λ w. rw (sized (size (made l)), split (l .before), starts-long l, tables-long l, survey s, nodes last, answer),
+      λ x q. ready (listed last) (sym answer ∙ q),
     )
 
 pub judge-spec : {M : Type 1} → statement M
 judge-spec =
     tie.close
     (tie.spec
+    bad-size-requires
     returns
+    bad-threshold-requires
+    short-starts-requires
+    short-tables-requires
     returns-2
-    add-if3
     returns-3
-    tables-short-requires
-    returns-4
     is-survey-requires
+    returns-4
+    bad-pair-requires
     returns-5
-    returns-6
-    returns-7
     pair-answer-requires
-    returns-8)
+    returns-6)

@@ -23,9 +23,15 @@ enum-known-k c = search needs
 enum-known-x : tie.Need-enum-known-x
 enum-known-x c = search needs
 
+in-force-requires : tie.Need-in-force-requires
+in-force-requires c κs =
+    let answered = c .before in
+    let survey = answered .before .before .judge .ensures .1 _ (ap pairAnswer (answered .x .given .1)) .survey in
+    (survey .some-node, survey .size)
+
 write-route-requires : tie.Need-write-route-requires
 write-route-requires c κs =
-    let answered = c .before .before in
+    let answered = c .before .before .before in
     let judged = answered .before .before in
     let filled = judged .before .before .before in
     let start = filled .before .before .before .before .before .before .before .before in (
@@ -50,12 +56,13 @@ returns-2 : tie.Need-returns-2
 unfolding walkOf
 returns-2 c =
     let call = c .before .before in
-    let answered = call .before .before .before in
+    let in-force = call .before .before in
+    let answered = in-force .before .before in
     let judged = answered .before .before in
     let filled = judged .before .before .before in
     written (
     call .write-route .ensures
-    ∙ rw (judged .judge .ensures .0 _, answered .x .given .1, filled .fill16 .ensures, length-replicate)
+    ∙ rw (judged .judge .ensures .0 _, answered .x .given .1, filled .fill16 .ensures, length-replicate, in-force .in-force .ensures)
     )
 
 pub write-walk-spec : {M : Type 1} → statement M
@@ -66,6 +73,7 @@ write-walk-spec =
     judge-requires
     enum-known-k
     enum-known-x
+    in-force-requires
     write-route-requires
     same-length
     returns
