@@ -6,7 +6,7 @@ use mathlib.Core.Bool.{Bool, true, false, not, _&&_}
 use mathlib.Core.List.{List}
 use Prim.Native.Nat.{ℕ, _+_, _/_, _%_, _≤_, _<_}
 use native.Mathlib.Omega.{arith}
-use borrow.Author.Tests.{lt-ltb, le-ltb, ltb-false}
+use borrow.Author.Tests.{le-ltb, ltb-false}
 use lib.Dec.{T, eqb, ltb, leb, eqb→eq, leb→le, le→leb, ltb→lt, lt→ltb, T-not, not-T}
 use lib.ListN.{length, getD}
 use Rattle.model.specs.Answers.{Outcome, refused, answered, isAnswered}
@@ -14,8 +14,8 @@ use Rattle.model.specs.Basics.{upTo, has, all, keep}
 use Rattle.model.specs.Survey.{Graph, neighboursOf, ascending, isSurvey, outside, badSize, shortStarts, acceptRefusals, accepting}
 use Rattle.model.specs.Survey.{accepted, IsSurvey, IsGraph, Accepted}
 use Rattle.model.specs.Graph.{linked}
-use Rattle.model.proofs.Outcomes.{Passed, judged-done, of-judged}
-use Rattle.model.proofs.Tests.{not-not, passed, and-l, and-r, and-i, or-r, or-false, of-or-false, T-true, same-test, eq-T}
+use Rattle.model.proofs.Outcomes.{judged-done, of-judged}
+use Rattle.model.proofs.Tests.{not-not, passed, and-l, and-r, and-i, or-false, of-or-false, same-test, eq-T}
 use Rattle.model.proofs.Lists.{of-all, all-of, has-upTo, of-upTo, keep-same, keep-grows, keep-length, length-upTo}
 use Rattle.model.proofs.Ascending.{ascending-keep}
 
@@ -99,14 +99,6 @@ of-in-range most n e = let h = of-or-false _ _ e in (ltb-false _ _ (h .0), ltb-f
 pub good-size : (n : ℕ) → 1 ≤ n → n ≤ 1024 → badSize n ≡ false
 unfolding badSize
 good-size = in-range 1024
-
-pub small-size : (n : ℕ) → n < 1 → badSize n ≡ true
-unfolding badSize
-small-size n h = rw (lt-ltb _ _ h)
-
-pub large-size : (n : ℕ) → 1024 < n → badSize n ≡ true
-unfolding badSize
-large-size n h = T-true (outside 1024 n) (or-r (ltb n 1) _ (lt→ltb _ _ h))
 
 pub size-bounds : (n : ℕ) → badSize n ≡ false → (1 ≤ n) × (n ≤ 1024)
 unfolding badSize

@@ -1,6 +1,6 @@
 -- Demand 3 for the calls themselves, with their refusals: for an accepted survey, and tables built from it.
 -- Assumes nothing.
-use mathlib.Core.Path.{_≡_, refl, sym, ap, _∙_, subst}
+use mathlib.Core.Path.{_≡_, sym, ap, _∙_, subst}
 use mathlib.Core.Logic.{⊎-elim, _↔_}
 use mathlib.Core.Bool.{false}
 use mathlib.Core.List.{List, _++_}

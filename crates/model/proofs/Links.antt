@@ -1,7 +1,7 @@
 -- The link lines. Reading accepts them exactly where each line names a link that is new.
 -- Assumes nothing.
 use mathlib.Core.Path.{_≡_, refl, sym, ap, ap₂, _∙_, subst}
-use mathlib.Core.Bool.{Bool, false, _||_}
+use mathlib.Core.Bool.{Bool, false}
 use mathlib.Core.List.{List, [], _∷_, _++_}
 use mathlib.Core.Option.{Option, none as missing, some}
 use Prim.Native.Nat.{ℕ, zero, suc, _+_, _*_, _^_, _≤_, _<_}
@@ -9,11 +9,9 @@ use native.Mathlib.Nat.{lt-of-lt-of-le, lt-of-le-of-lt}
 use native.Mathlib.Omega.{arith}
 use borrow.Author.Tests.{lt-leb, leb-false, ne-eqb, le-ltb, ltb-false, eqb-false}
 use lib.ListN.{length}
-use lib.Dec.{eqb, ltb, leb}
 use Rattle.model.specs.Answers.{Outcome, answered}
 use Rattle.model.specs.Basics.{gather}
 use Rattle.model.specs.SurveyText.{line, lineOf, linkLines, surveyText}
-use Rattle.model.specs.Survey.{outside}
 use Rattle.model.specs.Reading.{limitRefusals, limitsOf, named, onLinks, linkRefusals, linkOf, readOn, readLinks, Parsed, parsed, countsOf, parseLinks, parse}
 use Rattle.model.proofs.Outcomes.{never, judged-passed, of-then, of-mapped}
 use Rattle.model.proofs.Tests.{or-false, of-or-false}

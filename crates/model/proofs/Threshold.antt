@@ -1,11 +1,11 @@
 -- The search for the threshold finds it: the rule holds, and holds for no smaller number. And the threshold in force.
 -- Assumes nothing.
 use mathlib.Core.Path.{_≡_, refl}
-use mathlib.Core.Bool.{true, false}
+use mathlib.Core.Bool.{false}
 use Prim.Native.Nat.{ℕ, zero, suc, _+_, _*_, _^_, _≤_, _<_, zero-le}
 use native.Mathlib.Nat.{le-refl, le-mul-of-pos-right, zero-lt-suc, two-pow-succ}
 use native.Mathlib.Omega.{arith}
-use borrow.Author.Tests.{lt-ltb, le-ltb, ltb-false, ne-eqb}
+use borrow.Author.Tests.{le-ltb, ltb-false, ne-eqb}
 use lib.Dec.{ltb, leb, leb→le, le→leb, ltb→lt, lt→ltb}
 use Rattle.model.specs.Basics.{none}
 use Rattle.model.specs.Threshold.{bitLength, threshold, inForce, badThreshold}
@@ -71,10 +71,6 @@ in-force-given n t d = rw (ne-eqb t 0 d) refl
 pub good-threshold : (t : ℕ) → t ≤ 1024 → badThreshold t ≡ false
 unfolding badThreshold
 good-threshold t h = le-ltb 1024 t h
-
-pub large-threshold : (t : ℕ) → 1024 < t → badThreshold t ≡ true
-unfolding badThreshold
-large-threshold t h = lt-ltb 1024 t h
 
 pub threshold-bound : (t : ℕ) → badThreshold t ≡ false → t ≤ 1024
 unfolding badThreshold
