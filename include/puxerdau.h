@@ -4,10 +4,11 @@
  * The functions are in libpuxerdau.a, whose objects are for x86-64 with the System V ABI and for nothing else. They need memcpy and memset
  * from elsewhere, and use SSE2 registers and the red zone, the 128 bytes below the stack pointer.
  *
- * A list is a pointer and then its count of entries. Every count, node number and entry is allowed: what does not fit is refused. The
- * caller owes only that each pointer, also of an empty list, is not null and is aligned for its entries; that so many entries stand behind
- * it; that a list which is written overlaps no other list of the call; that no other thread writes to a list of the call, or reads one
- * that is written, until it returns; and that PUXERDAU_STACK_BYTES of stack are free (PUXERDAU_LIST_STACK_BYTES for puxerdau_list).
+ * A list is a pointer and then its count of entries. Every count, threshold, node number and entry is allowed: what does not fit is
+ * refused. The caller owes only that each pointer, also of an empty list, is not null and is aligned for its entries; that so many
+ * entries stand behind it; that a list which is written overlaps no other list of the call; that no other thread writes to a list of the
+ * call, or reads one that is written, until it returns; and that PUXERDAU_STACK_BYTES of stack are free (PUXERDAU_LIST_STACK_BYTES for
+ * puxerdau_list).
  *
  * What is known of the functions, and how:
  *  - Proved of their source, on its language's abstract machine: what each answers and what it leaves in every list, also where it refuses;
@@ -154,9 +155,9 @@ uint64_t puxerdau_ask(size_t n, const uint16_t *full, size_t full_length, const 
                       const uint16_t *report, size_t report_length, size_t a, size_t b);
 
 /* Writes the walk of a and b: report + 1 nodes, then none. By PUXERDAU_LINK these are a and b; where the two lists do not link them it is
- * refused 11. It is given the threshold that the tables were built by; with another one it is still refused 11 or gives a chain of links of
- * the reported length. If refused (in this order: 2, 14, 8, 9, 10, 11, and 8 for a short `walk`), or with no route, every entry is none.
- * Answers as asking does, if it is not refused. */
+ * refused 11. The threshold is that of the tables; with another one that is not refused the walk may be refused 11, and one that is given
+ * out is a chain of links of the reported length all the same. If refused (in this order: 2, 14, 8, 9, 10, 11, and 8 for a short `walk`),
+ * or with no route, every entry is none. Answers as asking does, if it is not refused. */
 uint64_t puxerdau_walk(size_t n, size_t threshold, const uint32_t *starts, size_t starts_length, const uint16_t *neighbours,
                        size_t neighbours_length, const uint16_t *full, size_t full_length, const uint16_t *low, size_t low_length,
                        const uint16_t *report, size_t report_length, size_t a, size_t b, uint16_t *walk, size_t walk_length);
@@ -182,7 +183,7 @@ struct puxerdau_survey {
     size_t neighbours_length;
 };
 
-/* Its tables and its hub list. The threshold is what building splits nodes by and what a walk is given, so that the two cannot differ. */
+/* Its tables and its hub list. The caller sets the threshold before building, which splits nodes by it; a walk is then given the same. */
 struct puxerdau_tables {
     size_t threshold; /* 0 for the stored table's */
     uint16_t *full;

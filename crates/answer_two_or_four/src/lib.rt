@@ -93,6 +93,7 @@ pub fn test(n: usize, t: usize, starts: &[u32], neighbours: &[u16]) -> Testing
     if base_refusals::bad_size(n) {
         return Testing::Refused(Refusal::NodeCount);
     }
+    // the tests of 14 and of 8, which are acted on in this order
     let above = base_refusals::bad_threshold(t);
     let short = base_refusals::short_starts(n, starts.len());
     if above {

@@ -1,4 +1,4 @@
-// Refusals: the number of each, and the tests that several calls share, one for each refusal.
+// Refusals: the number of each, and the tests that several calls share.
 use model::Refusal;
 ghost use mathlib.Core.Path.{_≡_};
 ghost use Prim.Native.Nat.{_≤_};

@@ -10,15 +10,15 @@ use native.Mathlib.Omega.{arith}
 use lib.Dec.{T, leb, leb→le, le→leb, not-T, T-not}
 use lib.ListN.{length}
 use Rattle.model.specs.Basics.{none, upTo, has, all, keep}
-use Rattle.model.specs.Survey.{Graph, ascending, IsGraph}
+use Rattle.model.specs.Survey.{Graph, neighboursOf, ascending, IsGraph, Accepted}
 use Rattle.model.specs.Graph.{linked}
 use Rattle.model.specs.Hubs.{isHigh, closed, gain, best, greedy, hubs}
 use Rattle.model.proofs.Tests.{passes, lt-or}
 use Rattle.model.proofs.Lists.{has-head, has-tail, of-cons, all-of, of-all, has-keep, of-keep, has-upTo, of-upTo, First}
-use Rattle.model.proofs.Lists.{found, nothing, first-below, first-is, keep-split, keep-length, length-upTo, length-pos}
+use Rattle.model.proofs.Lists.{found, nothing, first-below, first-is, keep-split, keep-length, keep-none, length-upTo, length-pos}
 use Rattle.model.proofs.Loops.{below-next}
 use Rattle.model.proofs.Ascending.{ascending-tail, ascending-above}
-use Rattle.model.proofs.Acceptance.{linked-of, linked-sym}
+use Rattle.model.proofs.Acceptance.{linked-of, linked-sym, few-neighbours}
 
 -- some node below n has the greatest value
 greatest : (f : ℕ → ℕ) (n : ℕ) → 0 < n → (v : ℕ) × (v < n) × ((w : ℕ) → w < n → f w ≤ f v)
@@ -166,6 +166,12 @@ module _ (n : ℕ) (G : Graph) where
       let U = keep (isHigh s G) (upTo n) in
       omega (arith, greedy-length (length U) U, keep-length (isHigh s G) (upTo n), length-upTo n)
 
+  -- where all nodes are low there is none
+  pub no-hubs : (s : ℕ) → ((v : ℕ) → v < n → length (G v) < s) → hubs n s G ≡ []
+  unfolding hubs greedy isHigh
+  no-hubs s low =
+      rw (keep-none (isHigh s G) (upTo n) (λ v m t. let l = low v (of-upTo n v m) in omega (arith, leb→le s (length (G v)) t))) refl
+
   -- ---- no hub is chosen twice
 
   -- the best node of a list that is not empty covers a node of it
@@ -216,3 +222,7 @@ high-linked n s G g v b t =
     (λ e. inl (rw e (c .2)))
     (λ m. inr (h, c .2, linked-sym _ _ _ _ (linked-of _ _ g _ _ (c .1) m)))
     (of-cons _ _ _ (c .3))
+
+-- with a threshold of n or more all nodes of a survey are low
+pub none-high : (n s : ℕ) (starts neighbours : List ℕ) → Accepted n starts neighbours → n ≤ s → hubs n s (neighboursOf starts neighbours) ≡ []
+none-high n s starts neighbours acc h = no-hubs n _ s (λ v b. omega (arith, few-neighbours n starts neighbours acc v b))

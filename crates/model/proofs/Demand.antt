@@ -29,7 +29,7 @@ use Rattle.model.specs.Asking.{askRefusals, asking}
 use Rattle.model.specs.Walking.{AfterWalking, refuseWalk, fit, walkOf, walkRefusals, walking}
 use Rattle.model.specs.Testing.{testRefusals, testing}
 use Rattle.model.specs.Demand.{AllowedAnswer, AskRight, WalkSound, WalkAnswers, WalkRight, RightVerdict, TestRight, BuildRight}
-use Rattle.model.proofs.Outcomes.{never, numberIn, judged-done, of-judged, judged-passed}
+use Rattle.model.proofs.Outcomes.{never, numberIn, judged-done, of-judged, judged-none}
 use Rattle.model.proofs.Tests.{or-false, of-or-false, lt-or}
 use Rattle.model.proofs.Chains.{walked-chain}
 use Rattle.model.proofs.Acceptance.{sized, starts-long, is-survey, tests-facts, no-loop}
@@ -104,15 +104,15 @@ walking-sound n t starts neighbours full low report a b w =
     let survey = lengths .1 .1 in
     let below = of-or-false _ _ (survey .1 .0) in
     let g = tests-facts n starts neighbours (p .0) (lengths .0) (survey .0) .lists .graph in
-    given-out-sound _ _ _ w (walk-given-out (inForce n t) g full low (leb-false _ _ (below .0)) (leb-false _ _ (below .1)) _ report w))
+    given-out-sound _ _ _ w (walk-given-out _ g full low (leb-false _ _ (below .0)) (leb-false _ _ (below .1)) _ report w))
 
--- ---- what an answer says of the tests before it
+-- ---- what an answer says of the refusals before it
 
-asking-passed : (n : ℕ) (full low report : List ℕ) (a b : ℕ) {x : Answer} → asking n full low report a b ≡ answered x
+pub asking-passed : (n : ℕ) (full low report : List ℕ) (a b : ℕ) {x : Answer} → asking n full low report a b ≡ answered x
     → (n * n ≤ length full) × (n * n ≤ length low) × (n * n ≤ length report) × (a < n) × (b < n) × (pair n full low report a b ≡ answered x)
 unfolding asking
 asking-passed n full low report a b e =
-    let p = judged-passed (askRefusals n full low report a b) _ e in
+    let p = judged-none (askRefusals n full low report a b) _ e in
     let r = of-long-tables n (length full) (length low) (length report) (p .0 .1 .0) in
     let h = of-or-false _ _ (p .0 .1 .1 .0) in
     (r .0, r .1, r .2, leb-false n a (h .0), leb-false n b (h .1), p .1)
@@ -144,7 +144,7 @@ module _ {n : ℕ} {starts neighbours : List ℕ} (acc : Accepted n starts neigh
     right = verdict-right _ _ _ (acc .lists .graph) (acc .size);
   }
 
-  -- with tables that are long enough and two nodes below n, all tests of asking and walking are passed
+  -- with tables that are long enough and two nodes below n, no refusal of asking and walking applies, up to 10
   module _ (full low report : List ℕ) (hf : n * n ≤ length full) (hl : n * n ≤ length low) (hr : n * n ≤ length report) {a b : ℕ}
       (ha : a < n) (hb : b < n) where
     below : badPair n a b ≡ false

@@ -25,7 +25,7 @@ use Rattle.model.specs.Dimacs.{Item, comment, edge, itemText, commentsTe
 use Rattle.model.specs.Dimacs.{IsFile, IsImported, ImportRight, ExportRight}
 use Rattle.model.proofs.Tests.{picked, T-true, true-T, or-false, of-or-false, or-e, or-turned}
 use Rattle.model.proofs.Lists.{none-in}
-use Rattle.model.proofs.Outcomes.{never, judged-passed, of-then, of-mapped}
+use Rattle.model.proofs.Outcomes.{never, judged-none, of-then, of-mapped}
 use Rattle.model.proofs.Acceptance.{in-range, of-in-range, accepting-facts, accepting-answers}
 use Rattle.model.proofs.Lines.{two-complete, two-sound}
 use Rattle.model.proofs.Comments.{comment-goes, end-stays, comments-go, only-comments, numbers-stay, first-numbers}
@@ -73,7 +73,7 @@ module _ (n : ℕ) where
   unfolding edgeOf
   of-edge-taken missing x e = never e
   of-edge-taken (some l) x e =
-      let p = judged-passed (edgeRefusals n (l .0) (l .1)) _ e in
+      let p = judged-none (edgeRefusals n (l .0) (l .1)) _ e in
       let ends = of-or-false _ _ (p .0 .0) in
       let a = of-in-range _ (l .0) (ends .0) in
       let b = of-in-range _ (l .1) (ends .1) in

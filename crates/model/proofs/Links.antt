@@ -13,7 +13,7 @@ use Rattle.model.specs.Answers.{Outcome, answered}
 use Rattle.model.specs.Basics.{gather}
 use Rattle.model.specs.SurveyText.{line, lineOf, linkLines, surveyText}
 use Rattle.model.specs.Reading.{limitRefusals, limitsOf, named, onLinks, linkRefusals, linkOf, readOn, readLinks, Parsed, parsed, countsOf, parseLinks, parse}
-use Rattle.model.proofs.Outcomes.{never, judged-passed, of-then, of-mapped}
+use Rattle.model.proofs.Outcomes.{never, judged-none, of-then, of-mapped}
 use Rattle.model.proofs.Tests.{or-false, of-or-false}
 use Rattle.model.proofs.Acceptance.{in-range, of-in-range}
 use Rattle.model.proofs.Lines.{line-complete, line-sound}
@@ -47,7 +47,7 @@ module _ (n : ℕ) (given : ℕ → ℕ → Bool) where
   unfolding linkOf
   of-link-taken missing x e = never e
   of-link-taken (some l) x e =
-      let p = judged-passed (linkRefusals n given (l .0) (l .1)) _ e in
+      let p = judged-none (linkRefusals n given (l .0) (l .1)) _ e in
       let four = p .0 .0 in
       let five = p .0 .1 .0 in
       let six = p .0 .1 .1 .0 in
@@ -132,7 +132,7 @@ module _ (N M p q : ℕ) where
   of-first-taken (some f) x e =
       let n = f .0 in
       let m = f .1 in
-      let passed = judged-passed (limitRefusals N M p q n m) _ e in
+      let passed = judged-none (limitRefusals N M p q n m) _ e in
       let two = passed .0 .0 in
       let three = passed .0 .1 .0 in
       let eight = passed .0 .1 .1 .0 in

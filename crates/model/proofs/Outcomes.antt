@@ -19,19 +19,19 @@ never {k = k} {x = x} e = let z : _≡_ {A = ℕ} 0 1 = cc in absurd (omega arit
 pub no-value : {A B : Type 0} {x : A} → missing ≡ some x → B
 no-value {x = x} e = let z : _≡_ {A = ℕ} 0 1 = cc in absurd (omega arith)
 
--- none of the tests passes
-abbrev pub Passed : Refusals → Type 0
-Passed [] = Unit {0}
-Passed (c ∷ cs) = (c .1 ≡ false) × Passed cs
+-- none of the refusals applies
+abbrev pub NoneApplies : Refusals → Type 0
+NoneApplies [] = Unit {0}
+NoneApplies (c ∷ cs) = (c .1 ≡ false) × NoneApplies cs
 
 -- then nothing is refused
-pub judged-done : {A : Type 0} (refuse : ℕ → A) (cs : Refusals) (done : A) → Passed cs → judged refuse cs done ≡ done
+pub judged-done : {A : Type 0} (refuse : ℕ → A) (cs : Refusals) (done : A) → NoneApplies cs → judged refuse cs done ≡ done
 judged-done refuse [] done p = refl
 judged-done refuse (c ∷ cs) done p = rw (p .0) (judged-done refuse cs done (p .1))
 
--- what holds of every refusal, and of what is done where no test passes, holds of what is judged
+-- what holds of every refusal, and of what is done where none applies, holds of what is judged
 pub of-judged : {A : Type 0} (P : A → Type 0) (refuse : ℕ → A) (cs : Refusals) (done : A)
-    → ((k : ℕ) → P (refuse k)) → (Passed cs → P done) → P (judged refuse cs done)
+    → ((k : ℕ) → P (refuse k)) → (NoneApplies cs → P done) → P (judged refuse cs done)
 of-judged P refuse [] done f g = g tt
 of-judged P refuse (c ∷ cs) done f g =
     picked P (c .1) _ _ (λ _. f (c .0)) (λ e. of-judged P refuse cs done f (λ p. g (e, p)))
@@ -42,10 +42,10 @@ pub judged-either : {A : Type 0} (refuse : ℕ → A) (k : ℕ) (a b : Bool) (cs
 judged-either refuse k true b cs done = refl
 judged-either refuse k false b cs done = refl
 
--- where there is an answer, no test passed
-pub judged-passed : {A : Type 0} (cs : Refusals) (o : Outcome A) {x : A} → judged refused cs o ≡ answered x
-    → Passed cs × (o ≡ answered x)
-judged-passed cs o {x} = of-judged (λ q. q ≡ answered x → Passed cs × (o ≡ answered x)) refused cs o (λ k e. never e) (λ p e. (p, e))
+-- where there is an answer, none applies
+pub judged-none : {A : Type 0} (cs : Refusals) (o : Outcome A) {x : A} → judged refused cs o ≡ answered x
+    → NoneApplies cs × (o ≡ answered x)
+judged-none cs o {x} = of-judged (λ q. q ≡ answered x → NoneApplies cs × (o ≡ answered x)) refused cs o (λ k e. never e) (λ p e. (p, e))
 
 -- what was answered in two steps: each of them was answered
 pub of-then : {A B : Type 0} (o : Outcome A) (f : A → Outcome B) {x : B} → andThen o f ≡ answered x

@@ -41,7 +41,7 @@ use Rattle.model.proofs.Links.{AllFresh}
 use Rattle.model.proofs.Walks.{Chosen, to-itself, to-none, to-link, to-low, to-hub, bad-itself, bad-hub, chosen}
 use Rattle.model.proofs.Walks.{Sound, steps-sound, too-long, fit-long}
 use Rattle.model.proofs.Entries.{long-tables}
-use Rattle.model.proofs.Demand.{full-room, low-room, report-room, asks, walks, walking-short, walking-right}
+use Rattle.model.proofs.Demand.{full-room, low-room, report-room, asking-passed, asks, walks, walking-short, walking-right}
 use Rattle.model.proofs.ReadBack.{all-fresh, half-count, writing-answers}
 use Rattle.model.proofs.Dimacs.{exporting-answers}
 
@@ -278,6 +278,29 @@ walking-enough n t starts neighbours full low report a b w h =
     answers g ha hb (to-hub x f o y z) = walk g ha hb _
     answers g ha hb (bad-itself e f) = λ q. absurd (omega (arith, same-number 11 8 q))
     answers g ha hb (bad-hub x f o y z) = λ q. absurd (omega (arith, same-number 11 8 q))
+
+-- from any tables and with any threshold that is not refused, in such a list: where asking answers, the walk answers the same or is refused 11
+pub walk-or-11 : (n t : ℕ) (starts neighbours : List ℕ) → Accepted n starts neighbours → t ≤ 1024 → (full low report : List ℕ) (a b : ℕ)
+    → {x : Answer} → asking n full low report a b ≡ answered x → (w : ℕ) → 2 * n ≤ w
+    → (walking n t starts neighbours full low report a b w .answer ≡ answered x)
+    ⊎ (walking n t starts neighbours full low report a b w .answer ≡ refused 11)
+unfolding walkOf refuseWalk fit
+walk-or-11 n t starts neighbours acc small full low report a b {x} e w h =
+    let p = asking-passed n full low report a b e in
+    let o = walks acc full low report (p .0) (p .1) (p .2) (p .3) (p .4) small w ∙ ap (walkOf w n s G full low a b) (p .5) in
+    rw (ap (λ (r : AfterWalking). r .answer) o)
+    (at (walkNodes n s G full low a b (x .route)) (nodes-few n s G (acc .lists .graph) full low a b (p .3) (p .4) (x .route)))
+  where
+    G : Graph
+    G = neighboursOf starts neighbours
+
+    s : ℕ
+    s = inForce n t
+
+    at : (o : Option (List ℕ)) → ((l : List ℕ) → o ≡ some l → length l ≤ 2 * n)
+        → (fit w x o .answer ≡ answered x) ⊎ (fit w x o .answer ≡ refused 11)
+    at missing f = inr refl
+    at (some l) f = inl (ap (λ (r : AfterWalking). r .answer) (fit-long _ _ l (omega (arith, f l refl))))
 
 -- with tables built from an accepted survey, and the walk given their threshold, 2 n entries are always enough
 pub built-enough : (n t : ℕ) (starts neighbours : List ℕ) → Accepted n starts neighbours → t ≤ 1024 → (full low report : List ℕ)

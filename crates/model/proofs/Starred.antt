@@ -73,8 +73,8 @@ tables text t =
     building n t (lists text .starts) (lists text .neighbours) blank blank blank (replicate n none)
 
 -- what is asked: the threshold of n nodes; and where the caller gives the threshold t: a survey's high nodes, and its hub list; a pair's
--- answer; its walk in a list of w entries; the sum of its entries of Full through h; the test. Further, the fewest links between two
--- nodes, and the listing
+-- answer; its walk in a list of w entries; the sum of its entries of Full through h; the test; and building, walking and testing with lists
+-- that are all empty. Further, the fewest links between two nodes, and the listing
 pub data Question : Type 0 where
   threshold-of : (n : ℕ) → Question
   high-nodes hub-list : String → (t : ℕ) → Question
@@ -82,12 +82,14 @@ pub data Question : Type 0 where
   walk : String → (t a b w : ℕ) → Question
   hub-sum : String → (t a b h : ℕ) → Question
   test : String → (t : ℕ) → Question
+  build-empty walk-empty test-empty : (n t : ℕ) → Question
   apart : String → (a b : ℕ) → Question
   listing-of : String → Question
 
 pub data Reply : Type 0 where
   number : ℕ → Reply
   list : List ℕ → Reply
+  counted : Outcome ℕ → Reply
   report : Outcome Answer → Reply
   walked : AfterWalking → Reply
   verdict : Outcome TestResult → Reply
@@ -102,6 +104,9 @@ reply (walk text t a b w) =
     walked (walking (size text) t (lists text .starts) (lists text .neighbours) (made .full) (made .low) (made .report) a b w)
 reply (hub-sum text t a b h) = number (via (size text) (tables text t .full) a b h)
 reply (test text t) = verdict (testing (size text) t (lists text .starts) (lists text .neighbours))
+reply (build-empty n t) = counted (building n t [] [] [] [] [] [] .answer)
+reply (walk-empty n t) = report (walking n t [] [] [] [] [] 0 0 0 .answer)
+reply (test-empty n t) = verdict (testing n t [] [])
 reply (apart text a b) = number (fewest (linked (size text) (graph text)) (size text) a b)
 reply (listing-of text) = list (listing (bytes text))
 
@@ -139,6 +144,15 @@ starred =
     ∷ (walk course 1025 1 3 4, walked (record { answer = refused 14; walk = none ∷ none ∷ none ∷ none ∷ [] }))
     ∷ (test course 1, verdict (answered (record { verdict = Short; searches = 1 })))
     ∷ (test course 1025, verdict (refused 14))
+    ∷ (build-empty 1025 1025, counted (refused 2))
+    ∷ (build-empty 1 1025, counted (refused 14))
+    ∷ (build-empty 1 1024, counted (refused 8))
+    ∷ (walk-empty 1025 1025, report (refused 2))
+    ∷ (walk-empty 1 1025, report (refused 14))
+    ∷ (walk-empty 1 1024, report (refused 8))
+    ∷ (test-empty 1025 1025, verdict (refused 2))
+    ∷ (test-empty 1 1025, verdict (refused 14))
+    ∷ (test-empty 1 1024, verdict (refused 8))
     ∷ []
 
 pub starred-cases : map (λ c. reply (c .0)) starred ≡ map (λ c. c .1) starred

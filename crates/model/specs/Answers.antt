@@ -60,7 +60,7 @@ number FileForm = 13
 number BadThreshold = 14
 
 infix 10 _when_
--- a refusal by its number, given when the test passes (rule 10.1)
+-- a refusal by its number, which applies where the test is true (rule 10.1)
 abbrev pub _when_ : ℕ → Bool → ℕ × Bool
 k when t = (k, t)
 
@@ -68,7 +68,7 @@ k when t = (k, t)
 abbrev pub Refusals : Type 0
 Refusals = List (ℕ × Bool)
 
--- rule 10.1: the call refuses, as `refuse` says, with the number of the first of them whose test passes; where none does, it is `done`
+-- rule 10.1: the call refuses, as `refuse` says, with the number of the first of them that applies; where none does, it is `done`
 abbrev pub judged : {A : Type 0} → (refuse : ℕ → A) → Refusals → (done : A) → A
 judged refuse [] done = done
 judged refuse (c ∷ cs) done = if c .1 then refuse (c .0) else judged refuse cs done

@@ -11,14 +11,14 @@ use Rattle.model.specs.declared.Reading as read
 use Rattle.model.specs.Answers.{Outcome, refused, answered, mapAnswer, andThen, Refusals, _when_, judged, readAnswer}
 use Rattle.model.specs.Basics.{upTo, keep, gather, over}
 use Rattle.model.specs.SurveyText.{line}
-use Rattle.model.specs.Survey.{Graph, outside}
+use Rattle.model.specs.Survey.{Graph, outside, shortStarts}
 
 -- rule 10.2, behind the line's form: the refusals in their order, for any limits and for lists of p and q entries
 abbrev pub limitRefusals : (mostNodes mostLinks p q n m : ℕ) → Refusals
 limitRefusals mostNodes mostLinks p q n m =
     (2 when outside mostNodes n)
     ∷ (3 when ltb mostLinks m)
-    ∷ (8 when ltb p (n + 1) || ltb q (2 * m))
+    ∷ (8 when shortStarts n p || ltb q (2 * m))
     ∷ []
 
 -- rule 10.2: n, m and the text after the first line

@@ -20,7 +20,7 @@ use Rattle.model.specs.Demand.{IsBuilt}
 use Rattle.model.specs.Writing.{AfterWriting, textOf, writingOf, writing}
 use Rattle.model.specs.Dimacs.{uncommented, fileOf, keptOnce, importing, exportOf, exporting}
 use Rattle.model.proofs.Tests.{picked}
-use Rattle.model.proofs.Outcomes.{never, judged-passed}
+use Rattle.model.proofs.Outcomes.{never, judged-none}
 use Rattle.model.proofs.Verdicts.{Sources, round, covers, source-cases}
 use Rattle.model.proofs.Links.{parse-sound}
 use Rattle.model.proofs.Dimacs.{file-exactly, once-few}
@@ -75,7 +75,7 @@ few n h = threshold-is n .least 1024 (small n (bitLength n) h (bitLength-is n .l
 pub threshold-fits : (n : ℕ) {k : ℕ} → thresholdAnswer n ≡ answered k → k ≤ 1024
 unfolding thresholdAnswer
 threshold-fits n {k} e =
-    let p = judged-passed ((2 when badSize n) ∷ []) _ e in
+    let p = judged-none ((2 when badSize n) ∷ []) _ e in
     let j : threshold n ≡ k = cc (p .1) in
     omega (arith, few n (size-bounds n (p .0 .0) .1))
 
@@ -120,7 +120,7 @@ sources-few n starts neighbours s acc = at (source-cases n s G (acc .lists .grap
 pub searches-fit : (n t : ℕ) (starts neighbours : List ℕ) {r : TestResult} → testing n t starts neighbours ≡ answered r → r .searches ≤ 1024
 unfolding testing testResult
 searches-fit n t starts neighbours {r} e =
-    let p = judged-passed (testRefusals n t starts neighbours) _ e in
+    let p = judged-none (testRefusals n t starts neighbours) _ e in
     let lists = p .0 .1 .1 in
     let j : _≡_ {A = TestResult} (testResult n (inForce n t) (neighboursOf starts neighbours)) r = cc (p .1) in
     subst (λ (y : TestResult). y .searches ≤ 1024) j

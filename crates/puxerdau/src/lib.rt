@@ -26,7 +26,7 @@ ghost use Rattle.base_answer_codes.specs.Code.{noField, countField, sizeField, 
 ghost use Rattle.base_answer_codes.specs.Code.{decoded, noValue, countIn, sizeIn, answerIn, testIn, IsCode};
 ghost use Rattle.base_answer_codes.specs.Code.{readDecoded, writeDecoded, buildDecoded, walkDecoded};
 
-// The threshold of n nodes.
+// The stored threshold of n nodes.
 #[no_mangle]
 pub extern "C" fn puxerdau_threshold(n: usize) -> u64
     ensures { λ r. ⌜ IsCode countField countIn (thresholdAnswer n) r ⌝ }
@@ -92,7 +92,7 @@ pub extern "C" fn puxerdau_export(
     counting_code(survey_writing::export_survey(n, starts, neighbours, buffer))
 }
 
-// Whether the lists are a survey's: the refusals that all calls over a survey share.
+// Whether the lists are a survey's.
 #[no_mangle]
 pub extern "C" fn puxerdau_accept(n: usize, starts: &[u32], neighbours: &[u16]) -> u64
     ensures { λ r. ⌜ IsCode noField noValue (accepting n (now (starts .entry)) (now (neighbours .entry))) r ⌝ }
@@ -100,7 +100,7 @@ pub extern "C" fn puxerdau_accept(n: usize, starts: &[u32], neighbours: &[u16]) 
     accepting_code(survey_acceptance::accept(n, starts, neighbours))
 }
 
-// Builds the three tables and the hub list of a survey.
+// Builds the three tables and the hub list of a survey, split by the threshold t, or by the stored one where t is 0.
 #[no_mangle]
 pub extern "C" fn puxerdau_build(
     n: usize,
@@ -140,7 +140,7 @@ pub extern "C" fn puxerdau_ask(
     asking_code(answer_pair::ask(n, full, low, report, a, b))
 }
 
-// Writes the walk of a pair into a list.
+// Writes the walk of a pair into a list; t is the threshold of the tables, 0 for the stored one.
 #[no_mangle]
 pub extern "C" fn puxerdau_walk(
     n: usize,
@@ -169,7 +169,7 @@ pub extern "C" fn puxerdau_walk(
     asking_code(walk_writing::write_walk(n, t, starts, neighbours, full, low, report, a, b, walk))
 }
 
-// The two-or-four test of a survey.
+// The two-or-four test of a survey, split by the threshold t, or by the stored one where t is 0.
 #[no_mangle]
 pub extern "C" fn puxerdau_test(n: usize, t: usize, starts: &[u32], neighbours: &[u16]) -> u64
     ensures { λ r. ⌜ IsCode testField testIn (testing n t (now (starts .entry)) (now (neighbours .entry))) r ⌝ }

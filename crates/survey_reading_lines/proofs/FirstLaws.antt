@@ -1,14 +1,14 @@
 -- The first line's tests.
 -- Assumes nothing.
 use mathlib.Core.Path.{_≡_, sym}
-use mathlib.Core.Bool.{false, or-true}
+use mathlib.Core.Bool.{true, false, or-true}
 use mathlib.Core.List.{List}
 use mathlib.Core.Option.{Option, none as missing, some}
 use Prim.Native.Nat.{ℕ, _+_, _*_, _≤_, _<_}
 use borrow.Author.Tests.{lt-ltb, le-ltb}
 use lib.Dec.{ltb}
 use Rattle.model.specs.Answers.{refused, answered}
-use Rattle.model.specs.Survey.{outside}
+use Rattle.model.specs.Survey.{outside, shortStarts}
 use Rattle.model.specs.Reading.{limitsOf, countsOf}
 use Rattle.model.proofs.Links.{first-taken}
 use Rattle.model.proofs.Acceptance.{in-range}
@@ -37,9 +37,9 @@ module _ (N M p q n m : ℕ) (rest : List ℕ) where
     sized : outside N n ≡ false
     sized = in-range N n (w .some-node) (w .size)
 
-    pub short-starts : p < n + 1 → refused 8 ≡ limitsOf N M p q (n, m, rest)
+    pub short-starts : shortStarts n p ≡ true → refused 8 ≡ limitsOf N M p q (n, m, rest)
     unfolding limitsOf
-    short-starts j = rw (sized, le-ltb M m (w .few), lt-ltb p (n + 1) j)
+    short-starts j = rw (sized, le-ltb M m (w .few), j)
 
     pub short-neighbours : q < 2 * m → refused 8 ≡ limitsOf N M p q (n, m, rest)
     unfolding limitsOf

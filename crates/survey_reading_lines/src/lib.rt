@@ -111,7 +111,7 @@ pub fn within_limits(nodes: u64, links: u64, next: usize, limits: Limits) -> Lin
     }
     let n = nodes as usize;
     let m = links as usize;
-    if limits.starts < n + 1 {
+    if base_refusals::short_starts(n, limits.starts) {
         return LineSays::Refused(Refusal::ShortList);
     }
     if limits.neighbours < 2 * m {

@@ -29,7 +29,7 @@ walk-short n t starts neighbours full low report a b w size split h =
     let first : judged (refuseWalk w) ((8 when A || B) ∷ rest) done ≡ refuseWalk w 8 = rw h refl in
     rw (size, split) (judged-either (refuseWalk w) 8 A B rest done ∙ first)
 
--- the five lists and the two nodes have passed their tests
+-- what is known of the five lists and the two nodes where no refusal up to 10 applies
 pub record Listed (n : ℕ) (starts neighbours full low report : List ℕ) (a b : ℕ) : Type 0 where
   pub survey : Accepted n starts neighbours
   pub in-full : n * n ≤ length full

@@ -75,6 +75,7 @@ fn judge(
     if base_refusals::bad_size(n) {
         return Asking::Refused(Refusal::NodeCount);
     }
+    // the tests of 14 and of 8, which are acted on in this order
     let above = base_refusals::bad_threshold(t);
     let short = base_refusals::short_starts(n, starts.len())
         | base_refusals::short_tables(n, full.len(), low.len(), report.len());

@@ -196,11 +196,16 @@ impl<'a> Round<'a> {
         thresholds::any(self.random, self.sample.n, degree)
     }
 
-    /// Mostly the threshold of the tables, else any, or one by which more nodes are low, so that walks by low nodes are still given out.
+    /// Mostly the threshold of the tables, else any, one at the degree of a node, by which a few nodes may be split otherwise, or one by
+    /// which more nodes are low, so that walks by low nodes are still given out.
     fn walk_threshold(&mut self) -> usize {
         match self.random.below(10) {
-            0 | 1 => self.any_threshold(),
-            2 | 3 => thresholds::MOST,
+            0 => self.any_threshold(),
+            1 | 2 => {
+                let degree = some_degree(self.random, &self.starts);
+                degree + self.random.below(2)
+            }
+            3 | 4 => thresholds::MOST,
             _ => self.threshold,
         }
     }

@@ -25,7 +25,7 @@ const WALKS: [&str; 2] = ["by low nodes", "refused 11"];
 pub const MOST: usize = 1024;
 
 /// Thresholds that are refused, among them some whose lowest bits alone would be taken.
-const REFUSED: [usize; 4] = [MOST + 1, 1 << 32, 1 << 63, usize::MAX];
+const REFUSED: [usize; 6] = [MOST + 1, 65541, 1 << 32, (1 << 32) + 5, 1 << 63, usize::MAX];
 
 /// A threshold for n nodes that is taken: often the stored table's, or one at a bound, or at the degree of a node.
 pub fn taken(random: &mut Random, n: usize, degree: usize) -> usize {
@@ -49,7 +49,7 @@ pub fn taken(random: &mut Random, n: usize, degree: usize) -> usize {
 
 /// Any threshold, mostly one that is taken.
 pub fn any(random: &mut Random, n: usize, degree: usize) -> usize {
-    if random.percent(88) {
+    if random.percent(86) {
         taken(random, n, degree)
     } else {
         REFUSED[random.below(REFUSED.len())]
