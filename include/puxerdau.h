@@ -12,7 +12,7 @@
  *
  * What is known of the functions, and how:
  *  - Proved of their source, on its language's abstract machine: what each answers and what it leaves in every list, also where it refuses;
- *    that it stays within the lists; that it ends (the contracts of crates/puxerdau/src/lib.rt). The lengths below are proved too.
+ *    that it stays within the lists; that it ends (the contracts of crates/archive/src/lib.rt). The lengths below are proved too.
  *  - True of the compiled functions as far as the compiler's back end is right, which is not proved: the same; and that a call allocates
  *    nothing and keeps nothing, so that threads may call at once.
  *  - Compared with a second implementation, on random input: what the compiled functions answer and leave (comparison/compare).

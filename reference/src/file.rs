@@ -5,7 +5,7 @@ use crate::survey::Graph;
 use crate::text::{put_text, split_line, Form, LIMITS};
 
 /// The form of a file. Links that are repeated change nothing.
-const FORM: Form = Form {
+pub const FORM: Form = Form {
     counts: "p edge",
     link: "e",
     separator: ' ',

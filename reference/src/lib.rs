@@ -2,6 +2,9 @@
 //! comparison: every rule is carried out by the most direct means.
 
 mod answers;
+mod desk;
+mod desk_lines;
+mod desk_words;
 mod file;
 mod listing;
 mod survey;
@@ -10,6 +13,7 @@ mod text;
 mod verdict;
 
 pub use answers::{ask, walk, Answer, Route};
+pub use desk::desk;
 pub use file::{export, import};
 pub use listing::reports;
 pub use survey::accept;

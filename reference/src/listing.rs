@@ -4,8 +4,8 @@ use crate::answers::{ask, Answer, Route};
 use crate::tables::{build, STORED};
 use crate::text::{read_within, Limits};
 
-/// The limits of the program itself.
-const LIMITS: Limits = Limits {
+/// The limits of a listing.
+pub const LIMITS: Limits = Limits {
     nodes: 128,
     links: 2048,
 };
@@ -22,13 +22,23 @@ fn list_pairs(text: &[u8]) -> Result<String, u8> {
     let mut starts = vec![0; LIMITS.nodes + 1];
     let mut neighbours = vec![0; 2 * LIMITS.links];
     let (n, _) = read_within(&LIMITS, text, &mut starts, &mut neighbours)?;
+    list_survey(n, STORED, &starts, &neighbours)
+}
+
+/// The listing of a survey within the limits, by the given threshold.
+pub fn list_survey(
+    n: usize,
+    threshold: usize,
+    starts: &[u32],
+    neighbours: &[u16],
+) -> Result<String, u8> {
     let (mut full, mut low, mut report) = (vec![0; n * n], vec![0; n * n], vec![0; n * n]);
     let mut hubs = vec![0; n];
     let hub_count = build(
         n,
-        STORED,
-        &starts,
-        &neighbours,
+        threshold,
+        starts,
+        neighbours,
         &mut full,
         &mut low,
         &mut report,

@@ -3,6 +3,10 @@
 mod commands;
 #[path = "../tests/common/mod.rs"]
 mod common;
+mod comparison;
+mod desk_case_texts;
+mod desk_case_words;
+mod desk_compared;
 mod examples;
 mod reports_compared;
 mod test_largest;
@@ -11,14 +15,32 @@ mod test_surveys_input;
 mod test_tables;
 mod test_tables_input;
 
+use std::ffi::OsString;
 use std::io::{self, Read, Write};
+use std::os::unix::ffi::OsStrExt;
 use std::process::ExitCode;
 
-const USAGE: &str = "usage: reference examples | reports | test-surveys-input | test-surveys | test-tables-input | test-tables | test-largest-input | test-largest | compare-reports PROGRAM COUNT SEED";
+const USAGE: &str = "usage: reference examples | reports | test-surveys-input | test-surveys | test-tables-input | test-tables | test-largest-input | test-largest | desk [WORDS ..] | compare-reports PROGRAM COUNT SEED | compare-desk PROGRAM COUNT SEED";
 
 fn main() -> ExitCode {
-    let arguments: Vec<String> = std::env::args().skip(1).collect();
-    let outcome = match arguments.iter().map(String::as_str).collect::<Vec<_>>()[..] {
+    let arguments: Vec<OsString> = std::env::args_os().skip(1).collect();
+    let outcome = match arguments.split_first() {
+        // Its words may be any bytes.
+        Some((command, words)) if command == "desk" => print_desk(words),
+        _ => run_command(&arguments),
+    };
+    match outcome {
+        Ok(()) => ExitCode::SUCCESS,
+        Err(message) => {
+            eprintln!("{message}");
+            ExitCode::FAILURE
+        }
+    }
+}
+
+fn run_command(arguments: &[OsString]) -> Result<(), String> {
+    let words: Option<Vec<&str>> = arguments.iter().map(|word| word.to_str()).collect();
+    match words.unwrap_or_default()[..] {
         ["examples"] => print_examples(),
         ["reports"] => print_reports(),
         ["test-surveys-input"] => print_bytes(&test_surveys_input::make()),
@@ -27,15 +49,11 @@ fn main() -> ExitCode {
         ["test-tables"] => print_answers(test_tables::run),
         ["test-largest-input"] => print_bytes(test_largest::make().as_bytes()),
         ["test-largest"] => print_answers(test_largest::run),
-        ["compare-reports", program, count, seed] => compare_reports(program, count, seed),
-        _ => Err(String::from(USAGE)),
-    };
-    match outcome {
-        Ok(()) => ExitCode::SUCCESS,
-        Err(message) => {
-            eprintln!("{message}");
-            ExitCode::FAILURE
+        ["compare-reports", program, count, seed] => {
+            compare(reports_compared::run, program, count, seed)
         }
+        ["compare-desk", program, count, seed] => compare(desk_compared::run, program, count, seed),
+        _ => Err(String::from(USAGE)),
     }
 }
 
@@ -52,10 +70,20 @@ fn print_answers(run: fn(&[u8]) -> String) -> Result<(), String> {
     print_bytes(run(&standard_input()?).as_bytes())
 }
 
-fn compare_reports(program: &str, count: &str, seed: &str) -> Result<(), String> {
+fn print_desk(words: &[OsString]) -> Result<(), String> {
+    let words: Vec<&[u8]> = words.iter().map(|word| word.as_bytes()).collect();
+    print_bytes(&reference::desk(&words, &standard_input()?))
+}
+
+fn compare(
+    run: fn(&str, usize, u64) -> Result<(), String>,
+    program: &str,
+    count: &str,
+    seed: &str,
+) -> Result<(), String> {
     let count = count.parse().map_err(|_| format!("no count: {count}"))?;
     let seed = seed.parse().map_err(|_| format!("no seed: {seed}"))?;
-    reports_compared::run(program, count, seed)
+    run(program, count, seed)
 }
 
 fn standard_input() -> Result<Vec<u8>, String> {

@@ -36,7 +36,7 @@ pub struct Form {
 }
 
 /// The form of a survey text.
-const FORM: Form = Form {
+pub const FORM: Form = Form {
     counts: "S",
     link: "L",
     separator: ',',
@@ -136,7 +136,7 @@ impl Form {
     }
 
     /// Judges 4, then 5. The answer is the two ends, numbered from 0.
-    fn check_ends(&self, (a, b): (u64, u64), n: usize) -> Result<(usize, usize), u8> {
+    pub fn check_ends(&self, (a, b): (u64, u64), n: usize) -> Result<(usize, usize), u8> {
         let nodes = self.first_node..self.first_node + n as u64;
         if !nodes.contains(&a) || !nodes.contains(&b) {
             return Err(4);
@@ -170,7 +170,7 @@ impl Form {
 
 /// The two numbers of a line that is a word and two numbers, with one
 /// separator before each number.
-fn read_fields(line: &[u8], word: &str, separator: char) -> Option<(u64, u64)> {
+pub fn read_fields(line: &[u8], word: &str, separator: char) -> Option<(u64, u64)> {
     let behind = line.strip_prefix(word.as_bytes())?;
     let fields: Vec<&[u8]> = behind
         .split(|&byte| char::from(byte) == separator)
@@ -183,7 +183,7 @@ fn read_fields(line: &[u8], word: &str, separator: char) -> Option<(u64, u64)> {
 }
 
 /// One to ten digits without a leading zero, 0 itself excepted.
-fn read_number(digits: &[u8]) -> Option<u64> {
+pub fn read_number(digits: &[u8]) -> Option<u64> {
     let length_fits = (1..=10).contains(&digits.len());
     if !length_fits || !digits.iter().all(u8::is_ascii_digit) {
         return None;

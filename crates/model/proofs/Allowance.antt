@@ -4,19 +4,19 @@ use mathlib.Core.Path.{_≡_, refl, sym, ap, _∙_, subst}
 use mathlib.Core.Logic.{_⊎_, inl, inr, ⊎-elim}
 use mathlib.Core.Bool.{Bool, not, _&&_, _||_}
 use mathlib.Core.List.{List, [], _∷_}
-use Prim.Native.Nat.{ℕ, zero, suc, _+_, _≤_, _<_, zero-le, min}
+use Prim.Native.Nat.{ℕ, zero, suc, _+_, _-_, _≤_, _<_, zero-le, min}
 use native.Mathlib.Nat.{zero-add, suc-add, le-refl, le-trans, min-le-left, min-le-right}
 use native.Mathlib.Omega.{arith}
 use native.Mathlib.Decide.{decLe}
-use borrow.Author.Tests.{eqb-true, eqb-false, eq-eqb, ne-eqb}
-use lib.Dec.{T, eqb, eqb→eq, not-T}
+use borrow.Author.Tests.{eqb-true, eqb-false, eq-eqb, ne-eqb, leb-true, leb-false}
+use lib.Dec.{T, eqb, leb, eqb→eq, not-T}
 use Rattle.model.specs.Basics.{none, if_then_else_, has}
 use Rattle.model.specs.Graph.{Edges, between, Chain, here, link, Fewest, linked}
 use Rattle.model.specs.Survey.{Graph, IsGraph}
 use Rattle.model.specs.Hubs.{isHigh, isLow, hubs}
 use Rattle.model.specs.Tables.{entryAt, fullTable, lowLinks, lowTable, sum, via, reportTable, least, reportEntry}
-use Rattle.model.specs.Demand.{Allowed}
-use Rattle.model.proofs.Tests.{and-i, or-e, true-T, T-true, of-or-false, passes, eq-or, picked}
+use Rattle.model.specs.Demand.{Allowed, leastNeeded}
+use Rattle.model.proofs.Tests.{and-i, or-e, true-T, T-true, of-or-false, passes, eq-or, lt-or, picked}
 use Rattle.model.proofs.Lists.{of-cons, has-head, has-tail}
 use Rattle.model.proofs.Chains.{append, chain-zero, chain-one, turn, widen, inside, fewest-cases}
 use Rattle.model.proofs.Acceptance.{linked-ends, linked-sym}
@@ -134,19 +134,25 @@ module _ {n : ℕ} (s : ℕ) {G : Graph} (g : IsGraph n G) where
   pub report-one : {a b : ℕ} → a < n → b < n → entryAt n (reportTable n s G) a b ≡ 1 → T (linked n G a b)
   report-one ha hb e = chain-one (rw e at (report-chain ha hb (λ q. omega (arith, e, q))))
 
-  -- a report of at most 2 is the fewest links
-  pub report-exact : {a b : ℕ} → a < n → b < n → entryAt n (reportTable n s G) a b ≤ 2
-      → Fewest (linked n G) a b (entryAt n (reportTable n s G) a b)
-  report-exact {a} {b} ha hb h = (report-chain ha hb (λ e. omega (arith, h, e)), shortest)
+  -- where a chain of at most one link joins the pair, the report is no more
+  report-small : {a b k : ℕ} → a < n → b < n → k ≤ 1 → Chain (linked n G) k a b → entryAt n (reportTable n s G) a b ≤ k
+  report-small {a} {b} {k} ha hb h c = at k h c
     where
       own : a ≡ b → entryAt n (reportTable n s G) a b ≡ 0
       own e = rw (eq-eqb a b e) at (report-entry ha hb)
 
-      shortest : (k : ℕ) → Chain (linked n G) k a b → entryAt n (reportTable n s G) a b ≤ k
-      shortest zero c = omega (arith, own (chain-zero c))
-      shortest (suc zero) c =
-          ⊎-elim (λ e. omega (arith, own e)) (λ d. omega (arith, linked-report ha hb d (chain-one c))) (eq-or a b)
-      shortest (suc (suc k)) c = omega (arith, h)
+      at : (k : ℕ) → k ≤ 1 → Chain (linked n G) k a b → entryAt n (reportTable n s G) a b ≤ k
+      at zero h c = omega (arith, own (chain-zero c))
+      at (suc zero) h c = ⊎-elim (λ e. omega (arith, own e)) (λ d. omega (arith, linked-report ha hb d (chain-one c))) (eq-or a b)
+      at (suc (suc k)) h c = absurd (omega (arith, h))
+
+  -- a report of at most 2 is the fewest links
+  pub report-exact : {a b : ℕ} → a < n → b < n → entryAt n (reportTable n s G) a b ≤ 2
+      → Fewest (linked n G) a b (entryAt n (reportTable n s G) a b)
+  report-exact {a} {b} ha hb h = (
+    report-chain ha hb (λ e. omega (arith, h, e)),
+    λ k c. ⊎-elim (λ few. report-small ha hb (omega (arith, few)) c) (λ more. omega (arith, h, more)) (lt-or k 2),
+  )
 
   -- where a chain of k links joins the pair, the report is at most k + 2
   pub report-near : {a b k : ℕ} → n ≤ 1024 → a < n → b < n → Chain (linked n G) k a b → entryAt n (reportTable n s G) a b ≤ k + 2
@@ -184,6 +190,24 @@ module _ {n : ℕ} (s : ℕ) {G : Graph} (g : IsGraph n G) where
           bound (whole p q e) d l f xs ys = omega arith
           bound (part e (inl q)) d l f xs ys = absurd (omega arith)
           bound (part e (inr q)) d l f xs ys = absurd (omega arith)
+
+  -- and no chain has fewer links than the report leaves open
+  pub report-least : {a b k : ℕ} → n ≤ 1024 → a < n → b < n → Chain (linked n G) k a b → leastNeeded (entryAt n (reportTable n s G) a b) ≤ k
+  unfolding leastNeeded
+  report-least {a} {b} {k} size ha hb c = at (lt-or k 2)
+    where
+      r : ℕ
+      r = entryAt n (reportTable n s G) a b
+
+      P : ℕ → Type 0
+      P x = x ≤ k
+
+      at : (k < 2) ⊎ (2 ≤ k) → leastNeeded r ≤ k
+      at (inl few) =
+          let small = report-small ha hb (omega (arith, few)) c in
+          picked P (leb r 2) _ _ (λ _. small) (λ e. absurd (omega (arith, small, few, leb-false r 2 e)))
+      at (inr more) = picked P (leb r 2) _ _ (λ e. omega (arith, more, leb-true r 2 e)) (λ _.
+          picked P (leb r 4) _ _ (λ _. more) (λ _. omega (arith, report-near size ha hb c)))
 
 -- none exactly where no chain joins the pair; else at least the fewest links, and at most two more
 pub allowed : (n s : ℕ) (G : Graph) → IsGraph n G → n ≤ 1024 → (a b : ℕ) → a < n → b < n

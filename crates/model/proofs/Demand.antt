@@ -36,7 +36,7 @@ use Rattle.model.proofs.Acceptance.{sized, starts-long, is-survey, test
 use Rattle.model.proofs.Threshold.{good-threshold}
 use Rattle.model.proofs.Entries.{front-length, length-table, long-tables, of-long-tables}
 use Rattle.model.proofs.Covering.{hubs-length}
-use Rattle.model.proofs.Allowance.{allowed, report-one, report-exact}
+use Rattle.model.proofs.Allowance.{allowed, report-one, report-least, report-exact}
 use Rattle.model.proofs.Walks.{Chosen, chosen, Given-out, refusal, no-way, walked, fit-short, fit-long, found-longer, walk-given-out}
 use Rattle.model.proofs.BuiltWalks.{report-at, pair-linked, pair-built, walk-built, taken-right}
 use Rattle.model.proofs.Verdicts.{verdict-right}
@@ -216,6 +216,7 @@ module _ {n : ℕ} {starts neighbours : List ℕ} (acc : Accepted n starts neigh
       given = i .1;
       allowed = rw (i .2) (allowed n s G (acc .lists .graph) (acc .size) a b ha hb);
       by-link = (λ e. report-one s (acc .lists .graph) ha hb (sym (i .2) ∙ ap (λ (x : Answer). x .report) e), linked-answer (i .1));
+      least = λ d f. rw (i .2) (report-least s (acc .lists .graph) (acc .size) ha hb (f .0));
     }
 
     -- a report of at most 2 is the fewest links

@@ -8,7 +8,7 @@ use Prim.Native.Nat.{ℕ}
 use Prim.Native.String.{String}
 use lib.ListN.{replicate}
 use Rattle.model.specs.Answers.{refused, answered}
-use Rattle.model.specs.Basics.{from, upTo, has, all, keep, gather, over}
+use Rattle.model.specs.Basics.{from, upTo, has, all, keep, gather, over, bytes}
 use Rattle.model.specs.Numbers.{isDigit, isNumber, valueFrom, valueOf, digitsWithin, digits}
 use Rattle.model.specs.Lines.{onFirst, split, joined, onFront, cut, behind, afterEmpty, fieldsBehind, fieldLine}
 use Rattle.model.specs.Lines.{numbersIn, numberLine, twoLine}
@@ -18,7 +18,6 @@ use Rattle.model.specs.Reading.{limitsOf, named, onLinks, readOn, parsed
 use Rattle.model.specs.Writing.{AfterWriting, writingOf}
 use Rattle.model.specs.Dimacs.{isComment, noComments, uncommented, headLine, edgeLine, edgeLines, fileText}
 use Rattle.model.specs.Dimacs.{headOf, edgeOf, readEdges, fileOf, onceAfter, importing, exportOf, exporting}
-use Rattle.model.proofs.Quoted.{bytes}
 
 -- a text is imported into lists of p and q entries; a survey is exported into a buffer of zeros
 pub data Question : Type 0 where

@@ -27,6 +27,5 @@ pub mod WholeWay
 pub mod Sizes
 pub mod Fronts
 pub mod Listing
-pub mod Quoted
 pub mod Starred
 pub mod FileCases

@@ -13,7 +13,7 @@ use Rattle.model.specs.declared.Answer.{Answer}
 use Rattle.model.specs.declared.TestResult.{TestResult}
 use Rattle.model.specs.declared.Verdict.the-variants.{Long, Short}
 use Rattle.model.specs.Answers.{Outcome, refused, answered}
-use Rattle.model.specs.Basics.{none, from, upTo, has, any, all, keep, firstOf, gather, same, over}
+use Rattle.model.specs.Basics.{none, from, upTo, has, any, all, keep, firstOf, gather, same, over, bytes}
 use Rattle.model.specs.Numbers.{isDigit, isNumber, valueFrom, valueOf, digitsWithin, digits}
 use Rattle.model.specs.Lines.{onFirst, split, onFront, cut, behind, afterEmpty, fieldsBehind, fieldLine}
 use Rattle.model.specs.Lines.{numbersIn, numberLine, twoLine}
@@ -33,7 +33,6 @@ use Rattle.model.specs.Asking.{asking}
 use Rattle.model.specs.Walking.{AfterWalking, refuseWalk, fit, walkOf, walking}
 use Rattle.model.specs.Testing.{testing}
 use Rattle.model.specs.Listing.{reportText, routeText, pairLine, pairsBelow, pairLines, listingOf, listingText, listing}
-use Rattle.model.proofs.Quoted.{bytes}
 
 course : String
 course = "S,6,6\nL,0,5\nL,1,5\nL,2,5\nL,3,5\nL,4,5\nL,1,2\n"

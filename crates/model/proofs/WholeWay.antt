@@ -47,6 +47,7 @@ whole-way text p q x e t small full low report list hf hl hr hh a b ha hb =
       asked = asked .given;
       allowed = rw same at (asked .allowed);
       by-link = rw same at (asked .by-link);
+      least = rw same at (asked .least);
       walked = λ w room.
           let i = right w .1 (asked .value) (asked .given) room in
           let sound = rw same at (walking-sound n t starts neighbours (made .full) (made .low) (made .report) a b w) in

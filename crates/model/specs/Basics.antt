@@ -3,6 +3,8 @@
 use mathlib.Core.Bool.{Bool, true, false, _&&_, _||_}
 use mathlib.Core.List.{List, [], _∷_, _++_}
 use Prim.Native.Nat.{ℕ, zero, suc}
+use Prim.Native.Char.{code}
+use Prim.Native.String.{String}
 use lib.Dec.{eqb}
 use lib.ListN.{length, drop}
 
@@ -62,3 +64,8 @@ same (x ∷ xs) (y ∷ ys) = eqb x y && same xs ys
 -- the front of a lent list is replaced, and the entries past it are kept (rules 10.7 and 10.11)
 unfoldable pub over : List ℕ → List ℕ → List ℕ
 over new old = new ++ drop (length new) old
+
+-- quoted text as bytes
+unfoldable pub bytes : String → List ℕ
+bytes String.[] = []
+bytes (String._∷_ c s) = code c ∷ bytes s

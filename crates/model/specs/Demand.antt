@@ -3,8 +3,8 @@
 use mathlib.Core.Path.{_≡_}
 use mathlib.Core.Logic.{_⊎_, _↔_}
 use mathlib.Core.List.{List}
-use Prim.Native.Nat.{ℕ, _+_, _/_, _≤_, _<_}
-use lib.Dec.{T}
+use Prim.Native.Nat.{ℕ, _+_, _-_, _/_, _≤_, _<_}
+use lib.Dec.{T, leb}
 use lib.ListN.{length, getD, take, replicate}
 use Rattle.model.specs.declared.Route.the-variants.{Link}
 use Rattle.model.specs.declared.Answer.{Answer}
@@ -12,7 +12,7 @@ use Rattle.model.specs.declared.TestResult.{TestResult}
 use Rattle.model.specs.declared.Verdict.{Verdict}
 use Rattle.model.specs.declared.Verdict.the-variants.{Parted, Long, Short}
 use Rattle.model.specs.Answers.{Outcome, answered}
-use Rattle.model.specs.Basics.{none, over}
+use Rattle.model.specs.Basics.{none, if_then_else_, over}
 use Rattle.model.specs.Graph.{Edges, linked, Chain, Unjoined, Fewest, WithinTwo, Walked}
 use Rattle.model.specs.declared.Size.{Size}
 use Rattle.model.specs.SurveyText.{surveyText}
@@ -70,12 +70,17 @@ pub record Allowed (E : Edges) (a b r : ℕ) : Type 0 where
   pub no-route : (r ≡ none) ↔ Unjoined E a b
   pub near : (d : ℕ) → Fewest E a b d → (d ≤ r) × (r ≤ d + 2)
 
--- rule 9.4: asking is not refused, its report is allowed, and it is 1 by the link exactly where the two are linked
+-- rule 9.7: the least that a report leaves open: one of at most 2 is the fewest links; from 3 on no fewer than two less, and no fewer than 2
+unfoldable pub leastNeeded : ℕ → ℕ
+leastNeeded r = if leb r 2 then r else if leb r 4 then 2 else r - 2
+
+-- rules 9.4 and 9.7: asking is not refused, its report is allowed, and it is 1 by the link exactly where the two are linked
 pub record AllowedAnswer (E : Edges) (a b : ℕ) (o : Outcome Answer) : Type 0 where
   pub value : Answer
   pub given : o ≡ answered value
   pub allowed : Allowed E a b (value .report)
   pub by-link : (value ≡ withRoute 1 Link) ↔ T (E a b)
+  pub least : (d : ℕ) → Fewest E a b d → leastNeeded (value .report) ≤ d
 
 -- rule 9.4, for every accepted survey, tables built from it with any threshold s, and two nodes below n
 abbrev pub AskRight : (n : ℕ) (full low report : List ℕ) (a b : ℕ) → Outcome Answer → Type 0
@@ -132,13 +137,15 @@ pub record WholeWay (text : List ℕ) (x : Size) (starts neighbours : List ℕ) 
   pub links : List (ℕ × ℕ)
   pub as-many : length links ≡ x .links
   pub lines : text ≡ surveyText (x .nodes) (x .links) links
-  -- building and asking are not refused, and the report is allowed over those links, and 1 by link exactly where one of them joins the two
+  -- building and asking are not refused, and the report is allowed over those links, 1 by link exactly where one of them joins the two, and
+  -- leaves open no fewer links than are needed
   pub count : ℕ
   pub builds : made .answer ≡ answered count
   pub value : Answer
   pub asked : asking (x .nodes) (made .full) (made .low) (made .report) a b ≡ answered value
   pub allowed : Allowed (named links) a b (value .report)
   pub by-link : (value ≡ withRoute 1 Link) ↔ T (named links a b)
+  pub least : (d : ℕ) → Fewest (named links) a b d → leastNeeded (value .report) ≤ d
   -- in every list that is long enough the walk is answered the same, and is a walk along those links
   pub walked : (w : ℕ) → (value .report ≡ none) ⊎ (value .report < w)
       → (walking (x .nodes) t starts neighbours (made .full) (made .low) (made .report) a b w .answer ≡ answered value)

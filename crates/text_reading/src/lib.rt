@@ -110,7 +110,7 @@ pub fn line_end(text: &[u8], at: usize) -> usize
 }
 
 // Whether a word stands at a place.
-fn has_word(text: &[u8], at: usize, word: &[u8]) -> bool
+pub fn has_word(text: &[u8], at: usize, word: &[u8]) -> bool
     ensures { λ r. ⌜ r ≡ begins (now (word .entry)) (drop at (now (text .entry))) ⌝ }
 {
     let mut i = 0;

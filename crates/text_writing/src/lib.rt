@@ -53,7 +53,7 @@ pub fn write_text(buf: &mut [u8], at: usize, text: &[u8]) -> usize
 }
 
 // Writes the decimal text of a number of any size at a place, and returns the place after it.
-fn write_digits(buf: &mut [u8], at: usize, x: u32) -> usize
+pub fn write_digits(buf: &mut [u8], at: usize, x: u64) -> usize
     requires { ⌜ at + length (digits x) ≤ length (now buf) ⌝ }
     ensures { λ r. ⌜ Wrote (now (buf .entry)) (now (buf .exit)) at r (digits x) ⌝ }
 {
@@ -97,7 +97,7 @@ pub fn write_number(buf: &mut [u8], at: usize, x: u32) -> usize
     if x < 1000 {
         return write_below_1000(buf, at, x);
     }
-    write_digits(buf, at, x)
+    write_digits(buf, at, x as u64)
 }
 
 // Writes a separator and a number at a place, and returns the place after them.

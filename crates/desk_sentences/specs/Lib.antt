@@ -1,0 +1,2 @@
+-- What is printed at the desk.
+pub mod Sentences

@@ -1,0 +1,37 @@
+-- What is said where words are not understood or a file is too long: the fault, and how the command is used (docs/COMMANDS.md).
+-- Assumes nothing.
+use mathlib.Core.List.{List, [], _∷_, _++_}
+use Prim.Native.Nat.{ℕ}
+use Rattle.model.specs.Basics.{bytes}
+use Rattle.desk_words.specs.declared.Command.{Command}
+use Rattle.desk_words.specs.declared.Command.the-variants.{Pair, Walk, Test, Hubs, Reports, Check, Write, Export, Import, Help}
+use Rattle.desk_sentences.specs.Sentences.{sentence}
+use Rattle.desk_usage.specs.declared.Fault.{Fault}
+use Rattle.desk_usage.specs.declared.Fault.the-variants.{NoNumber, TooMany, Missing, TooLong}
+
+-- where the first word is no command
+unfoldable pub noCommand : List ℕ
+noCommand =
+    bytes "not understood: word 1 is no command; usage: puxerdau COMMAND [WORDS ..] < survey.txt; "
+    ++ bytes "commands: pair walk test hubs reports check write export import help\n"
+
+unfoldable pub usage : Command → List ℕ
+usage Pair = bytes "usage: puxerdau pair A B [--threshold T] < survey.txt\n"
+usage Walk = bytes "usage: puxerdau walk A B [--threshold T] < survey.txt\n"
+usage Test = bytes "usage: puxerdau test [--threshold T] < survey.txt\n"
+usage Hubs = bytes "usage: puxerdau hubs [--threshold T] < survey.txt\n"
+usage Reports = bytes "usage: puxerdau reports [--threshold T] < survey.txt\n"
+usage Check = bytes "usage: puxerdau check < survey.txt\n"
+usage Write = bytes "usage: puxerdau write < survey.txt\n"
+usage Export = bytes "usage: puxerdau export < survey.txt\n"
+usage Import = bytes "usage: puxerdau import < edges.col\n"
+usage Help = bytes "usage: puxerdau help\n"
+
+unfoldable pub fault : Fault → List ℕ
+fault (NoNumber k) = sentence (bytes "not understood: word # is no number; ") (k ∷ [])
+fault (TooMany k) = sentence (bytes "not understood: word # is one too many; ") (k ∷ [])
+fault Missing = bytes "not understood: a word is missing; "
+fault TooLong = bytes "not taken: the file has more than 524287 bytes; "
+
+unfoldable pub faultLine : Fault → Command → List ℕ
+faultLine f c = fault f ++ usage c

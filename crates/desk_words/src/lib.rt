@@ -1,0 +1,230 @@
+// What the words behind the program's name ask: a command, its nodes and its threshold.
+use text_reading::Number;
+ghost use mathlib.Core.Path.{_≡_};
+ghost use Rattle.model.specs.Basics.{same};
+ghost use Rattle.desk_words.specs.Words.{commandOf, wordOf};
+
+pub enum Command {
+    Pair,
+    Walk,
+    Test,
+    Hubs,
+    Reports,
+    Check,
+    Write,
+    Export,
+    Import,
+    Help,
+}
+
+// What the first word says.
+pub enum Named {
+    Is(Command),
+    Unknown,
+}
+
+// What a word behind the first says: the option `--threshold`, a number, or neither.
+pub enum Word {
+    Option,
+    Number(u64),
+    Other,
+}
+
+// What the words up to one of them ask: how many nodes, which, and the threshold, 0 where there is none; whether a threshold was named,
+// and whether its number comes next.
+pub struct Question {
+    pub nodes: usize,
+    pub a: u64,
+    pub b: u64,
+    pub threshold: u64,
+    pub named: bool,
+    pub waits: bool,
+}
+
+// What a further word makes of a question, or what is wrong with it.
+pub enum Heard {
+    Asks(Question),
+    NoNumber,
+    TooMany,
+}
+
+// Whether a word is this one.
+fn is_word(word: &[u8], name: &[u8]) -> bool
+    ensures { λ r. ⌜ r ≡ same (now (word .entry)) (now (name .entry)) ⌝ }
+{
+    if word.len() != name.len() {
+        return false;
+    }
+    text_reading::has_word(word, 0, name)
+}
+
+// The command that a word names.
+pub fn command_of(word: &[u8]) -> Named
+    ensures { λ r. ⌜ r ≡ commandOf (now (word .entry)) ⌝ }
+{
+    if is_word(word, b"pair") {
+        return Named::Is(Command::Pair);
+    }
+    if is_word(word, b"walk") {
+        return Named::Is(Command::Walk);
+    }
+    if is_word(word, b"test") {
+        return Named::Is(Command::Test);
+    }
+    if is_word(word, b"hubs") {
+        return Named::Is(Command::Hubs);
+    }
+    if is_word(word, b"reports") {
+        return Named::Is(Command::Reports);
+    }
+    if is_word(word, b"check") {
+        return Named::Is(Command::Check);
+    }
+    if is_word(word, b"write") {
+        return Named::Is(Command::Write);
+    }
+    if is_word(word, b"export") {
+        return Named::Is(Command::Export);
+    }
+    if is_word(word, b"import") {
+        return Named::Is(Command::Import);
+    }
+    if is_word(word, b"help") {
+        return Named::Is(Command::Help);
+    }
+    Named::Unknown
+}
+
+// What a word behind the command says.
+pub fn word_of(word: &[u8]) -> Word
+    ensures { λ r. ⌜ r ≡ wordOf (now (word .entry)) ⌝ }
+{
+    if is_word(word, b"--threshold") {
+        return Word::Option;
+    }
+    let Number::Value(v, end) = text_reading::parse_number(word, 0) else {
+        return Word::Other;
+    };
+    if end != word.len() {
+        return Word::Other;
+    }
+    Word::Number(v)
+}
+
+// How many nodes a command asks for.
+fn nodes_of(command: Command) -> usize {
+    match command {
+        Command::Pair => 2,
+        Command::Walk => 2,
+        Command::Test => 0,
+        Command::Hubs => 0,
+        Command::Reports => 0,
+        Command::Check => 0,
+        Command::Write => 0,
+        Command::Export => 0,
+        Command::Import => 0,
+        Command::Help => 0,
+    }
+}
+
+// Whether a command splits the nodes, and so takes a threshold.
+fn splits(command: Command) -> bool {
+    match command {
+        Command::Pair => true,
+        Command::Walk => true,
+        Command::Test => true,
+        Command::Hubs => true,
+        Command::Reports => true,
+        Command::Check => false,
+        Command::Write => false,
+        Command::Export => false,
+        Command::Import => false,
+        Command::Help => false,
+    }
+}
+
+// The question before the first word behind the command.
+pub fn nothing_yet() -> Question {
+    Question {
+        nodes: 0,
+        a: 0,
+        b: 0,
+        threshold: 0,
+        named: false,
+        waits: false,
+    }
+}
+
+// A question with a threshold, whose number was waited for.
+fn with_threshold(q: Question, t: u64) -> Question {
+    let mut r = q;
+    r.threshold = t;
+    r.waits = false;
+    r
+}
+
+// A question with a node more: A, or B behind it.
+fn with_node(q: Question, v: u64) -> Question {
+    let mut r = q;
+    if q.nodes == 0 {
+        r.a = v;
+        r.nodes = 1;
+    } else {
+        r.b = v;
+        r.nodes = 2;
+    }
+    r
+}
+
+// A question in which a threshold is named, and its number waited for.
+fn with_option(q: Question) -> Question {
+    let mut r = q;
+    r.named = true;
+    r.waits = true;
+    r
+}
+
+// What a number makes of a question.
+fn hear_number(command: Command, q: Question, v: u64) -> Heard {
+    if q.waits {
+        return Heard::Asks(with_threshold(q, v));
+    }
+    if q.nodes < nodes_of(command) {
+        return Heard::Asks(with_node(q, v));
+    }
+    Heard::TooMany
+}
+
+// What another word makes of a question: no number where one is needed.
+fn hear_other(command: Command, q: Question) -> Heard {
+    if q.waits {
+        return Heard::NoNumber;
+    }
+    if q.nodes < nodes_of(command) {
+        return Heard::NoNumber;
+    }
+    Heard::TooMany
+}
+
+// What `--threshold` makes of a question.
+fn hear_option(command: Command, q: Question) -> Heard {
+    let first = splits(command) & !q.named;
+    if first {
+        return Heard::Asks(with_option(q));
+    }
+    hear_other(command, q)
+}
+
+// What a word behind the command makes of a question.
+pub fn hear(command: Command, q: Question, word: Word) -> Heard {
+    match word {
+        Word::Option => hear_option(command, q),
+        Word::Number(v) => hear_number(command, q, v),
+        Word::Other => hear_other(command, q),
+    }
+}
+
+// Whether all is there that a command asks for.
+pub fn is_whole(command: Command, q: Question) -> bool {
+    !q.waits & (q.nodes == nodes_of(command))
+}

@@ -1,0 +1,2 @@
+pub mod StopLaws
+pub mod KeptLaws
