@@ -35,3 +35,26 @@ fault TooLong = bytes "not taken: the file has more than 524287 bytes; "
 
 unfoldable pub faultLine : Fault → Command → List ℕ
 faultLine f c = fault f ++ usage c
+
+-- what `help` says
+unfoldable pub help : List ℕ
+help =
+    bytes "puxerdau: how many links a message needs between two nodes of a survey\n"
+    ++ bytes "usage: puxerdau COMMAND [WORDS ..] < survey.txt\n"
+    ++ bytes "\n"
+    ++ bytes "pair A B   the report of nodes A and B            puxerdau pair 1 3 < survey.txt\n"
+    ++ bytes "walk A B   the same, and the nodes on the way     puxerdau walk 1 3 < survey.txt\n"
+    ++ bytes "test       whether all nodes are near each other  puxerdau test < survey.txt\n"
+    ++ bytes "hubs       the hubs, and how many nodes are high  puxerdau hubs < survey.txt\n"
+    ++ bytes "reports    a line for each two nodes              puxerdau reports < survey.txt\n"
+    ++ bytes "check      whether the survey is accepted         puxerdau check < survey.txt\n"
+    ++ bytes "write      the survey with its lines in order     puxerdau write < survey.txt\n"
+    ++ bytes "export     the survey as a DIMACS edge file       puxerdau export < survey.txt > edges.col\n"
+    ++ bytes "import     an edge file as a survey               puxerdau import < edges.col > survey.txt\n"
+    ++ bytes "help       this page                              puxerdau help\n"
+    ++ bytes "\n"
+    ++ bytes "--threshold T behind pair, walk, test, hubs or reports: nodes with T or more neighbours are\n"
+    ++ bytes "high. Without it a stored table says how many that takes: puxerdau test --threshold 3 < survey.txt\n"
+    ++ bytes "A survey is a line S,n,m and then m lines L,a,b: n nodes, numbered from 0, and m links.\n"
+    ++ bytes "A report is never below the fewest links, and at most two above them.\n"
+    ++ bytes "What is refused is said in one line: refused, a number, the place, and why.\n"

@@ -1,9 +1,9 @@
-// What is said where words are not understood, or a file is too long: the fault, and how the command is used.
+// How the commands are used: the help page, and what is said where words are not understood or a file is too long.
 use desk_words::Command;
 ghost use Prim.Native.Nat.{_+_, _≤_};
 ghost use lib.ListN.{length};
 ghost use Rattle.base_lists.specs.Written.{Wrote};
-ghost use Rattle.desk_usage.specs.Usage.{noCommand, usage, fault, faultLine};
+ghost use Rattle.desk_usage.specs.Usage.{noCommand, usage, fault, faultLine, help};
 
 // What is wrong: word k is no number, or one too many; a word is missing; or the file is too long.
 pub enum Fault {
@@ -117,4 +117,16 @@ pub fn write_fault(buf: &mut [u8], at: usize, wrong: Fault, command: Command) ->
 {
     let i = write_wrong(buf, at, wrong);
     write_usage(buf, i, command)
+}
+
+// Writes what `help` says at a place, and returns the place after it.
+pub fn write_help(buf: &mut [u8], at: usize) -> usize
+    requires { ⌜ at + 2000 ≤ length (now buf) ⌝ }
+    ensures { λ p. ⌜ Wrote (now (buf .entry)) (now (buf .exit)) at p help ⌝ }
+{
+    text_writing::write_text(
+        buf,
+        at,
+        b"puxerdau: how many links a message needs between two nodes of a survey\nusage: puxerdau COMMAND [WORDS ..] < survey.txt\n\npair A B   the report of nodes A and B            puxerdau pair 1 3 < survey.txt\nwalk A B   the same, and the nodes on the way     puxerdau walk 1 3 < survey.txt\ntest       whether all nodes are near each other  puxerdau test < survey.txt\nhubs       the hubs, and how many nodes are high  puxerdau hubs < survey.txt\nreports    a line for each two nodes              puxerdau reports < survey.txt\ncheck      whether the survey is accepted         puxerdau check < survey.txt\nwrite      the survey with its lines in order     puxerdau write < survey.txt\nexport     the survey as a DIMACS edge file       puxerdau export < survey.txt > edges.col\nimport     an edge file as a survey               puxerdau import < edges.col > survey.txt\nhelp       this page                              puxerdau help\n\n--threshold T behind pair, walk, test, hubs or reports: nodes with T or more neighbours are\nhigh. Without it a stored table says how many that takes: puxerdau test --threshold 3 < survey.txt\nA survey is a line S,n,m and then m lines L,a,b: n nodes, numbered from 0, and m links.\nA report is never below the fewest links, and at most two above them.\nWhat is refused is said in one line: refused, a number, the place, and why.\n",
+    )
 }

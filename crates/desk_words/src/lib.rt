@@ -228,3 +228,19 @@ pub fn hear(command: Command, q: Question, word: Word) -> Heard {
 pub fn is_whole(command: Command, q: Question) -> bool {
     !q.waits & (q.nodes == nodes_of(command))
 }
+
+// Whether a command reads a text.
+pub fn reads_text(command: Command) -> bool {
+    match command {
+        Command::Pair => true,
+        Command::Walk => true,
+        Command::Test => true,
+        Command::Hubs => true,
+        Command::Reports => true,
+        Command::Check => true,
+        Command::Write => true,
+        Command::Export => true,
+        Command::Import => true,
+        Command::Help => false,
+    }
+}

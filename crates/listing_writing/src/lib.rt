@@ -45,7 +45,13 @@ fn list_tables(
 }
 
 // The same with its own lists for the tables, of a survey of at most 128 nodes.
-fn list_survey(n: usize, s: usize, starts: &[u32], neighbours: &[u16], lines: &mut [u8]) -> usize
+pub fn list_survey(
+    n: usize,
+    s: usize,
+    starts: &[u32],
+    neighbours: &[u16],
+    lines: &mut [u8],
+) -> usize
     requires { ⌜ Accepted n (now starts) (now neighbours) × (n ≤ 128) × (mostListing ≤ length (now lines)) ⌝ }
     ensures { λ r. ⌜ Wrote (now (lines .entry)) (now (lines .exit)) 0 r
         (listingOf n s (neighboursOf (now (starts .entry)) (now (neighbours .entry)))) ⌝ }

@@ -48,7 +48,7 @@ pub fn head_line(text: &[u8], starts: usize, neighbours: usize) -> LineSays
 }
 
 // The next line from a place on that is no comment: the link that it names, its nodes numbered from 0.
-fn edge_at(text: &[u8], at: usize, n: usize) -> LineSays
+pub fn edge_at(text: &[u8], at: usize, n: usize) -> LineSays
     ensures { λ r. ⌜ fileAnswer (now (text .entry)) r ≡ edgeOf n (twoLine edgeWord 32 (uncommented (drop at (now (text .entry))))) ⌝ }
 {
     let start = pass_comments(text, at);

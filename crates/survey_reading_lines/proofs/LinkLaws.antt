@@ -146,7 +146,7 @@ behind-held {done = done} h = record {
 
 -- the matrix, and the links given before, give the same answer to a line
 module _ (n : ℕ) (done : List (ℕ × ℕ)) (E : Edges) (agree : (a b : ℕ) → a < n → b < n → E a b ≡ named done a b) where
-  judged : (o : Option (ℕ × ℕ × List ℕ)) → linkOf n (named done) o ≡ linkOf n E o
+  pub judged : (o : Option (ℕ × ℕ × List ℕ)) → linkOf n (named done) o ≡ linkOf n E o
   unfolding linkOf
   judged missing = refl
   judged (some l) = four (leb n (l .0) || leb n (l .1)) refl

@@ -48,7 +48,7 @@ pub fn insert_link(bits: &mut [u64], a: usize, b: usize)
 }
 
 // The link line at a place, where the matrix has the links given before.
-fn link_at(text: &[u8], at: usize, n: usize, bits: &[u64]) -> LineSays
+pub fn link_at(text: &[u8], at: usize, n: usize, bits: &[u64]) -> LineSays
     requires { ⌜ (n ≤ 1024) × (length (now bits) ≡ 16384) ⌝ }
     ensures { λ r. ⌜ lineAnswer (now (text .entry)) r ≡ linkIn n (edgesIn (now (bits .entry))) (drop at (now (text .entry))) ⌝ }
 {

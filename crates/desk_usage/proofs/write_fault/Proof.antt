@@ -18,7 +18,7 @@ same-length c = search needs
 
 returns : tie.Need-returns
 unfolding faultLine
-returns c = 
+returns c =
     let used = c .before .before in
     let w = used .write-usage .ensures in
     let wrong = used .before .before .before .before in

@@ -102,7 +102,7 @@ same-length c = search needs
 
 returns : tie.Need-returns
 unfolding usage bytes
-returns c = 
+returns c =
     let wrote = c .before .before in
     let w = wrote .write-text .ensures in (rw (wrote .before .before .before .enum-told .given .1) w, omega (arith, w .ends))
 
@@ -111,7 +111,7 @@ same-length-2 c = search needs
 
 returns-2 : tie.Need-returns-2
 unfolding usage bytes
-returns-2 c = 
+returns-2 c =
     let wrote = c .before .before in
     let w = wrote .write-text2 .ensures in (rw (wrote .before .before .before .enum-told2 .given .1) w, omega (arith, w .ends))
 
@@ -120,7 +120,7 @@ same-length-3 c = search needs
 
 returns-3 : tie.Need-returns-3
 unfolding usage bytes
-returns-3 c = 
+returns-3 c =
     let wrote = c .before .before in
     let w = wrote .write-text3 .ensures in (rw (wrote .before .before .before .enum-told3 .given .1) w, omega (arith, w .ends))
 
@@ -129,7 +129,7 @@ same-length-4 c = search needs
 
 returns-4 : tie.Need-returns-4
 unfolding usage bytes
-returns-4 c = 
+returns-4 c =
     let wrote = c .before .before in
     let w = wrote .write-text4 .ensures in (rw (wrote .before .before .before .enum-told4 .given .1) w, omega (arith, w .ends))
 
@@ -138,7 +138,7 @@ same-length-5 c = search needs
 
 returns-5 : tie.Need-returns-5
 unfolding usage bytes
-returns-5 c = 
+returns-5 c =
     let wrote = c .before .before in
     let w = wrote .write-text5 .ensures in (rw (wrote .before .before .before .enum-told5 .given .1) w, omega (arith, w .ends))
 
@@ -147,7 +147,7 @@ same-length-6 c = search needs
 
 returns-6 : tie.Need-returns-6
 unfolding usage bytes
-returns-6 c = 
+returns-6 c =
     let wrote = c .before .before in
     let w = wrote .write-text6 .ensures in (rw (wrote .before .before .before .enum-told6 .given .1) w, omega (arith, w .ends))
 
@@ -156,7 +156,7 @@ same-length-7 c = search needs
 
 returns-7 : tie.Need-returns-7
 unfolding usage bytes
-returns-7 c = 
+returns-7 c =
     let wrote = c .before .before in
     let w = wrote .write-text7 .ensures in (rw (wrote .before .before .before .enum-told7 .given .1) w, omega (arith, w .ends))
 
@@ -165,7 +165,7 @@ same-length-8 c = search needs
 
 returns-8 : tie.Need-returns-8
 unfolding usage bytes
-returns-8 c = 
+returns-8 c =
     let wrote = c .before .before in
     let w = wrote .write-text8 .ensures in (rw (wrote .before .before .before .enum-told8 .given .1) w, omega (arith, w .ends))
 
@@ -174,7 +174,7 @@ same-length-9 c = search needs
 
 returns-9 : tie.Need-returns-9
 unfolding usage bytes
-returns-9 c = 
+returns-9 c =
     let wrote = c .before .before in
     let w = wrote .write-text9 .ensures in (rw (wrote .before .before .before .enum-told9 .given .1) w, omega (arith, w .ends))
 
@@ -183,7 +183,7 @@ same-length-10 c = search needs
 
 returns-10 : tie.Need-returns-10
 unfolding usage bytes
-returns-10 c = 
+returns-10 c =
     let wrote = c .before .before in
     let w = wrote .write-text10 .ensures in (rw (wrote .before .before .before .enum-told10 .given .1) w, omega (arith, w .ends))
 

@@ -54,7 +54,7 @@ same-length c = search needs
 
 returns : tie.Need-returns
 unfolding fault bytes
-returns c = 
+returns c =
     let wrote = c .before .before in
     let w = wrote .write-sentence .ensures in (rw (wrote .before .before .before .before .before .wrong .given .1) (w .0), omega (arith, w .1))
 
@@ -63,7 +63,7 @@ same-length-2 c = search needs
 
 returns-2 : tie.Need-returns-2
 unfolding fault bytes
-returns-2 c = 
+returns-2 c =
     let wrote = c .before .before in
     let w = wrote .write-sentence2 .ensures in (rw (wrote .before .before .before .before .before .wrong2 .given .1) (w .0), omega (arith, w .1))
 
@@ -72,7 +72,7 @@ same-length-3 c = search needs
 
 returns-3 : tie.Need-returns-3
 unfolding fault bytes
-returns-3 c = 
+returns-3 c =
     let wrote = c .before .before in
     let w = wrote .write-text .ensures in (rw (wrote .before .before .before .enum-told .given .1) w, omega (arith, w .ends))
 
@@ -81,7 +81,7 @@ same-length-4 c = search needs
 
 returns-4 : tie.Need-returns-4
 unfolding fault bytes
-returns-4 c = 
+returns-4 c =
     let wrote = c .before .before in
     let w = wrote .write-text2 .ensures in (rw (wrote .before .before .before .enum-told2 .given .1) w, omega (arith, w .ends))
 

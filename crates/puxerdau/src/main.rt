@@ -1,0 +1,141 @@
+// Answers a question about the survey or the edge file on standard input: puxerdau COMMAND [WORDS ..] < TEXT. docs/COMMANDS.md says what is
+// asked and what is answered.
+use desk_usage::Fault;
+use desk_words::Command;
+use desk_words::Heard;
+use desk_words::Named;
+use desk_words::Question;
+
+// A longer word is neither a command nor an option nor a number.
+const WORD: usize = 16;
+
+// A survey's first 393,241 bytes decide (`reading-front` of crates/model/proofs/Fronts.antt); a longer file is not taken.
+const TEXT: usize = 524288;
+
+const STARTS: usize = 1025;
+
+const NEIGHBOURS: usize = 32768;
+
+const TABLE: usize = 1048576;
+
+const OUT: usize = 200000;
+
+// What the words ask, or what is wrong with them.
+enum Understood {
+    Asks(Question),
+    Wrong(Fault),
+}
+
+// What word i makes of a question.
+fn hear_word(command: Command, q: Question, i: usize) -> Heard {
+    let mut word = [0u8; WORD];
+    let k = os::arg(i, &mut word);
+    let said = desk_words::word_of(&word[..k]);
+    desk_words::hear(command, q, said)
+}
+
+// What the words behind the command ask. There are `count` words, the program's name among them.
+fn understand(command: Command, count: usize) -> Understood {
+    let mut q = desk_words::nothing_yet();
+    let mut i = 2;
+    while i < count {
+        match hear_word(command, q, i) {
+            Heard::Asks(r) => q = r,
+            Heard::NoNumber => return Understood::Wrong(Fault::NoNumber(i as u64)),
+            Heard::TooMany => return Understood::Wrong(Fault::TooMany(i as u64)),
+        }
+        i += 1;
+    }
+    if !desk_words::is_whole(command, q) {
+        return Understood::Wrong(Fault::Missing);
+    }
+    Understood::Asks(q)
+}
+
+// Reads the text, if the command needs one, and prints the answer.
+fn answer_in(
+    command: Command,
+    q: Question,
+    text: &mut [u8; TEXT],
+    starts: &mut [u32; STARTS],
+    neighbours: &mut [u16; NEIGHBOURS],
+    full: &mut [u16; TABLE],
+    low: &mut [u16; TABLE],
+    report: &mut [u16; TABLE],
+    out: &mut [u8; OUT],
+) {
+    let mut k = 0;
+    if desk_words::reads_text(command) {
+        k = io::read_full(0, text);
+    }
+    let r = desk_commands::say(
+        command,
+        q.threshold as usize,
+        q.a as usize,
+        q.b as usize,
+        &text[..k],
+        starts,
+        neighbours,
+        full,
+        low,
+        report,
+        out,
+    );
+    io::write_all(1, &out[..r]);
+}
+
+// The same with lists of its own: 7 MiB of the stack.
+fn answer(command: Command, q: Question) {
+    let mut text = [0u8; TEXT];
+    let mut starts = [0u32; STARTS];
+    let mut neighbours = [0u16; NEIGHBOURS];
+    let mut full = [0u16; TABLE];
+    let mut low = [0u16; TABLE];
+    let mut report = [0u16; TABLE];
+    let mut out = [0u8; OUT];
+    answer_in(
+        command,
+        q,
+        &mut text,
+        &mut starts,
+        &mut neighbours,
+        &mut full,
+        &mut low,
+        &mut report,
+        &mut out,
+    );
+}
+
+// Prints what is wrong with the words behind a command.
+fn print_fault(command: Command, wrong: Fault) {
+    let mut line = [0u8; 120];
+    let k = desk_usage::write_fault(&mut line, 0, wrong, command);
+    io::write_all(1, &line[..k]);
+}
+
+fn print_no_command() {
+    let mut line = [0u8; 160];
+    let k = desk_usage::write_no_command(&mut line, 0);
+    io::write_all(1, &line[..k]);
+}
+
+// The command that the first word names; none is `help`.
+fn first_word(count: usize) -> Named {
+    if count < 2 {
+        return Named::Is(Command::Help);
+    }
+    let mut word = [0u8; WORD];
+    let k = os::arg(1, &mut word);
+    desk_words::command_of(&word[..k])
+}
+
+fn main() {
+    let count = os::arg_count();
+    match first_word(count) {
+        Named::Unknown => print_no_command(),
+        Named::Is(command) => match understand(command, count) {
+            Understood::Wrong(wrong) => print_fault(command, wrong),
+            Understood::Asks(q) => answer(command, q),
+        },
+    }
+}
