@@ -69,6 +69,26 @@ wrote-over {buf} t w =
     let z : 0 + length t ≡ length t = omega arith in
     (w .text ∙ ap (λ (k : ℕ). t ++ drop k buf) z, w .ends ∙ z)
 
+pub over-wrote : (t buf : List ℕ) → Wrote buf (over t buf) 0 (length t) t
+unfolding over written
+over-wrote t buf =
+    let z : 0 + length t ≡ length t = omega arith in
+    record { ends = sym z; text = ap (λ (k : ℕ). t ++ drop k buf) (sym z) }
+
+-- and stands in front of what is there then
+module _ {t buf buf′ : List ℕ} {e : ℕ} (w : Wrote buf buf′ 0 e t) where
+  pub front-fits : e ≤ length buf′
+  unfolding over
+  front-fits =
+      let o = wrote-over t w in
+      omega (arith, o .1, ap length (o .0) ∙ length-append t (drop (length t) buf))
+
+  pub front-is : take e buf′ ≡ t
+  unfolding over
+  front-is =
+      let o = wrote-over t w in
+      ap (take e) (o .0) ∙ take-at t (drop (length t) buf) e (sym (o .1))
+
 -- a list of the same length is replaced whole
 pub over-whole : (t l : List ℕ) → length l ≡ length t → over t l ≡ t
 unfolding over

@@ -23,7 +23,7 @@ use Rattle.model.specs.Walking.{AfterWalking, walkReturned, walking}
 use Rattle.model.specs.Testing.{testing}
 use Rattle.model.proofs.Tests.{and-i, and-l, and-r}
 use Rattle.model.proofs.Lists.{of-upTo, keep-same, keep-below}
-use Rattle.listing_writing.proofs.Whole.{AreTables}
+use Rattle.table_building.proofs.WholeTables.{AreTables}
 use Rattle.desk_sentences.specs.Sentences.{pairLines, verdictLines, nodeRefused, thresholdRefused}
 use Rattle.desk_answers.specs.Said.{farNode, askedSaid, pairSaid, walkedSaid, walkSaid, testedSaid, testSaid}
 

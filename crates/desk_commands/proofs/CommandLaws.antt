@@ -2,12 +2,12 @@
 -- Assumes nothing.
 use mathlib.Core.Path.{_≡_, refl, sym, ap, _∙_}
 use mathlib.Core.Bool.{true, false}
-use mathlib.Core.List.{List, _++_}
-use Prim.Native.Nat.{ℕ, _+_, _*_, _≤_, _<_}
+use mathlib.Core.List.{List}
+use Prim.Native.Nat.{ℕ, _*_, _≤_, _<_}
 use native.Mathlib.Nat.{mul-le-mul}
 use native.Mathlib.Omega.{arith}
 use borrow.Author.Tests.{lt-ltb, le-ltb}
-use lib.ListN.{length, drop}
+use lib.ListN.{length}
 use Rattle.model.specs.declared.Refusal.{Refusal}
 use Rattle.model.specs.declared.Size.{Size}
 use Rattle.model.specs.declared.Reading.{Reading}
@@ -24,7 +24,8 @@ use Rattle.model.specs.Dimacs.{importing}
 use Rattle.model.proofs.Links.{parse-sound}
 use Rattle.model.proofs.Outcomes.{never, numberIn}
 use Rattle.model.proofs.ReadBack.{read-accepted}
-use Rattle.base_lists.specs.Written.{Wrote, written}
+use Rattle.base_lists.specs.Written.{Wrote}
+use Rattle.base_lists.proofs.Written.{over-wrote}
 use Rattle.desk_words.specs.declared.Command.the-variants.{Import}
 use Rattle.desk_sentences.specs.Sentences.{textRefused, thresholdRefused}
 use Rattle.desk_usage.specs.declared.Fault.the-variants.{TooLong}
@@ -108,12 +109,6 @@ module _ (text : List ℕ) (say : Saying) where
     file-read i = file-said ∙ ap (λ (z : Reading). ofReading refuse-file say (readReturned z starts neighbours)) i
 
 -- ---- a text that is written to the front of a buffer
-
-over-wrote : (t buf : List ℕ) → Wrote buf (over t buf) 0 (length t) t
-unfolding over written
-over-wrote t buf =
-    let z : 0 + length t ≡ length t = omega arith in
-    record { ends = sym z; text = ap (λ (k : ℕ). t ++ drop k buf) (sym z) }
 
 module _ (t buf buf′ : List ℕ) (r : Counting) (e : writeReturned r buf′ ≡ record { answer = answered (length t); buffer = over t buf }) where
   pub never-refused : {A : Type 0} {k : Refusal} → r ≡ counting.Refused k → A

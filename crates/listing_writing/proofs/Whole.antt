@@ -5,8 +5,7 @@ use mathlib.Core.List.{List, _++_}
 use Prim.Native.Nat.{ℕ, _+_, _*_, _≤_}
 use native.Mathlib.Nat.{mul-le-mul}
 use native.Mathlib.Omega.{arith}
-use lib.ListN.{length, take, drop, length-append}
-use lib.Seq.{take-at}
+use lib.ListN.{length}
 use Rattle.model.specs.declared.Refusal.{Refusal}
 use Rattle.model.specs.declared.Size.{Size}
 use Rattle.model.specs.declared.Counting.the-variants as counting
@@ -27,31 +26,14 @@ use Rattle.model.proofs.Entries.{length-table}
 use Rattle.model.proofs.Links.{parse-sound}
 use Rattle.model.proofs.Outcomes.{never, numberIn}
 use Rattle.model.proofs.ReadBack.{read-accepted, read-graph, write-whole}
+use Rattle.table_building.proofs.WholeTables.{AreTables}
 use Rattle.base_lists.specs.Written.{Wrote}
 use Rattle.base_lists.proofs.Written.{wrote-over, over-whole}
 
 pub square-most : (n : ℕ) → n ≤ 128 → n * n ≤ 16384
 square-most n h = mul-le-mul h h
 
--- ---- what building leaves in tables of exactly n x n entries
-
--- the number of hubs, and the three tables
-pub record AreTables (n s : ℕ) (G : Graph) (count : ℕ) (full low report : List ℕ) : Type 0 where
-  pub count-is : count ≡ length (hubs n s G)
-  pub full-is : full ≡ fullTable n s G
-  pub low-is : low ≡ lowTable n s G
-  pub report-is : report ≡ reportTable n s G
-
-pub tables-built : (n s : ℕ) (G : Graph) (full low report list : List ℕ) {full′ low′ report′ list′ : List ℕ} {count : ℕ}
-    → record { answer = answered count; full = full′; low = low′; report = report′; hubs = list′ } ≡ built n s G full low report list
-    → length full ≡ n * n → length low ≡ n * n → length report ≡ n * n → AreTables n s G count full′ low′ report′
-unfolding built fullTable lowTable reportTable numberIn
-tables-built n s G full low report list e full-size low-size report-size = record {
-  count-is = ap (λ (b : AfterBuilding). numberIn (λ k. k) (b .answer)) e;
-  full-is = ap (λ (b : AfterBuilding). b .full) e ∙ over-whole _ full (full-size ∙ sym (length-table n _));
-  low-is = ap (λ (b : AfterBuilding). b .low) e ∙ over-whole _ low (low-size ∙ sym (length-table n _));
-  report-is = ap (λ (b : AfterBuilding). b .report) e ∙ over-whole _ report (report-size ∙ sym (length-table n _));
-}
+-- ---- tables of exactly n x n entries
 
 module _ {n s : ℕ} {G : Graph} {count : ℕ} {full low report : List ℕ} (t : AreTables n s G count full low report) where
   pub count-few : count ≤ n
@@ -105,22 +87,7 @@ module _ (text : List ℕ) {p q : ℕ} (p-is : p ≡ 128 + 1) (q-is : q ≡ 2 * 
                 (sym (ap listingText h) ∙ listing-said text p-is q-is);
           }
 
--- ---- a text that stands in front of a list
-
-module _ {t buf buf′ : List ℕ} {e : ℕ} (w : Wrote buf buf′ 0 e t) where
-  pub front-fits : e ≤ length buf′
-  unfolding over
-  front-fits =
-      let o = wrote-over t w in
-      omega (arith, o .1, ap length (o .0) ∙ length-append t (drop (length t) buf))
-
-  pub front-is : take e buf′ ≡ t
-  unfolding over
-  front-is =
-      let o = wrote-over t w in
-      ap (take e) (o .0) ∙ take-at t (drop (length t) buf) e (sym (o .1))
-
--- ---- and is copied into a buffer
+-- ---- a listing that is copied into a buffer
 
 pub copied : {t buffer buffer′ : List ℕ} {k : ℕ} → length t ≤ length buffer → Wrote buffer buffer′ 0 k t
     → writeReturned (counting.Count (length t)) buffer′ ≡ writingOf (answered tt) t buffer

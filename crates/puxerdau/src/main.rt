@@ -5,6 +5,9 @@ use desk_words::Command;
 use desk_words::Heard;
 use desk_words::Named;
 use desk_words::Question;
+ghost use mathlib.Core.Path.{_≡_};
+ghost use Prim.Native.Nat.{_≤_};
+ghost use lib.ListN.{length};
 
 // A longer word is neither a command nor an option nor a number.
 const WORD: usize = 16;
@@ -53,17 +56,20 @@ fn understand(command: Command, count: usize) -> Understood {
 }
 
 // Reads the text, if the command needs one, and prints the answer.
-fn answer_in(
+fn answer_with(
     command: Command,
     q: Question,
-    text: &mut [u8; TEXT],
-    starts: &mut [u32; STARTS],
-    neighbours: &mut [u16; NEIGHBOURS],
-    full: &mut [u16; TABLE],
-    low: &mut [u16; TABLE],
-    report: &mut [u16; TABLE],
-    out: &mut [u8; OUT],
-) {
+    text: &mut [u8],
+    starts: &mut [u32],
+    neighbours: &mut [u16],
+    full: &mut [u16],
+    low: &mut [u16],
+    report: &mut [u16],
+    out: &mut [u8],
+)
+    requires { ⌜ (length (now starts) ≡ 1025) × (length (now neighbours) ≡ 32768) × (200000 ≤ length (now out))
+        × (1048576 ≤ length (now full)) × (1048576 ≤ length (now low)) × (1048576 ≤ length (now report)) ⌝ }
+{
     let mut k = 0;
     if desk_words::reads_text(command) {
         k = io::read_full(0, text);
@@ -82,6 +88,21 @@ fn answer_in(
         out,
     );
     io::write_all(1, &out[..r]);
+}
+
+// The same with arrays, lent whole, so that the check does not look at their entries.
+fn answer_in(
+    command: Command,
+    q: Question,
+    text: &mut [u8; TEXT],
+    starts: &mut [u32; STARTS],
+    neighbours: &mut [u16; NEIGHBOURS],
+    full: &mut [u16; TABLE],
+    low: &mut [u16; TABLE],
+    report: &mut [u16; TABLE],
+    out: &mut [u8; OUT],
+) {
+    answer_with(command, q, text, starts, neighbours, full, low, report, out);
 }
 
 // The same with lists of its own: 7 MiB of the stack.

@@ -3,7 +3,7 @@
 use mathlib.Core.Path.{sym}
 use native.Mathlib.Omega.{arith}
 use borrow.Author.Needs.{needs}
-use Rattle.listing_writing.proofs.Whole.{tables-built}
+use Rattle.table_building.proofs.WholeTables.{tables-whole}
 use Rattle.desk_answers.proofs.SaidLaws.{said-refused, said-answered}
 use Rattle.desk_answers.proofs.say_pair.Statement.{statement}
 use Rattle.desk_answers.proofs.say_pair.Tie as tie
@@ -52,7 +52,7 @@ returns c =
     let asked = told .before .before in
     let build = asked .before .before .before .before .before .before .before .before .before .before .before in
     let start = build .before .before .before .before .before .before .before .before .before .before .before in
-    let own = tables-built _ _ _ _ _ _ _ (build .build-tables .ensures) (start .pre .2) (start .pre .3) (start .pre .4) in
+    let own = tables-whole _ _ _ _ _ _ _ (build .build-tables .ensures) (start .pre .2) (start .pre .3) (start .pre .4) in
     rw (said-refused own _ _ _ (asked .ask .ensures .0) (told .enum-told .given .1), sym (far .far-node .ensures)) (wrote .write-node-refused .ensures .0)
 
 same-length-5 : tie.Need-same-length-5
@@ -74,7 +74,7 @@ returns-2 c =
     let asked = told .before .before in
     let build = asked .before .before .before .before .before .before .before .before .before .before .before in
     let start = build .before .before .before .before .before .before .before .before .before .before .before in
-    let own = tables-built _ _ _ _ _ _ _ (build .build-tables .ensures) (start .pre .2) (start .pre .3) (start .pre .4) in
+    let own = tables-whole _ _ _ _ _ _ _ (build .build-tables .ensures) (start .pre .2) (start .pre .3) (start .pre .4) in
     rw (said-answered own _ _ _ (asked .ask .ensures .0) (told .x .given .1)) (wrote .write-pair .ensures .0)
 
 pub say-pair-spec : {M : Type 1} → statement M

@@ -6,7 +6,7 @@ use native.Mathlib.Omega.{arith}
 use borrow.Author.Needs.{needs}
 use lib.ListN.{length-replicate}
 use Rattle.model.specs.Answers.{pairAnswer}
-use Rattle.listing_writing.proofs.Whole.{tables-built}
+use Rattle.table_building.proofs.WholeTables.{tables-whole}
 use Rattle.desk_answers.proofs.SaidLaws.{walked-refused, walked-answered, front-within}
 use Rattle.desk_answers.proofs.say_walk.Statement.{statement}
 use Rattle.desk_answers.proofs.say_walk.Tie as tie
@@ -68,7 +68,7 @@ returns c =
     let walked = told .before .before .before in
     let build = walked .before .before .before .before .before .before .before .before .before .before .before .before in
     let start = build .before .before .before .before .before .before .before .before .before .before .before in
-    let own = tables-built _ _ _ _ _ _ _ (build .build-tables .ensures) (start .pre .2) (start .pre .3) (start .pre .4) in
+    let own = tables-whole _ _ _ _ _ _ _ (build .build-tables .ensures) (start .pre .2) (start .pre .3) (start .pre .4) in
     rw (walked-refused _ _ _ _ _ own _ _ (length-replicate {A = ℕ} 2048 0) _ _ (walked .write-walk .ensures .0) (told .enum-told .given .1), sym (far .far-node .ensures)) (wrote .write-node-refused .ensures .0)
 
 same-length-5 : tie.Need-same-length-5
@@ -90,7 +90,7 @@ returns-2 c =
     let walked = told .before .before .before in
     let build = walked .before .before .before .before .before .before .before .before .before .before .before .before in
     let start = build .before .before .before .before .before .before .before .before .before .before .before in
-    let own = tables-built _ _ _ _ _ _ _ (build .build-tables .ensures) (start .pre .2) (start .pre .3) (start .pre .4) in
+    let own = tables-whole _ _ _ _ _ _ _ (build .build-tables .ensures) (start .pre .2) (start .pre .3) (start .pre .4) in
     rw (walked-answered _ _ _ _ _ own _ _ (length-replicate {A = ℕ} 2048 0) _ _ (walked .write-walk .ensures .0) (told .x .given .1)) (wrote .say-walked .ensures)
 
 pub say-walk-spec : {M : Type 1} → statement M

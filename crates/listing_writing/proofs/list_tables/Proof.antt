@@ -11,7 +11,8 @@ use Rattle.model.specs.SurveyText.{lineOf}
 use Rattle.model.specs.Survey.{Graph, neighboursOf}
 use Rattle.model.specs.Listing.{pairLines, listingOf}
 use Rattle.base_lists.proofs.Written.{wrote-then, wrote-room}
-use Rattle.listing_writing.proofs.Whole.{AreTables, tables-built, count-few, listing-by-tables}
+use Rattle.table_building.proofs.WholeTables.{AreTables, tables-whole}
+use Rattle.listing_writing.proofs.Whole.{count-few, listing-by-tables}
 use Rattle.listing_writing.proofs.list_tables.Statement.{statement}
 use Rattle.listing_writing.proofs.list_tables.Tie as tie
 
@@ -40,7 +41,7 @@ module _ (c : tie.After-build-tables) where
 
   tables : AreTables (start .args .n) (start .args .s) G (c .build-tables .result) full low report
   tables =
-      tables-built _ _ G (start .args .full .now) (start .args .low .now) (start .args .report .now) _ (c .build-tables .ensures)
+      tables-whole _ _ G (start .args .full .now) (start .args .low .now) (start .args .report .now) _ (c .build-tables .ensures)
       (start .pre .0 .2) (start .pre .0 .3) (start .pre .0 .4)
 
   -- the first line and the pairs' lines from the tables are the listing

@@ -8,7 +8,7 @@ use lib.ListN.{length}
 use lib.Seq.{length-take-le}
 use Rattle.model.specs.Listing.{listingText}
 use Rattle.listing_writing.proofs.Room.{refusal-few}
-use Rattle.listing_writing.proofs.Whole.{front-fits, front-is}
+use Rattle.base_lists.proofs.Written.{front-fits, front-is}
 use Rattle.listing_writing.proofs.write_refusal.Statement.{statement}
 use Rattle.listing_writing.proofs.write_refusal.Tie as tie
 

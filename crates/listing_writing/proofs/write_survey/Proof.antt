@@ -5,7 +5,7 @@ use Prim.Native.Nat.{_≤_}
 use borrow.Author.Needs.{needs}
 use lib.ListN.{length}
 use lib.Seq.{length-take-le}
-use Rattle.listing_writing.proofs.Whole.{front-fits, front-is}
+use Rattle.base_lists.proofs.Written.{front-fits, front-is}
 use Rattle.listing_writing.proofs.write_survey.Statement.{statement}
 use Rattle.listing_writing.proofs.write_survey.Tie as tie
 

@@ -1,72 +1,71 @@
+-- `puxerdau::understand` ends: the words that are left become fewer.
+-- Assumes nothing.
+use Prim.Native.Nat.{_-_}
+use borrow.Author.Needs.{needs}
 use Rattle.puxerdau.proofs.understand.Statement.{statement}
 use Rattle.puxerdau.proofs.understand.Tie as tie
-use Rattle.puxerdau.proofs.understand.Reads as reads
-use Rattle.puxerdau.proofs.understand.Lts as lts
-use Rattle.desk_words.proofs.is_whole.Reads as is-whole-reads
-use Rattle.desk_words.proofs.nothing_yet.Reads as nothing-yet-reads
-use Rattle.puxerdau.proofs.hear_word.Reads as hear-word-reads
 
 abbrev Inv-loop : tie.InvT-loop
-Inv-loop command count q₀ i₀ q i = ?
+Inv-loop command count q₀ i₀ q i = Unit {0}
 
 abbrev μ-loop : tie.MeasureT-loop
-μ-loop command count q₀ i₀ q i = ?
+μ-loop command count q₀ i₀ q i = count - i
 
 -- src/main.rt:39:9
 nothing-yet-requires : tie.Need-nothing-yet-requires Inv-loop μ-loop
-nothing-yet-requires c κs = ?
+nothing-yet-requires c κs = search needs
 
 -- src/main.rt:41:5
 loop-holds : tie.Need-loop-holds Inv-loop μ-loop
-loop-holds c = ?
+loop-holds c = tt
 
 -- src/main.rt:42:15
 hear-word-requires : tie.Need-hear-word-requires Inv-loop μ-loop
-hear-word-requires c κs = ?
+hear-word-requires c κs = search needs
 
 -- src/main.rt:43:25
 enum-known-r : tie.Need-enum-known-r Inv-loop μ-loop
-enum-known-r c = ?
+enum-known-r c = search needs
 
 -- src/main.rt:44:73
 enum-told : tie.Need-enum-told Inv-loop μ-loop
-enum-told c = ?
+enum-told c = search needs
 
 -- src/main.rt:44:32
 returns : tie.Need-returns Inv-loop μ-loop
-returns c = ?
+returns c = search needs
 
 -- src/main.rt:45:71
 enum-told-2 : tie.Need-enum-told-2 Inv-loop μ-loop
-enum-told-2 c = ?
+enum-told-2 c = search needs
 
 -- src/main.rt:45:31
 returns-2 : tie.Need-returns-2 Inv-loop μ-loop
-returns-2 c = ?
+returns-2 c = search needs
 
 -- src/main.rt:47:9
 add-i : tie.Need-add-i Inv-loop μ-loop
-add-i c = ?
+add-i c = search needs
 
 -- src/main.rt:41:5
 loop-less : tie.Need-loop-less Inv-loop μ-loop
-loop-less c = ?
+loop-less c = search needs
 
 -- src/main.rt:41:5
 loop-again : tie.Need-loop-again Inv-loop μ-loop
-loop-again c = ?
+loop-again c = tt
 
 -- src/main.rt:49:9
 is-whole-requires : tie.Need-is-whole-requires Inv-loop μ-loop
-is-whole-requires c κs = ?
+is-whole-requires c κs = search needs
 
 -- src/main.rt:50:9
 returns-3 : tie.Need-returns-3 Inv-loop μ-loop
-returns-3 c = ?
+returns-3 c = search needs
 
 -- src/main.rt:38:1
 returns-4 : tie.Need-returns-4 Inv-loop μ-loop
-returns-4 c = ?
+returns-4 c = search needs
 
 pub understand-spec : {M : Type 1} → statement M
 understand-spec =
