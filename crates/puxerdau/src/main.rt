@@ -55,6 +55,16 @@ fn understand(command: Command, count: usize) -> Understood {
     Understood::Asks(q)
 }
 
+// Reads the text, if the command needs one, and returns how many bytes it has.
+fn read_text(command: Command, text: &mut [u8]) -> usize
+    ensures { λ r. ⌜ r ≤ length (now (text .exit)) ⌝ }
+{
+    if desk_words::reads_text(command) {
+        return io::read_full(0, text);
+    }
+    0
+}
+
 // Reads the text, if the command needs one, and prints the answer.
 fn answer_with(
     command: Command,
@@ -70,10 +80,7 @@ fn answer_with(
     requires { ⌜ (length (now starts) ≡ 1025) × (length (now neighbours) ≡ 32768) × (200000 ≤ length (now out))
         × (1048576 ≤ length (now full)) × (1048576 ≤ length (now low)) × (1048576 ≤ length (now report)) ⌝ }
 {
-    let mut k = 0;
-    if desk_words::reads_text(command) {
-        k = io::read_full(0, text);
-    }
+    let k = read_text(command, text);
     let r = desk_commands::say(
         command,
         q.threshold as usize,

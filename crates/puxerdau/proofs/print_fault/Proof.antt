@@ -1,10 +1,11 @@
+-- `puxerdau::print_fault` is safe: what is said is within the buffer.
+-- Assumes nothing.
+use mathlib.Core.Path.{sym}
 use borrow.Author.Needs.{needs}
+use lib.Seq.{length-take-le}
+use Rattle.base_lists.proofs.Written.{front-fits}
 use Rattle.puxerdau.proofs.print_fault.Statement.{statement}
 use Rattle.puxerdau.proofs.print_fault.Tie as tie
-use Rattle.puxerdau.proofs.print_fault.Reads as reads
-use Rattle.puxerdau.proofs.print_fault.Lts as lts
-use Rattle.desk_usage.proofs.write_fault.Reads as write-fault-reads
-use Rattle.io.proofs.write_all.Reads as write-all-reads
 
 -- src/main.rt:112:37
 slice-aggregate-write-fault : tie.Need-slice-aggregate-write-fault
@@ -20,7 +21,7 @@ array-share-prefix-line c = search needs
 
 -- src/main.rt:113:22
 slice-aggregate-write-all : tie.Need-slice-aggregate-write-all
-slice-aggregate-write-all c = ?
+slice-aggregate-write-all c = sym (length-take-le _ _ (front-fits (c .before .before .write-fault .ensures .0)))
 
 -- src/main.rt:113:5
 write-all-requires : tie.Need-write-all-requires

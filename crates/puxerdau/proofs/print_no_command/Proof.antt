@@ -1,10 +1,11 @@
+-- `puxerdau::print_no_command` is safe: what is said is within the buffer.
+-- Assumes nothing.
+use mathlib.Core.Path.{sym}
 use borrow.Author.Needs.{needs}
+use lib.Seq.{length-take-le}
+use Rattle.base_lists.proofs.Written.{front-fits}
 use Rattle.puxerdau.proofs.print_no_command.Statement.{statement}
 use Rattle.puxerdau.proofs.print_no_command.Tie as tie
-use Rattle.puxerdau.proofs.print_no_command.Reads as reads
-use Rattle.puxerdau.proofs.print_no_command.Lts as lts
-use Rattle.desk_usage.proofs.write_no_command.Reads as write-no-command-reads
-use Rattle.io.proofs.write_all.Reads as write-all-reads
 
 -- src/main.rt:118:42
 slice-aggregate-write-no-command : tie.Need-slice-aggregate-write-no-command
@@ -16,11 +17,11 @@ write-no-command-requires c κs = search needs
 
 -- src/main.rt:119:22
 array-share-prefix-line : tie.Need-array-share-prefix-line
-array-share-prefix-line c = ?
+array-share-prefix-line c = front-fits (c .before .write-no-command .ensures)
 
 -- src/main.rt:119:22
 slice-aggregate-write-all : tie.Need-slice-aggregate-write-all
-slice-aggregate-write-all c = ?
+slice-aggregate-write-all c = sym (length-take-le _ _ (front-fits (c .before .before .write-no-command .ensures)))
 
 -- src/main.rt:119:5
 write-all-requires : tie.Need-write-all-requires
