@@ -24,7 +24,8 @@ use Rattle.model.specs.Testing.{testing}
 use Rattle.model.proofs.Tests.{and-i, and-l, and-r}
 use Rattle.model.proofs.Lists.{of-upTo, keep-same, keep-below}
 use Rattle.table_building.proofs.WholeTables.{AreTables}
-use Rattle.desk_sentences.specs.Sentences.{pairLines, verdictLines, nodeRefused, thresholdRefused}
+use Rattle.desk_sentences.specs.Sentences.{pairLines, verdictLines}
+use Rattle.desk_refusals.specs.Reasons.{nodeRefused, thresholdRefused}
 use Rattle.desk_answers.specs.Said.{farNode, askedSaid, pairSaid, walkedSaid, walkSaid, testedSaid, testSaid}
 
 -- ---- a pair and its walk, by tables that are those of the rules

@@ -15,7 +15,8 @@ use Rattle.model.specs.Tables.{fullTable, lowTable, reportTable}
 use Rattle.model.specs.Asking.{asking}
 use Rattle.model.specs.Walking.{AfterWalking, walking}
 use Rattle.model.specs.Testing.{testing}
-use Rattle.desk_sentences.specs.Sentences.{pairLines, walkLine, verdictLines, hubsLine, highLine, nodeRefused, thresholdRefused}
+use Rattle.desk_sentences.specs.Sentences.{pairLines, walkLine, verdictLines, hubsLine, highLine}
+use Rattle.desk_refusals.specs.Reasons.{nodeRefused, thresholdRefused}
 
 -- the node that is refused: a, unless it is below n
 unfoldable pub farNode : (n a b : ℕ) → ℕ

@@ -46,7 +46,7 @@ pub fn say_pair(
     table_building::build_tables(n, s, starts, neighbours, full, low, report, &mut hubs);
     match answer_pair::ask(n, full, low, report, a, b) {
         Asking::Refused(_) => {
-            desk_sentences::write_node_refused(out, 0, far_node(n, a, b) as u64, n as u64)
+            desk_refusals::write_node_refused(out, 0, far_node(n, a, b) as u64, n as u64)
         }
         Asking::Answered(x) => desk_sentences::write_pair(out, 0, a as u64, b as u64, x),
     }
@@ -90,7 +90,7 @@ pub fn say_walk(
     table_building::build_tables(n, s, starts, neighbours, full, low, report, &mut hubs);
     match walk_writing::write_walk(n, t, starts, neighbours, full, low, report, a, b, &mut walk) {
         Asking::Refused(_) => {
-            desk_sentences::write_node_refused(out, 0, far_node(n, a, b) as u64, n as u64)
+            desk_refusals::write_node_refused(out, 0, far_node(n, a, b) as u64, n as u64)
         }
         Asking::Answered(x) => say_walked(n, a, b, x, &walk, out),
     }
@@ -102,7 +102,7 @@ pub fn say_test(n: usize, t: usize, starts: &[u32], neighbours: &[u16], out: &mu
     ensures { λ r. ⌜ Wrote (now (out .entry)) (now (out .exit)) 0 r (testSaid n t (now (starts .entry)) (now (neighbours .entry))) ⌝ }
 {
     match answer_two_or_four::test(n, t, starts, neighbours) {
-        Testing::Refused(_) => desk_sentences::write_threshold_refused(out, 0, t as u64),
+        Testing::Refused(_) => desk_refusals::write_threshold_refused(out, 0, t as u64),
         Testing::Answered(x) => desk_sentences::write_verdict(out, 0, x),
     }
 }

@@ -27,7 +27,7 @@ use Rattle.model.proofs.ReadBack.{read-accepted}
 use Rattle.base_lists.specs.Written.{Wrote}
 use Rattle.base_lists.proofs.Written.{over-wrote}
 use Rattle.desk_words.specs.declared.Command.the-variants.{Import}
-use Rattle.desk_sentences.specs.Sentences.{textRefused, thresholdRefused}
+use Rattle.desk_refusals.specs.Reasons.{textRefused, thresholdRefused}
 use Rattle.desk_usage.specs.declared.Fault.the-variants.{TooLong}
 use Rattle.desk_usage.specs.Usage.{faultLine}
 use Rattle.desk_answers.specs.Said.{bySplit}

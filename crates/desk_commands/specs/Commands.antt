@@ -15,8 +15,9 @@ use Rattle.model.specs.Listing.{listingOf}
 use Rattle.survey_stops.specs.Stops.{nodesIn, firstSays, readStop, lineAt, headSays, fileLine}
 use Rattle.desk_words.specs.declared.Command.{Command}
 use Rattle.desk_words.specs.declared.Command.the-variants.{Pair, Walk, Test, Hubs, Reports, Check, Write, Export, Import, Help}
-use Rattle.desk_sentences.specs.declared.Stop.{Stop}
-use Rattle.desk_sentences.specs.Sentences.{acceptedLine, textRefused}
+use Rattle.desk_sentences.specs.Sentences.{acceptedLine}
+use Rattle.desk_refusals.specs.declared.Stop.{Stop}
+use Rattle.desk_refusals.specs.Reasons.{textRefused}
 use Rattle.desk_usage.specs.declared.Fault.the-variants.{TooLong}
 use Rattle.desk_usage.specs.Usage.{faultLine, help}
 use Rattle.desk_answers.specs.Said.{bySplit, pairSaid, walkSaid, testSaid, hubsSaid}

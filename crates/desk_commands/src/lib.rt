@@ -1,5 +1,5 @@
 // The commands of the desk: a text is read, and what is said of it is written into a buffer.
-use desk_sentences::Stop;
+use desk_refusals::Stop;
 use desk_usage::Fault;
 use desk_words::Command;
 use model::Counting;
@@ -14,7 +14,7 @@ ghost use Rattle.model.specs.Writing.{textOf};
 ghost use Rattle.model.specs.Dimacs.{exportOf};
 ghost use Rattle.model.specs.Listing.{listingOf};
 ghost use Rattle.base_lists.specs.Written.{Wrote};
-ghost use Rattle.desk_sentences.specs.Sentences.{textRefused};
+ghost use Rattle.desk_refusals.specs.Reasons.{textRefused};
 ghost use Rattle.desk_answers.specs.Said.{bySplit, pairSaid, walkSaid, hubsSaid};
 ghost use Rattle.desk_commands.specs.Commands.{textStop, fileStop, surveySaid, fileSaid, commandSaid};
 ghost use Rattle.desk_commands.specs.Commands.{pairOf, walkOf, testOf, hubsOf, reportsOf, checkOf, writeOf, fileOf};
@@ -49,7 +49,7 @@ fn refuse_text(
         most_nodes,
         most_links,
     };
-    desk_sentences::write_text_refused(out, 0, refusal, stop)
+    desk_refusals::write_text_refused(out, 0, refusal, stop)
 }
 
 // Says why a file is refused, and at which line, from the first byte on.
@@ -65,7 +65,7 @@ fn refuse_file(text: &[u8], refusal: Refusal, out: &mut [u8]) -> usize
         most_nodes: 1024,
         most_links: 16384,
     };
-    desk_sentences::write_text_refused(out, 0, refusal, stop)
+    desk_refusals::write_text_refused(out, 0, refusal, stop)
 }
 
 // What a survey has as text, from the first byte on.
@@ -97,7 +97,7 @@ fn list_split(n: usize, t: usize, starts: &[u32], neighbours: &[u16], out: &mut 
         (bySplit n t (λ s. listingOf n s (neighboursOf (now (starts .entry)) (now (neighbours .entry))))) ⌝ }
 {
     if base_refusals::bad_threshold(t) {
-        return desk_sentences::write_threshold_refused(out, 0, t as u64);
+        return desk_refusals::write_threshold_refused(out, 0, t as u64);
     }
     let s = base_threshold::in_force(n, t);
     listing_writing::list_survey(n, s, starts, neighbours, out)
@@ -110,7 +110,7 @@ fn hubs_split(n: usize, t: usize, starts: &[u32], neighbours: &[u16], out: &mut 
         (bySplit n t (λ s. hubsSaid n s (neighboursOf (now (starts .entry)) (now (neighbours .entry))))) ⌝ }
 {
     if base_refusals::bad_threshold(t) {
-        return desk_sentences::write_threshold_refused(out, 0, t as u64);
+        return desk_refusals::write_threshold_refused(out, 0, t as u64);
     }
     let s = base_threshold::in_force(n, t);
     desk_answers::say_hubs(n, s, starts, neighbours, out)
@@ -135,7 +135,7 @@ fn pair_split(
         (bySplit n t (λ s. pairSaid n s (neighboursOf (now (starts .entry)) (now (neighbours .entry))) a b)) ⌝ }
 {
     if base_refusals::bad_threshold(t) {
-        return desk_sentences::write_threshold_refused(out, 0, t as u64);
+        return desk_refusals::write_threshold_refused(out, 0, t as u64);
     }
     let s = base_threshold::in_force(n, t);
     let size = n * n;
@@ -172,7 +172,7 @@ fn walk_split(
         (bySplit n t (λ s. walkSaid n t s (now (starts .entry)) (now (neighbours .entry)) a b)) ⌝ }
 {
     if base_refusals::bad_threshold(t) {
-        return desk_sentences::write_threshold_refused(out, 0, t as u64);
+        return desk_refusals::write_threshold_refused(out, 0, t as u64);
     }
     let s = base_threshold::in_force(n, t);
     let size = n * n;

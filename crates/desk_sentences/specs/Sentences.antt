@@ -1,7 +1,7 @@
--- What is said at the desk, line by line, as docs/COMMANDS.md gives it.
+-- What is answered at the desk, line by line, as docs/COMMANDS.md gives it.
 -- Assumes nothing.
 use mathlib.Core.List.{List, [], _∷_, _++_}
-use Prim.Native.Nat.{ℕ, _-_}
+use Prim.Native.Nat.{ℕ}
 use lib.Dec.{eqb, leb}
 use lib.ListN.{length}
 use Rattle.model.specs.declared.Route.{Route}
@@ -13,7 +13,6 @@ use Rattle.model.specs.declared.TestResult.{TestResult}
 use Rattle.model.specs.Basics.{none, if_then_else_, gather, bytes}
 use Rattle.model.specs.Numbers.{digits}
 use Rattle.model.specs.Demand.{leastNeeded}
-use Rattle.desk_sentences.specs.declared.Stop.{Stop}
 
 -- a sentence by its form, in which each `#` (byte 35) stands for the next of the numbers
 unfoldable pub sentence : (form xs : List ℕ) → List ℕ
@@ -78,33 +77,3 @@ highLine high n s = sentence (bytes "high nodes # of # by # or more neighbours\n
 
 unfoldable pub acceptedLine : (n m : ℕ) → List ℕ
 acceptedLine n m = sentence (bytes "accepted nodes # links #\n") (n ∷ m ∷ [])
-
--- ---- refusals by their numbers: of a text, at the line at which reading stopped; of a node; of a threshold
-
-unfoldable pub formSaid : (line : ℕ) → List ℕ
-formSaid line = if eqb line 1 then bytes "the first line of a survey is S,n,m\n" else bytes "a link line is L,a,b\n"
-
--- no text is refused with a number that this is said of
-unfoldable pub unfit : List ℕ
-unfit = bytes "it does not fit\n"
-
-unfoldable pub reason : ℕ → Stop → List ℕ
-reason k x =
-    if eqb k 1 then formSaid (x .line)
-    else if eqb k 2 then sentence (bytes "a survey has 1 to # nodes\n") (x .«most_nodes» ∷ [])
-    else if eqb k 3 then sentence (bytes "a survey has at most # links\n") (x .«most_links» ∷ [])
-    else if eqb k 4 then sentence (bytes "the nodes are # to #\n") (x .first ∷ x .last ∷ [])
-    else if eqb k 5 then bytes "a link joins two different nodes\n"
-    else if eqb k 6 then bytes "the link was given before\n"
-    else if eqb k 7 then bytes "there are fewer or more links than line 1 says\n"
-    else if eqb k 13 then bytes "the line is out of form or out of place\n"
-    else unfit
-
-unfoldable pub textRefused : ℕ → Stop → List ℕ
-textRefused k x = sentence (bytes "refused # at line #: ") (k ∷ x .line ∷ []) ++ reason k x
-
-unfoldable pub nodeRefused : (v n : ℕ) → List ℕ
-nodeRefused v n = sentence (bytes "refused # at node #: the nodes are 0 to #\n") (10 ∷ v ∷ (n - 1) ∷ [])
-
-unfoldable pub thresholdRefused : ℕ → List ℕ
-thresholdRefused t = sentence (bytes "refused # at threshold #: a threshold is at most 1024\n") (14 ∷ t ∷ [])

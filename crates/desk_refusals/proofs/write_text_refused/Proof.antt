@@ -1,12 +1,12 @@
--- `desk_sentences::write_text_refused` meets its contract: the refusal's number and the line, and the reason behind them.
+-- `desk_refusals::write_text_refused` meets its contract: the refusal's number and the line, and the reason behind them.
 -- Assumes nothing.
 use native.Mathlib.Omega.{arith}
 use borrow.Author.Needs.{needs}
 use Rattle.model.specs.Basics.{bytes}
 use Rattle.base_lists.proofs.Written.{wrote-then, wrote-length}
-use Rattle.desk_sentences.specs.Sentences.{textRefused}
-use Rattle.desk_sentences.proofs.write_text_refused.Statement.{statement}
-use Rattle.desk_sentences.proofs.write_text_refused.Tie as tie
+use Rattle.desk_refusals.specs.Reasons.{textRefused}
+use Rattle.desk_refusals.proofs.write_text_refused.Statement.{statement}
+use Rattle.desk_refusals.proofs.write_text_refused.Tie as tie
 
 refusal-number-requires : tie.Need-refusal-number-requires
 refusal-number-requires c κs = search needs

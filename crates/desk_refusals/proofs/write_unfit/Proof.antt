@@ -1,11 +1,11 @@
--- `desk_sentences::write_unfit` meets its contract: the words.
+-- `desk_refusals::write_unfit` meets its contract: the words.
 -- Assumes nothing.
 use native.Mathlib.Omega.{arith}
 use borrow.Author.Needs.{needs}
 use Rattle.model.specs.Basics.{bytes}
-use Rattle.desk_sentences.specs.Sentences.{unfit}
-use Rattle.desk_sentences.proofs.write_unfit.Statement.{statement}
-use Rattle.desk_sentences.proofs.write_unfit.Tie as tie
+use Rattle.desk_refusals.specs.Reasons.{unfit}
+use Rattle.desk_refusals.proofs.write_unfit.Statement.{statement}
+use Rattle.desk_refusals.proofs.write_unfit.Tie as tie
 
 slice-aggregate-write-text : tie.Need-slice-aggregate-write-text
 slice-aggregate-write-text c = search needs

@@ -1,12 +1,12 @@
--- `desk_sentences::write_form` meets its contract: the form of the first line, or of the others.
+-- `desk_refusals::write_form` meets its contract: the form of the first line, or of the others.
 -- Assumes nothing.
 use native.Mathlib.Omega.{arith}
 use borrow.Author.Needs.{needs}
 use borrow.Author.Tests.{eq-eqb, ne-eqb}
 use Rattle.model.specs.Basics.{bytes}
-use Rattle.desk_sentences.specs.Sentences.{formSaid}
-use Rattle.desk_sentences.proofs.write_form.Statement.{statement}
-use Rattle.desk_sentences.proofs.write_form.Tie as tie
+use Rattle.desk_refusals.specs.Reasons.{formSaid}
+use Rattle.desk_refusals.proofs.write_form.Statement.{statement}
+use Rattle.desk_refusals.proofs.write_form.Tie as tie
 
 slice-aggregate-write-text : tie.Need-slice-aggregate-write-text
 slice-aggregate-write-text c = search needs

@@ -1,11 +1,11 @@
--- `desk_sentences::write_reason` meets its contract: the words of each case.
+-- `desk_refusals::write_reason` meets its contract: the words of each case.
 -- Assumes nothing.
 use native.Mathlib.Omega.{arith}
 use borrow.Author.Needs.{needs}
 use Rattle.model.specs.Basics.{bytes}
-use Rattle.desk_sentences.specs.Sentences.{reason}
-use Rattle.desk_sentences.proofs.write_reason.Statement.{statement}
-use Rattle.desk_sentences.proofs.write_reason.Tie as tie
+use Rattle.desk_refusals.specs.Reasons.{reason}
+use Rattle.desk_refusals.proofs.write_reason.Statement.{statement}
+use Rattle.desk_refusals.proofs.write_reason.Tie as tie
 
 enum-told : tie.Need-enum-told
 enum-told c = search needs

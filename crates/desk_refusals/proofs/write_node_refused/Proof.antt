@@ -1,11 +1,11 @@
--- `desk_sentences::write_node_refused` meets its contract: the sentence, with the refusal's number.
+-- `desk_refusals::write_node_refused` meets its contract: the sentence, with the refusal's number.
 -- Assumes nothing.
 use native.Mathlib.Omega.{arith}
 use borrow.Author.Needs.{needs}
 use Rattle.model.specs.Basics.{bytes}
-use Rattle.desk_sentences.specs.Sentences.{nodeRefused}
-use Rattle.desk_sentences.proofs.write_node_refused.Statement.{statement}
-use Rattle.desk_sentences.proofs.write_node_refused.Tie as tie
+use Rattle.desk_refusals.specs.Reasons.{nodeRefused}
+use Rattle.desk_refusals.proofs.write_node_refused.Statement.{statement}
+use Rattle.desk_refusals.proofs.write_node_refused.Tie as tie
 
 refusal-number-requires : tie.Need-refusal-number-requires
 refusal-number-requires c κs = search needs
