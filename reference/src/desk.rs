@@ -1,11 +1,10 @@
 //! What the program `puxerdau` prints (docs/COMMANDS.md).
 
 use crate::answers::{ask, walk, Answer, Route};
-use crate::desk_lines::{find_stop, name_nodes};
+use crate::desk_lines::{find_stop, name_nodes, Source, FILE, LISTED, SURVEY};
 use crate::desk_words::{understand, usage, Command, Question};
 use crate::survey::{MAX_LINKS, MAX_NODES};
 use crate::tables::{build, threshold_in_force};
-use crate::text::{Form, Limits, LIMITS};
 use crate::verdict::{test, Verdict};
 use crate::{file, listing, text};
 
@@ -28,8 +27,8 @@ fn answer(question: &Question, text: &[u8]) -> Result<String, String> {
     match question.command {
         Command::Help => Ok(String::from(HELP)),
         Command::Import => Survey::import(text).map(|survey| survey.written(text::write)),
-        Command::Reports => Survey::read(&listing::LIMITS, text)?.listing(question),
-        other => Survey::read(&LIMITS, text)?.answer(other, question),
+        Command::Reports => Survey::read(&LISTED, text)?.listing(question),
+        other => Survey::read(&SURVEY, text)?.answer(other, question),
     }
 }
 
@@ -51,10 +50,6 @@ struct Tables {
 type WriteText = fn(usize, &[u32], &[u16], &mut [u8]) -> Result<usize, u8>;
 
 impl Survey {
-    fn read(limits: &Limits, text: &[u8]) -> Result<Survey, String> {
-        Survey::of_form(&text::FORM, limits, text)
-    }
-
     fn import(text: &[u8]) -> Result<Survey, String> {
         // The length alone decides, whatever the file says.
         if text.len() > MAX_FILE {
@@ -63,18 +58,20 @@ impl Survey {
                 "not taken: the file has more than {MAX_FILE} bytes; usage: {usage}"
             ));
         }
-        Survey::of_form(&file::FORM, &LIMITS, text)
+        Survey::read(&FILE, text)
     }
 
-    fn of_form(form: &Form, limits: &Limits, text: &[u8]) -> Result<Survey, String> {
+    fn read(source: &Source, text: &[u8]) -> Result<Survey, String> {
         let mut starts = vec![0; MAX_NODES + 1];
         let mut neighbours = vec![0; 2 * MAX_LINKS];
-        let outcome = form.read(limits, text, &mut starts, &mut neighbours);
-        let stop = find_stop(form, limits, text);
+        let outcome = source
+            .form
+            .read(source.limits, text, &mut starts, &mut neighbours);
+        let stop = find_stop(source, text);
         // The text is judged twice, once for the number and once for the place.
         assert_eq!(outcome.err(), stop.as_ref().map(|stop| stop.refusal));
         if let Some(stop) = stop {
-            return Err(stop.show(form, limits));
+            return Err(stop.show(source));
         }
         let (n, m) = outcome.expect("a text at which reading does not stop");
         Ok(Survey {
@@ -155,7 +152,7 @@ impl Survey {
         let hubs = self.build(question)?.hubs;
         let mut lines = format!("hubs {}", hubs.len());
         if !hubs.is_empty() {
-            lines += &format!(" in order{}", show_list(&hubs));
+            lines += &format!(" in order:{}", show_list(&hubs));
         }
         let threshold = threshold_in_force(self.n, question.given_threshold())
             .expect("building has accepted it");
@@ -164,7 +161,7 @@ impl Survey {
             .filter(|pair| (pair[1] - pair[0]) as usize >= threshold)
             .count();
         let n = self.n;
-        lines += &format!("\nhigh nodes {high} of {n} by {threshold} or more neighbours\n");
+        lines += &format!("\nhigh nodes {high} of {n} with {threshold} or more neighbours\n");
         Ok(lines)
     }
 
@@ -230,7 +227,7 @@ fn show_pair(a: usize, b: usize, Answer { report, route }: Answer) -> String {
     let by = match route {
         Route::Itself => String::from("itself"),
         Route::Link => String::from("link"),
-        Route::Low => String::from("low"),
+        Route::Low => String::from("low nodes"),
         Route::Through(h) => format!("hub {h}"),
         Route::NoRoute => {
             return format!("nodes {a} and {b} report no route\nno chain of links joins them\n")

@@ -65,9 +65,9 @@ fn scattered_links(random: &mut Random, n: usize, links: usize) -> Sample {
 }
 
 /// The survey's text or file, now and then the other one than is read, as it
-/// is, too long, or damaged.
-pub fn any_text(random: &mut Random, reads_file: bool, sample: &Sample) -> Vec<u8> {
-    let is_file = reads_file != random.percent(4);
+/// is, too long, kept by another program, or damaged.
+pub fn any_text(random: &mut Random, command: &str, sample: &Sample) -> Vec<u8> {
+    let is_file = (command == "import") != random.percent(4);
     let (mut text, bytes) = if is_file {
         (any_file(random, sample), &FILE_BYTES)
     } else {
@@ -75,6 +75,14 @@ pub fn any_text(random: &mut Random, reads_file: bool, sample: &Sample) -> Vec<u
     };
     if random.percent(if is_file { 25 } else { 2 }) {
         lengthen(random, &mut text, is_file);
+    }
+    // These two have words of their own for counts above their limits.
+    if ["import", "reports"].contains(&command) && random.percent(20) {
+        change_counts(random, &mut text);
+    }
+    if random.percent(8) {
+        let separator = if is_file { b' ' } else { b',' };
+        keep_otherwise(random, &mut text, separator);
     }
     if random.percent(35) {
         for _ in 0..1 + random.below(2) {
@@ -117,6 +125,28 @@ fn lengthen(random: &mut Random, text: &mut Vec<u8>, is_file: bool) {
     *text = lines.concat();
 }
 
+/// What other programs make of a text when they keep it.
+fn keep_otherwise(random: &mut Random, text: &mut Vec<u8>, separator: u8) {
+    let replaced = |byte: u8, by: &[u8]| -> Vec<u8> {
+        let pieces: Vec<&[u8]> = text.split(|&other| other == byte).collect();
+        pieces.join(by)
+    };
+    *text = match random.below(5) {
+        0 => replaced(b'\n', b"\r\n"),
+        // A byte order mark.
+        1 => [b"\xef\xbb\xbf", text.as_slice()].concat(),
+        // An empty line.
+        2 => [text.as_slice(), b"\n"].concat(),
+        3 => replaced(separator, &[separator, b' ']),
+        _ => {
+            let is_separator = |&place: &usize| text[place] == separator;
+            let places: Vec<usize> = (0..text.len()).filter(is_separator).collect();
+            let (front, behind) = text.split_at(one_of(random, &places) + 1);
+            [front, b" ", behind].concat()
+        }
+    };
+}
+
 /// One comment or many, with so many bytes together.
 fn comments(random: &mut Random, length: usize) -> Vec<u8> {
     if random.percent(50) {
@@ -149,6 +179,23 @@ fn change_number(random: &mut Random, text: &mut Vec<u8>, n: usize) {
         _ => other_number(random, &line[from..to], n),
     };
     line.splice(from..to, value);
+    *text = lines.concat();
+}
+
+/// Gives the count of nodes or of links a value at a limit.
+fn change_counts(random: &mut Random, text: &mut Vec<u8>) {
+    let mut lines = lines_of(text);
+    let is_first = |line: &&mut Vec<u8>| line.starts_with(b"S,") || line.starts_with(b"p ");
+    let line = lines.iter_mut().find(is_first).expect("a first line");
+    let [nodes, links] = numbers_of(line)[..] else {
+        return;
+    };
+    let ((from, to), value) = if random.percent(35) {
+        (nodes, one_of(random, &[0, 128, 129, 1024, 1025]))
+    } else {
+        (links, one_of(random, &[2048, 2049, 16384, 16385, 16385]))
+    };
+    line.splice(from..to, value.to_string().into_bytes());
     *text = lines.concat();
 }
 

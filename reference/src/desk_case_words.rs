@@ -37,7 +37,7 @@ const THRESHOLD: &[u8] = b"--threshold";
 
 /// Words that look like a number or like `--threshold`, or like neither. The
 /// last two are numbers.
-const ODD_WORDS: [&[u8]; 35] = [
+const ODD_WORDS: [&[u8]; 33] = [
     b"",
     b" ",
     b"-",
@@ -66,14 +66,15 @@ const ODD_WORDS: [&[u8]; 35] = [
     b"1\xb2",
     "\u{0663}".as_bytes(),
     b"--threshold=3",
-    b"--threshol",
-    b"--thresholds",
     b"--threshold ",
     b"-threshold",
     b"--THRESHOLD",
     b"9999999999",
     b"7",
 ];
+
+/// Words of 10, 11 and 12 bytes that begin like `--threshold`.
+const NEAR_THRESHOLDS: [&[u8]; 3] = [b"--threshol", b"--threshole", b"--thresholds"];
 
 /// Words that look like a command.
 const NO_COMMANDS: [&[u8]; 16] = [
@@ -141,6 +142,7 @@ fn any_node(random: &mut Random, n: usize) -> Vec<u8> {
         // A node again, if too few bits are kept.
         2 => node + one_of(random, &[1 << 16, 1 << 32]),
         3 => one_of(random, &NUMBERS),
+        4 => ten_digits(random),
         _ => node,
     };
     node.to_string().into_bytes()
@@ -150,6 +152,7 @@ fn any_threshold(random: &mut Random, n: usize) -> Vec<u8> {
     let threshold = match random.below(10) {
         0 => random.below(1025) as u64,
         1 => one_of(random, &[0, 1, 1024, 1025, 9999999999]),
+        2 if random.percent(50) => ten_digits(random),
         2 => one_of(random, &NUMBERS),
         // A threshold again, if too few bits are kept.
         3 => 1 + one_of(random, &[1 << 16, 1 << 32]),
@@ -166,7 +169,7 @@ fn spoil_words(random: &mut Random, words: &mut Vec<Vec<u8>>, n: usize) {
     } else {
         1.min(words.len()) + random.below(words.len().max(1))
     };
-    match random.below(9) {
+    match random.below(11) {
         0 => words.insert(place, odd_word(random)),
         1 => words.insert(place, THRESHOLD.to_vec()),
         // Where there is one, it is the second.
@@ -176,8 +179,9 @@ fn spoil_words(random: &mut Random, words: &mut Vec<Vec<u8>>, n: usize) {
             words.remove(place);
         }
         5 if place < words.len() => words.insert(place, words[place].clone()),
-        6 if place < words.len() => words[place] = odd_word(random),
-        7 if !words.is_empty() => words[0] = one_of(random, &NO_COMMANDS).to_vec(),
+        6 | 9 if place < words.len() => words[place] = odd_word(random),
+        7 if !words.is_empty() => words[0] = no_command(random),
+        8 => nearly_give_threshold(random, words, n),
         _ => {
             let count = one_of(random, &[1, 2, 300]);
             words.extend((0..count).map(|_| any_node(random, n)));
@@ -185,12 +189,64 @@ fn spoil_words(random: &mut Random, words: &mut Vec<Vec<u8>>, n: usize) {
     }
 }
 
+/// Puts another word for `--threshold`, which is given if it was not.
+fn nearly_give_threshold(random: &mut Random, words: &mut Vec<Vec<u8>>, n: usize) {
+    let near = one_of(random, &NEAR_THRESHOLDS).to_vec();
+    match words.iter().position(|word| word == THRESHOLD) {
+        Some(place) => words[place] = near,
+        None => {
+            let place = 1.min(words.len()) + random.below(words.len().max(1));
+            words.splice(place..place, [near, any_threshold(random, n)]);
+        }
+    }
+}
+
+fn no_command(random: &mut Random) -> Vec<u8> {
+    match random.below(4) {
+        0 => middle_word(random),
+        _ => one_of(random, &NO_COMMANDS).to_vec(),
+    }
+}
+
 /// Now and then a long one.
 fn odd_word(random: &mut Random) -> Vec<u8> {
-    if random.percent(15) {
-        let byte = one_of(random, b"017x- \n\xff");
-        vec![byte; 5_001 + random.below(60_000)]
-    } else {
-        one_of(random, &ODD_WORDS).to_vec()
+    match random.below(100) {
+        0..=14 => {
+            let byte = one_of(random, b"017x- \n\xff");
+            vec![byte; 5_001 + random.below(60_000)]
+        }
+        15..=24 => one_of(random, &NEAR_THRESHOLDS).to_vec(),
+        25..=44 => middle_word(random),
+        45..=59 => {
+            // By one to three digits more it is no number.
+            let front = one_of(random, &[1, 2, 3, 12, 123]);
+            format!("{front}{}", ten_digits(random)).into_bytes()
+        }
+        _ => one_of(random, &ODD_WORDS).to_vec(),
     }
+}
+
+/// 15, 16 or 17 letters and digits. It may begin like a word that has a
+/// meaning.
+fn middle_word(random: &mut Random) -> Vec<u8> {
+    const BEGINNINGS: [&[u8]; 7] = [b"", b"", b"pair", b"test", b"help", b"7", b"1234567890"];
+    let bytes: &[u8] = one_of(
+        random,
+        &[
+            b"0123456789".as_slice(),
+            b"abcxyzABCXYZ".as_slice(),
+            b"0123456789abcxyzABCXYZ".as_slice(),
+        ],
+    );
+    let length = 15 + random.below(3);
+    let mut word = one_of(random, &BEGINNINGS).to_vec();
+    while word.len() < length {
+        word.push(one_of(random, bytes));
+    }
+    word
+}
+
+/// A number of ten digits of which the first is 1, 2 or 3: 32 bits hold it.
+fn ten_digits(random: &mut Random) -> u64 {
+    1_000_000_000 + random.below(3_000_000_000) as u64
 }

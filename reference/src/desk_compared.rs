@@ -20,8 +20,14 @@ const REFUSALS: [u8; 10] = [1, 2, 3, 4, 5, 6, 7, 10, 13, 14];
 /// What a line without an answer says, but for a refusal: a name, and how
 /// the line is known. Nothing of the words or the text is in such a line.
 const OTHER_LINES: [(&str, &str); 5] = [
-    ("no command", "not understood: word 1 is no command;"),
-    ("no number", " is no number; usage: "),
+    (
+        "no command",
+        "not understood: the first word is no command;",
+    ),
+    (
+        "no number",
+        " is no number (one to ten digits, no zero in front); usage: ",
+    ),
     ("one too many", " is one too many; usage: "),
     ("missing", "not understood: a word is missing;"),
     ("not taken", "not taken: "),
@@ -60,7 +66,7 @@ pub fn run(program: &str, count: usize, seed: u64) -> Result<(), String> {
 fn any_case(random: &mut Random) -> Case {
     let command = any_command(random);
     let sample = any_survey(random);
-    let text = any_text(random, command.name == "import", &sample);
+    let text = any_text(random, command.name, &sample);
     let words = any_words(random, command, sample.n);
     Case { words, text }
 }

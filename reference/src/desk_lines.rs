@@ -3,7 +3,40 @@
 //! lines.
 
 use crate::text::{read_fields, Form, Limits};
+use crate::{file, listing, text};
 use std::collections::BTreeSet;
+
+/// What a command reads, and the words of the refusals 2 and 3.
+pub struct Source {
+    pub form: &'static Form,
+    pub limits: &'static Limits,
+    node_limit: &'static str,
+    link_limit: &'static str,
+}
+
+/// A survey's text.
+pub const SURVEY: Source = Source {
+    form: &text::FORM,
+    limits: &text::LIMITS,
+    node_limit: "a survey has 1 to 1024 nodes",
+    link_limit: "a survey has at most 16384 links",
+};
+
+/// A survey's text that is to be listed.
+pub const LISTED: Source = Source {
+    form: &text::FORM,
+    limits: &listing::LIMITS,
+    node_limit: "reports takes 1 to 128 nodes",
+    link_limit: "reports takes at most 2048 links",
+};
+
+/// A planners' file. Its lines are counted, not the links that are kept.
+pub const FILE: Source = Source {
+    form: &file::FORM,
+    limits: &text::LIMITS,
+    node_limit: SURVEY.node_limit,
+    link_limit: "a file has at most 16384 lines e a b",
+};
 
 /// Where reading stops, and why.
 pub struct Stop {
@@ -17,7 +50,8 @@ pub struct Stop {
 type NumberedLine<'a> = (usize, &'a [u8]);
 
 /// Where reading a text stops; nothing if it is not refused.
-pub fn find_stop(form: &Form, limits: &Limits, text: &[u8]) -> Option<Stop> {
+pub fn find_stop(source: &Source, text: &[u8]) -> Option<Stop> {
+    let form = source.form;
     let stop = |line: usize, refusal: u8, nodes: u64| {
         Some(Stop {
             line,
@@ -27,7 +61,7 @@ pub fn find_stop(form: &Form, limits: &Limits, text: &[u8]) -> Option<Stop> {
     };
     let lines = numbered_lines(form, text);
     let (first, behind) = lines.split_first().expect("a text has a last line");
-    let (n, m) = match judge_counts(form, limits, first.1) {
+    let (n, m) = match judge_counts(form, source.limits, first.1) {
         Ok(counts) => counts,
         Err(refusal) => return stop(first.0, refusal, 0),
     };
@@ -97,25 +131,27 @@ fn two_numbers(form: &Form, word: &str, line: &[u8]) -> Result<(u64, u64), u8> {
 
 impl Stop {
     /// The line that is printed.
-    pub fn show(&self, form: &Form, limits: &Limits) -> String {
+    pub fn show(&self, source: &Source) -> String {
         let Stop { line, refusal, .. } = self;
-        format!(
-            "refused {refusal} at line {line}: {}",
-            self.words(form, limits)
-        )
+        format!("refused {refusal} at line {line}: {}", self.words(source))
     }
 
-    fn words(&self, form: &Form, limits: &Limits) -> String {
+    fn words(&self, source: &Source) -> String {
         let words = match self.refusal {
-            1 if self.line == 1 => "the first line of a survey is S,n,m",
-            1 => "a link line is L,a,b",
-            2 => return format!("a survey has 1 to {} nodes", limits.nodes),
-            3 => return format!("a survey has at most {} links", limits.links),
-            4 => return name_nodes(form.first_node, self.nodes),
+            1 if self.line == 1 => {
+                "the first line of a survey is S,n,m and a line feed, and nothing else"
+            }
+            1 => "a link line is L,a,b and a line feed, and nothing else",
+            2 => source.node_limit,
+            3 => source.link_limit,
+            4 => return name_nodes(source.form.first_node, self.nodes),
             5 => "a link joins two different nodes",
-            6 => "the link was given before",
-            7 => "there are fewer or more links than line 1 says",
-            13 => "the line is out of form or out of place",
+            6 => "the link was given before, either way round",
+            7 => "as many links must follow line 1 as it says, and nothing else",
+            13 => {
+                "a file is p edge n m, then m lines e a b, each with a line feed; \
+                 comments begin with c"
+            }
             other => unreachable!("refusal {other} is none of a text"),
         };
         String::from(words)

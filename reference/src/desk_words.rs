@@ -100,7 +100,7 @@ pub fn understand(words: &[&[u8]]) -> Result<Question, String> {
 fn no_command() -> String {
     let names = COMMANDS.map(|entry| entry.name).join(" ");
     format!(
-        "not understood: word 1 is no command; \
+        "not understood: the first word is no command; \
          usage: puxerdau COMMAND [WORDS ..]{SURVEY}; commands: {names}"
     )
 }
@@ -122,13 +122,12 @@ impl Entry {
         format!("puxerdau {}{nodes}{threshold}{}", self.name, self.reads)
     }
 
-    /// Judges the words behind the command from left to right. The error is
-    /// the first fault.
+    /// Judges the words behind the command, which count from 1, from left to
+    /// right. The error is the first fault.
     fn take(&self, words: &[&[u8]]) -> Result<Question, String> {
         let missing = || String::from("a word is missing");
         let (mut nodes, mut threshold) = (Vec::new(), None);
-        // The command is word 1.
-        let mut numbered = (2..).zip(words);
+        let mut numbered = (1..).zip(words);
         while let Some((place, word)) = numbered.next() {
             // A second `--threshold` is a word like any other.
             if self.threshold && threshold.is_none() && *word == b"--threshold" {
@@ -137,7 +136,7 @@ impl Entry {
             } else if nodes.len() < self.nodes {
                 nodes.push(take_number(place, word)?);
             } else {
-                return Err(format!("word {place} is one too many"));
+                return Err(format!("word {place} behind the command is one too many"));
             }
         }
         if nodes.len() < self.nodes {
@@ -152,5 +151,9 @@ impl Entry {
 }
 
 fn take_number(place: usize, word: &[u8]) -> Result<u64, String> {
-    read_number(word).ok_or_else(|| format!("word {place} is no number"))
+    read_number(word).ok_or_else(|| {
+        format!(
+            "word {place} behind the command is no number (one to ten digits, no zero in front)"
+        )
+    })
 }

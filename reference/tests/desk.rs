@@ -62,8 +62,8 @@ fn help_is_the_block_of_the_page() {
 
 #[test]
 fn no_command() {
-    let line =
-        "not understood: word 1 is no command; usage: puxerdau COMMAND [WORDS ..] < survey.txt; \
+    let line = "not understood: the first word is no command; \
+        usage: puxerdau COMMAND [WORDS ..] < survey.txt; \
         commands: pair walk test hubs reports check write export import help\n";
     for word in [
         "",
@@ -113,51 +113,51 @@ fn check_fault(words: &str, fault: &str) {
     check(words, "", &line);
 }
 
+/// Words behind the command count from 1.
+fn no_number(place: usize) -> String {
+    format!("word {place} behind the command is no number (one to ten digits, no zero in front)")
+}
+
+fn one_too_many(place: usize) -> String {
+    format!("word {place} behind the command is one too many")
+}
+
 #[test]
 fn every_usage() {
     for (command, _) in USAGES {
-        let fault = match command {
-            "pair" | "walk" => "word 4 is one too many",
-            _ => "word 2 is one too many",
+        let (words, place) = match command {
+            "pair" | "walk" => (format!("{command} 1 3 5"), 3),
+            _ => (format!("{command} 1"), 1),
         };
-        let words = match command {
-            "pair" | "walk" => format!("{command} 1 3 5"),
-            _ => format!("{command} 1"),
-        };
-        check_fault(&words, fault);
+        check_fault(&words, &one_too_many(place));
     }
 }
 
 #[test]
-fn no_number() {
-    check_fault("pair x 3", "word 2 is no number");
-    check_fault("pair 1 x", "word 3 is no number");
-    check_fault("pair x y", "word 2 is no number");
-    check_fault("pair x", "word 2 is no number");
-    check_fault("pair 1 x 5 6 7", "word 3 is no number");
-    check_fault("pair --threshold x 1 3", "word 3 is no number");
-    check_fault("walk 1 --threshold x 3", "word 4 is no number");
-    check_fault("walk 1 3 --threshold x", "word 5 is no number");
-    check_fault("walk --threshold 5 x 3", "word 4 is no number");
-    check_fault("test --threshold x", "word 3 is no number");
-    check_fault("hubs --threshold --threshold", "word 3 is no number");
-    check_fault("reports --threshold --threshold 3", "word 3 is no number");
+fn words_that_are_no_number() {
+    check_fault("pair x 3", &no_number(1));
+    check_fault("pair 1 x", &no_number(2));
+    check_fault("pair x y", &no_number(1));
+    check_fault("pair x", &no_number(1));
+    check_fault("pair 1 x 5 6 7", &no_number(2));
+    check_fault("pair --threshold x 1 3", &no_number(2));
+    check_fault("walk 1 --threshold x 3", &no_number(3));
+    check_fault("walk 1 3 --threshold x", &no_number(4));
+    check_fault("walk --threshold 5 x 3", &no_number(3));
+    check_fault("test --threshold x", &no_number(2));
+    check_fault("hubs --threshold --threshold", &no_number(2));
+    check_fault("reports --threshold --threshold 3", &no_number(2));
     // A second one, where A or B is still needed.
-    check_fault(
-        "pair --threshold 3 --threshold 4 1 3",
-        "word 4 is no number",
-    );
-    check_fault(
-        "pair 1 --threshold 3 --threshold 4 3",
-        "word 5 is no number",
-    );
+    check_fault("pair --threshold 3 --threshold 4 1 3", &no_number(3));
+    check_fault("pair 1 --threshold 3 --threshold 4 3", &no_number(4));
 }
 
 #[test]
 fn what_is_a_number() {
-    let line = "not understood: word 3 is no number; \
+    let line = "not understood: \
+        word 2 behind the command is no number (one to ten digits, no zero in front); \
         usage: puxerdau pair A B [--threshold T] < survey.txt\n";
-    let words: [&[u8]; 22] = [
+    let words: [&[u8]; 30] = [
         b"",
         b"-1",
         b"+1",
@@ -180,6 +180,14 @@ fn what_is_a_number() {
         b"--",
         b"--threshold=3",
         b"1\x802",
+        b"--threshol",
+        b"--threshole",
+        b"--thresholds",
+        b"123456789012345",
+        b"1234567890123456",
+        b"12345678901234567",
+        b"13333333333",
+        b"3211111111111",
     ];
     for word in words {
         check_bytes(&[b"pair", b"1", word], line);
@@ -190,32 +198,41 @@ fn what_is_a_number() {
         COURSE,
         "refused 10 at node 9999999999: the nodes are 0 to 5\n",
     );
+    for node in ["1000000000", "2147483648", "3999999999"] {
+        check(
+            &format!("pair 0 {node}"),
+            COURSE,
+            &format!("refused 10 at node {node}: the nodes are 0 to 5\n"),
+        );
+    }
+}
+
+/// Words that begin like `--threshold` are others.
+#[test]
+fn nearly_a_threshold() {
+    for word in ["--threshol", "--threshole", "--thresholds"] {
+        check_fault(&format!("test {word} 3"), &one_too_many(1));
+        check_fault(&format!("pair 1 3 {word} 3"), &one_too_many(3));
+        check_fault(&format!("pair {word} 3 1 3"), &no_number(1));
+        check_fault(&format!("test --threshold {word}"), &no_number(2));
+    }
 }
 
 #[test]
-fn one_too_many() {
-    check_fault("pair 1 3 x", "word 4 is one too many");
-    check_fault("walk 1 3 --threshold 5 2", "word 6 is one too many");
-    check_fault("walk --threshold 5 1 3 2", "word 6 is one too many");
-    check_fault(
-        "pair 1 3 --threshold 5 --threshold 5",
-        "word 6 is one too many",
-    );
-    check_fault(
-        "pair 1 --threshold 5 3 --threshold",
-        "word 6 is one too many",
-    );
-    check_fault("test 1 --threshold 3", "word 2 is one too many");
-    check_fault("test --threshold 3 --threshold 3", "word 4 is one too many");
-    check_fault("test ", "word 2 is one too many");
-    check_fault("help help", "word 2 is one too many");
+fn words_that_are_too_many() {
+    check_fault("pair 1 3 x", &one_too_many(3));
+    check_fault("walk 1 3 --threshold 5 2", &one_too_many(5));
+    check_fault("walk --threshold 5 1 3 2", &one_too_many(5));
+    check_fault("pair 1 3 --threshold 5 --threshold 5", &one_too_many(5));
+    check_fault("pair 1 --threshold 5 3 --threshold", &one_too_many(5));
+    check_fault("test 1 --threshold 3", &one_too_many(1));
+    check_fault("test --threshold 3 --threshold 3", &one_too_many(3));
+    check_fault("test ", &one_too_many(1));
+    check_fault("help help", &one_too_many(1));
     // Taken for any other word.
     for command in ["check", "write", "export", "import", "help"] {
-        check_fault(
-            &format!("{command} --threshold 3"),
-            "word 2 is one too many",
-        );
-        check_fault(&format!("{command} --threshold"), "word 2 is one too many");
+        check_fault(&format!("{command} --threshold 3"), &one_too_many(1));
+        check_fault(&format!("{command} --threshold"), &one_too_many(1));
     }
 }
 
@@ -274,7 +291,7 @@ fn what_a_report_says() {
     check(
         "pair 0 3",
         CHAIN,
-        "nodes 0 and 3 report 3 by low\nat least 2 and at most 3 links are needed\n",
+        "nodes 0 and 3 report 3 by low nodes\nat least 2 and at most 3 links are needed\n",
     );
     check(
         "pair 0 2",
@@ -284,12 +301,12 @@ fn what_a_report_says() {
     check(
         "pair 0 5",
         LONG_CHAIN,
-        "nodes 0 and 5 report 5 by low\nat least 3 and at most 5 links are needed\n",
+        "nodes 0 and 5 report 5 by low nodes\nat least 3 and at most 5 links are needed\n",
     );
     check(
         "pair 7 0",
         LONG_CHAIN,
-        "nodes 7 and 0 report 7 by low\nat least 5 and at most 7 links are needed\n",
+        "nodes 7 and 0 report 7 by low nodes\nat least 5 and at most 7 links are needed\n",
     );
 }
 
@@ -313,7 +330,7 @@ fn walk() {
     check(
         "walk 4 0",
         CHAIN,
-        "nodes 4 and 0 report 4 by low\nat least 2 and at most 4 links are needed\nwalk 4 3 2 1 0\n",
+        "nodes 4 and 0 report 4 by low nodes\nat least 2 and at most 4 links are needed\nwalk 4 3 2 1 0\n",
     );
     check(
         "walk 0 1",
@@ -324,7 +341,7 @@ fn walk() {
 
 #[test]
 fn threshold_anywhere_behind_the_command() {
-    let lines = "nodes 1 and 3 report 2 by low\nexactly 2 links are needed\n";
+    let lines = "nodes 1 and 3 report 2 by low nodes\nexactly 2 links are needed\n";
     check("pair 1 3 --threshold 6", COURSE, lines);
     check("pair 1 --threshold 6 3", COURSE, lines);
     check("pair --threshold 6 1 3", COURSE, lines);
@@ -371,28 +388,28 @@ fn hubs() {
     check(
         "hubs",
         COURSE,
-        "hubs 1 in order 0\nhigh nodes 1 of 6 by 5 or more neighbours\n",
+        "hubs 1 in order: 0\nhigh nodes 1 of 6 with 5 or more neighbours\n",
     );
     check(
         "hubs --threshold 2",
         COURSE,
-        "hubs 1 in order 1\nhigh nodes 3 of 6 by 2 or more neighbours\n",
+        "hubs 1 in order: 1\nhigh nodes 3 of 6 with 2 or more neighbours\n",
     );
     check(
         "hubs --threshold 6",
         COURSE,
-        "hubs 0\nhigh nodes 0 of 6 by 6 or more neighbours\n",
+        "hubs 0\nhigh nodes 0 of 6 with 6 or more neighbours\n",
     );
     // Node 3 covers three nodes, and then 0 the other two.
     check(
         "hubs --threshold 1",
         "S,5,3\nL,0,1\nL,2,3\nL,3,4\n",
-        "hubs 2 in order 3 0\nhigh nodes 5 of 5 by 1 or more neighbours\n",
+        "hubs 2 in order: 3 0\nhigh nodes 5 of 5 with 1 or more neighbours\n",
     );
     check(
         "hubs",
         "S,1,0\n",
-        "hubs 0\nhigh nodes 0 of 1 by 1 or more neighbours\n",
+        "hubs 0\nhigh nodes 0 of 1 with 1 or more neighbours\n",
     );
 }
 
@@ -434,9 +451,15 @@ fn texts_and_files() {
 
 // Refusals
 
+const FIRST_LINE: &str = "refused 1 at line 1: \
+    the first line of a survey is S,n,m and a line feed, and nothing else\n";
+
+fn link_line(line: usize) -> String {
+    format!("refused 1 at line {line}: a link line is L,a,b and a line feed, and nothing else\n")
+}
+
 #[test]
 fn lines_out_of_form() {
-    let first = "refused 1 at line 1: the first line of a survey is S,n,m\n";
     for text in [
         "",
         "\n",
@@ -447,14 +470,26 @@ fn lines_out_of_form() {
         "p edge 6 6\n",
         "L,0,1\n",
     ] {
-        check("check", text, first);
+        check("check", text, FIRST_LINE);
+        check("reports", text, FIRST_LINE);
     }
-    let link = |line: usize| format!("refused 1 at line {line}: a link line is L,a,b\n");
-    check("check", "S,6,2\nL,0,1\nL,1\nL,0,1\n", &link(3));
-    check("check", "S,6,2\n\n", &link(2));
-    check("check", "S,6,2\nL,0,1\nL,1,2", &link(3));
-    check("check", "S,6,2\nL,0,1\nL", &link(3));
-    check("check", "S,6,2\nL,0,9999999999,\n", &link(2));
+    check("check", "S,6,2\nL,0,1\nL,1\nL,0,1\n", &link_line(3));
+    check("check", "S,6,2\n\n", &link_line(2));
+    check("check", "S,6,2\nL,0,1\nL,1,2", &link_line(3));
+    check("check", "S,6,2\nL,0,1\nL", &link_line(3));
+    check("check", "S,6,2\nL,0,9999999999,\n", &link_line(2));
+    check("reports", "S,6,2\nL,0,1\nL\n", &link_line(3));
+}
+
+/// What other programs make of a text when they keep it.
+#[test]
+fn texts_that_were_kept_otherwise() {
+    check("check", &COURSE.replace('\n', "\r\n"), FIRST_LINE);
+    check("check", &format!("\u{feff}{COURSE}"), FIRST_LINE);
+    check("check", &format!("{COURSE}\n"), &wrong_count(8));
+    check("check", &COURSE.replace(',', ", "), FIRST_LINE);
+    check("check", "S,6,2\nL,0,1\r\nL,1,2\n", &link_line(2));
+    check("check", "S,6,2\nL,0,1\nL,1, 2\n", &link_line(3));
 }
 
 #[test]
@@ -471,12 +506,14 @@ fn counts_out_of_limits() {
 
 #[test]
 fn limits_of_the_listing() {
-    let nodes = "refused 2 at line 1: a survey has 1 to 128 nodes\n";
+    let nodes = "refused 2 at line 1: reports takes 1 to 128 nodes\n";
     check("reports", "S,129,0\n", nodes);
     check("reports", "S,1025,0\n", nodes);
+    check("reports", "S,0,0\n", nodes);
     check("reports", "S,0,2049\n", nodes);
-    let links = "refused 3 at line 1: a survey has at most 2048 links\n";
+    let links = "refused 3 at line 1: reports takes at most 2048 links\n";
     check("reports", "S,128,2049\n", links);
+    check("reports", "S,128,16385\n", links);
     check("reports --threshold 2000", "S,128,2049\n", links);
     check("reports", "S,128,2048\n", &wrong_count(2));
     check(
@@ -505,12 +542,14 @@ fn links_out_of_place() {
     check(
         "check",
         "S,6,6\nL,0,1\nL,1,0\n",
-        "refused 6 at line 3: the link was given before\n",
+        "refused 6 at line 3: the link was given before, either way round\n",
     );
 }
 
 fn wrong_count(line: usize) -> String {
-    format!("refused 7 at line {line}: there are fewer or more links than line 1 says\n")
+    format!(
+        "refused 7 at line {line}: as many links must follow line 1 as it says, and nothing else\n"
+    )
 }
 
 #[test]
@@ -574,7 +613,10 @@ fn order_of_refusals() {
 // Files
 
 fn out_of_place(line: usize) -> String {
-    format!("refused 13 at line {line}: the line is out of form or out of place\n")
+    format!(
+        "refused 13 at line {line}: a file is p edge n m, then m lines e a b, \
+         each with a line feed; comments begin with c\n"
+    )
 }
 
 #[test]
@@ -597,6 +639,27 @@ fn lines_of_files_out_of_form() {
     check("import", "c\np edge 6 1\nc\ne 1  2\n", &out_of_place(4));
 }
 
+/// A comment may hold any bytes, and also spaces and carriage returns.
+#[test]
+fn files_that_were_kept_otherwise() {
+    let file = "c x y\np edge 6 2\ne 1 2\ne 2 3\n";
+    check("import", &file.replace('\n', "\r\n"), &out_of_place(2));
+    check("import", &format!("\u{feff}{file}"), &out_of_place(1));
+    check("import", &format!("{file}\n"), &out_of_place(5));
+    check("import", &file.replace(' ', "  "), &out_of_place(2));
+    check("import", &file.replace("e 2", "e  2"), &out_of_place(4));
+    check(
+        "import",
+        &file.replace("e 2 3\n", "e 2 3\r\n"),
+        &out_of_place(4),
+    );
+    check(
+        "import",
+        &file.replace("c x y\n", "c x  y\r\n"),
+        "S,6,2\nL,0,1\nL,1,2\n",
+    );
+}
+
 #[test]
 fn files_with_a_wrong_count() {
     check("import", "c\np edge 6 1\nc\n", &out_of_place(4));
@@ -615,7 +678,12 @@ fn files_with_a_wrong_count() {
 fn other_refusals_of_files() {
     let nodes = "refused 2 at line 3: a survey has 1 to 1024 nodes\n";
     check("import", "c\nc\np edge 1025 0\n", nodes);
-    let links = "refused 3 at line 1: a survey has at most 16384 links\n";
+    check(
+        "import",
+        "p edge 0 16385\n",
+        "refused 2 at line 1: a survey has 1 to 1024 nodes\n",
+    );
+    let links = "refused 3 at line 1: a file has at most 16384 lines e a b\n";
     check("import", "p edge 2 16385\n", links);
     let node = "refused 4 at line 3: the nodes are 1 to 6\n";
     check("import", "p edge 6 1\nc\ne 0 1\n", node);
@@ -623,6 +691,9 @@ fn other_refusals_of_files() {
     let equal = "refused 5 at line 3: a link joins two different nodes\n";
     check("import", "p edge 6 2\nc\ne 6 6\n", equal);
 }
+
+const NOT_TAKEN: &str =
+    "not taken: the file has more than 524287 bytes; usage: puxerdau import < edges.col\n";
 
 #[test]
 fn long_files() {
@@ -632,11 +703,9 @@ fn long_files() {
         format!("p edge 3 1\n{comment}\ne 1 3\n")
     };
     check("import", &with_comment(524_287), "S,3,1\nL,0,2\n");
-    let line =
-        "not taken: the file has more than 524287 bytes; usage: puxerdau import < edges.col\n";
-    check("import", &with_comment(524_288), line);
+    check("import", &with_comment(524_288), NOT_TAKEN);
     // Whatever it says.
-    check("import", &"x".repeat(524_288), line);
+    check("import", &"x".repeat(524_288), NOT_TAKEN);
     check("import", &"x".repeat(524_287), &out_of_place(1));
     // 262,143 lines, and half of one.
     let comments = "c\n".repeat(262_144);
@@ -648,16 +717,8 @@ fn long_texts() {
     let rest = "L,1,2\n".repeat(100_000);
     check("check", &format!("{COURSE}{rest}"), &wrong_count(8));
     let digits = "1".repeat(600_000);
-    check(
-        "check",
-        &format!("S,6,6\nL,0,{digits}\n"),
-        "refused 1 at line 2: a link line is L,a,b\n",
-    );
-    check(
-        "check",
-        &digits,
-        "refused 1 at line 1: the first line of a survey is S,n,m\n",
-    );
+    check("check", &format!("S,6,6\nL,0,{digits}\n"), &link_line(2));
+    check("check", &digits, FIRST_LINE);
 }
 
 #[test]
@@ -668,7 +729,7 @@ fn largest_surveys() {
     check(
         "pair 0 1023",
         &text,
-        "nodes 0 and 1023 report 1023 by low\nat least 1021 and at most 1023 links are needed\n",
+        "nodes 0 and 1023 report 1023 by low nodes\nat least 1021 and at most 1023 links are needed\n",
     );
     let every: String = (0..1024).map(|v| format!(" {v}")).collect();
     assert!(printed("walk 0 1023", &text).ends_with(&format!("\nwalk{every}\n")));
@@ -681,18 +742,45 @@ fn largest_surveys() {
 
 // The page
 
-/// The lines that the tables behind "Words" quote, with a number for K.
-fn lines_of_page() -> Vec<String> {
+/// What the tables behind "Words" quote, of two words or more.
+enum Quoted {
+    /// A whole line.
+    Line(String),
+    /// A part of one.
+    Part(String),
+    /// How a line ends whose beginning, the number and the place, is that of
+    /// the row's line.
+    End(String, String),
+}
+
+/// With a number for K.
+fn quoted_by_page() -> Vec<Quoted> {
     let page = stored("docs/COMMANDS.md");
     let (_, tables) = page.split_once("\n## Words\n").expect("the heading");
     let rows = tables.lines().filter(|line| line.starts_with('|'));
-    let cells = rows.flat_map(|row| row.split('|').map(str::trim));
-    // Cells with more than a quoted line say what it means.
-    let quoted = cells.filter_map(|cell| cell.strip_prefix('`')?.strip_suffix('`'));
-    quoted
-        .filter(|line| line.contains(' ') && !line.contains('`'))
-        .map(|line| line.replace("word K", "word 2"))
-        .collect()
+    rows.flat_map(quoted_by_row).collect()
+}
+
+fn quoted_by_row(row: &str) -> Vec<Quoted> {
+    let mut all = Vec::new();
+    let mut place = String::new();
+    for cell in row.split('|').map(str::trim) {
+        // Every second piece stands in quotes.
+        let quotes: Vec<&str> = cell.split('`').skip(1).step_by(2).collect();
+        for quote in quotes.iter().filter(|quote| quote.contains(' ')) {
+            let quote = quote.replace("word K", "word 1");
+            if let Some(end) = quote.strip_prefix("..") {
+                all.push(Quoted::End(place.clone(), String::from(end)));
+            } else if cell.len() == quote.len() + 2 {
+                let (front, _) = quote.split_once(':').unwrap_or_default();
+                place = format!("{front}:");
+                all.push(Quoted::Line(quote));
+            } else {
+                all.push(Quoted::Part(quote));
+            }
+        }
+    }
+    all
 }
 
 /// The lines printed for words and texts that were chosen for the page.
@@ -706,16 +794,24 @@ fn lines_for_page() -> Vec<String> {
         ("walk 1 3", COURSE),
         ("pair 0 3", COURSE),
         ("pair 0 1", NO_LINK),
+        ("pair 5 5", COURSE),
+        ("pair 5 1", COURSE),
+        ("pair 0 3", CHAIN),
         ("test", COURSE),
         ("test", CHAIN),
         ("test", NO_LINK),
         ("hubs", COURSE),
+        ("hubs", NO_LINK),
         ("check", COURSE),
         ("check", ""),
         ("check", "S,6,6\nL,0,5\nL\n"),
         ("check", "S,0,0\n"),
+        ("reports", "S,129,0\n"),
         ("check", "S,2,16385\n"),
+        ("reports", "S,128,2049\n"),
+        ("import", "p edge 2 16385\n"),
         ("check", "S,6,6\nL,0,5\nL,6,1\n"),
+        ("import", "p edge 6 6\ne 1 6\ne 7 2\n"),
         ("check", "S,6,6\nL,0,5\nL,1,1\n"),
         ("check", "S,6,6\nL,0,5\nL,5,0\n"),
         ("check", fewer_links.as_str()),
@@ -731,10 +827,53 @@ fn lines_for_page() -> Vec<String> {
 #[test]
 fn every_line_of_the_page() {
     let printed = lines_for_page();
-    let quoted = lines_of_page();
-    assert!(quoted.len() >= 28, "{}", quoted.len());
-    for line in quoted {
-        assert!(printed.contains(&line), "{line}");
+    let (mut lines, mut parts, mut ends) = (0, 0, 0);
+    for quoted in quoted_by_page() {
+        match quoted {
+            Quoted::Line(line) => {
+                assert!(printed.contains(&line), "{line}");
+                lines += 1;
+            }
+            Quoted::Part(part) => {
+                assert!(printed.iter().any(|line| line.contains(&part)), "{part}");
+                parts += 1;
+            }
+            Quoted::End(place, end) => {
+                let fits = |line: &String| line.starts_with(&place) && line.ends_with(&end);
+                assert!(printed.iter().any(fits), "{place} ..{end}");
+                ends += 1;
+            }
+        }
+    }
+    assert_eq!((lines, parts, ends), (28, 5, 4));
+}
+
+/// It stands outside the tables, on two lines of the page.
+#[test]
+fn line_of_the_page_for_long_files() {
+    let page = stored("docs/COMMANDS.md").replace('\n', " ");
+    assert!(page.contains(&format!("`{}`", NOT_TAKEN.trim_end())));
+}
+
+/// The words of each usage are those of the table of commands.
+#[test]
+fn usages_of_the_page() {
+    let page = stored("docs/COMMANDS.md");
+    for (command, usage) in USAGES {
+        let row = page
+            .lines()
+            .find_map(|line| line.strip_prefix(&format!("| `{command}` |")))
+            .expect("a row");
+        let mut cells = row.split('|').map(|cell| cell.trim().trim_matches('`'));
+        let words = cells.next().expect("its words");
+        let reads = match cells.next() {
+            Some("a survey") => " < survey.txt",
+            Some("a DIMACS edge file") => " < edges.col",
+            Some("nothing") => "",
+            other => panic!("{other:?}"),
+        };
+        let space = if words.is_empty() { "" } else { " " };
+        assert_eq!(usage, format!("puxerdau {command}{space}{words}{reads}"));
     }
 }
 
@@ -818,4 +957,16 @@ fn command() {
         assert!(output.status.success());
         assert_eq!(output.stdout, desk(words, COURSE.as_bytes()));
     }
+}
+
+/// A directory cannot be read; it counts as an empty text.
+#[test]
+fn input_that_cannot_be_read() {
+    let output = Command::new(env!("CARGO_BIN_EXE_reference"))
+        .args(["desk", "check"])
+        .stdin(std::fs::File::open("/").expect("a directory"))
+        .output()
+        .expect("the program");
+    assert!(output.status.success());
+    assert_eq!(output.stdout, FIRST_LINE.as_bytes());
 }

@@ -1,10 +1,8 @@
 -- What a command says, from what the calls answer.
 -- Assumes nothing.
 use mathlib.Core.Path.{_≡_, refl, sym, ap, _∙_}
-use mathlib.Core.Bool.{true, false}
 use mathlib.Core.List.{List}
-use Prim.Native.Nat.{ℕ, _*_, _≤_, _<_}
-use native.Mathlib.Nat.{mul-le-mul}
+use Prim.Native.Nat.{ℕ, _≤_, _<_}
 use native.Mathlib.Omega.{arith}
 use borrow.Author.Tests.{lt-ltb, le-ltb}
 use lib.ListN.{length}
@@ -17,7 +15,6 @@ use Rattle.model.specs.declared.Counting.the-variants as counting
 use Rattle.model.specs.Answers.{Outcome, refused, answered, number}
 use Rattle.model.specs.Basics.{over}
 use Rattle.model.specs.Survey.{Accepted}
-use Rattle.model.specs.Threshold.{inForce, badThreshold}
 use Rattle.model.specs.Reading.{AfterReading, Parsed, parse, readReturned, readingOf}
 use Rattle.model.specs.Writing.{AfterWriting, writeReturned}
 use Rattle.model.specs.Dimacs.{importing}
@@ -27,44 +24,29 @@ use Rattle.model.proofs.ReadBack.{read-accepted}
 use Rattle.base_lists.specs.Written.{Wrote}
 use Rattle.base_lists.proofs.Written.{over-wrote}
 use Rattle.desk_words.specs.declared.Command.the-variants.{Import}
-use Rattle.desk_refusals.specs.Reasons.{textRefused, thresholdRefused}
+use Rattle.desk_refusals.specs.declared.Source.{Source}
+use Rattle.desk_refusals.specs.Reasons.{textRefused}
 use Rattle.desk_usage.specs.declared.Fault.the-variants.{TooLong}
 use Rattle.desk_usage.specs.Usage.{faultLine}
-use Rattle.desk_answers.specs.Said.{bySplit}
 use Rattle.desk_commands.specs.Commands.{textStop, fileStop, Saying, ofReading, surveySaid, fileSaid}
-
--- a table of n x n entries, of at most 1,024 nodes
-pub square : {n : ℕ} {starts neighbours : List ℕ} → Accepted n starts neighbours → n * n ≤ 1048576
-square survey = mul-le-mul (survey .size) (survey .size)
-
--- ---- the threshold
-
-module _ (n t : ℕ) (say : ℕ → List ℕ) where
-  pub split-refused : badThreshold t ≡ true → bySplit n t say ≡ thresholdRefused t
-  unfolding bySplit
-  split-refused e = rw e
-
-  pub split-taken : badThreshold t ≡ false → bySplit n t say ≡ say (inForce n t)
-  unfolding bySplit
-  split-taken e = rw e
 
 -- ---- a text that is read into lists of 1,025 and 32,768 entries
 
-module _ (N M : ℕ) (text : List ℕ) (say : Saying) {p q : ℕ} (p-is : p ≡ 1025) (q-is : q ≡ 32768) (r : Reading) (starts neighbours : List ℕ)
+module _ (source : Source) (N M : ℕ) (text : List ℕ) (say : Saying) {p q : ℕ} (p-is : p ≡ 1025) (q-is : q ≡ 32768) (r : Reading) (starts neighbours : List ℕ)
     (e : readReturned r starts neighbours ≡ readingOf p q (parse N M p q text)) where
   abbrev refuse : ℕ → List ℕ
-  refuse k = textRefused k (textStop N M text)
+  refuse k = textRefused k (textStop source N M text)
 
-  said : surveySaid N M text say ≡ ofReading refuse say (readReturned r starts neighbours)
+  said : surveySaid source N M text say ≡ ofReading refuse say (readReturned r starts neighbours)
   unfolding surveySaid
   said =
       let long : readReturned r starts neighbours ≡ readingOf 1025 32768 (parse N M 1025 32768 text) = e ∙ rw (p-is, q-is) in
       ap (λ (z : AfterReading). ofReading refuse say z) (sym long)
 
-  pub text-refused : {k : Refusal} → r ≡ read.Refused k → surveySaid N M text say ≡ textRefused (number k) (textStop N M text)
+  pub text-refused : {k : Refusal} → r ≡ read.Refused k → surveySaid source N M text say ≡ textRefused (number k) (textStop source N M text)
   text-refused i = said ∙ ap (λ (z : Reading). ofReading refuse say (readReturned z starts neighbours)) i
 
-  pub text-read : {x : Size} → r ≡ read.Read x → surveySaid N M text say ≡ say x starts neighbours
+  pub text-read : {x : Size} → r ≡ read.Read x → surveySaid source N M text say ≡ say x starts neighbours
   text-read i = said ∙ ap (λ (z : Reading). ofReading refuse say (readReturned z starts neighbours)) i
 
 -- what was read is an accepted survey, within the limit on its nodes

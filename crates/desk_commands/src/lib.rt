@@ -1,4 +1,5 @@
 // The commands of the desk: a text is read, and what is said of it is written into a buffer.
+use desk_refusals::Source;
 use desk_refusals::Stop;
 use desk_usage::Fault;
 use desk_words::Command;
@@ -15,7 +16,7 @@ ghost use Rattle.model.specs.Dimacs.{exportOf};
 ghost use Rattle.model.specs.Listing.{listingOf};
 ghost use Rattle.base_lists.specs.Written.{Wrote};
 ghost use Rattle.desk_refusals.specs.Reasons.{textRefused};
-ghost use Rattle.desk_answers.specs.Said.{bySplit, pairSaid, walkSaid, hubsSaid};
+ghost use Rattle.desk_answers.specs.Said.{bySplit, hubsSaid};
 ghost use Rattle.desk_commands.specs.Commands.{textStop, fileStop, surveySaid, fileSaid, commandSaid};
 ghost use Rattle.desk_commands.specs.Commands.{pairOf, walkOf, testOf, hubsOf, reportsOf, checkOf, writeOf, fileOf};
 
@@ -32,6 +33,7 @@ fn one_less(k: usize) -> usize
 // Says why a survey text is refused, and at which line, from the first byte on.
 fn refuse_text(
     text: &[u8],
+    source: Source,
     refusal: Refusal,
     most_nodes: usize,
     most_links: usize,
@@ -39,10 +41,11 @@ fn refuse_text(
 ) -> usize
     requires { ⌜ («most_nodes» ≤ 1024) × («most_links» ≤ 16384) × (200000 ≤ length (now out)) ⌝ }
     ensures { λ r. ⌜ Wrote (now (out .entry)) (now (out .exit)) 0 r
-        (textRefused (number refusal) (textStop «most_nodes» «most_links» (now (text .entry)))) ⌝ }
+        (textRefused (number refusal) (textStop source «most_nodes» «most_links» (now (text .entry)))) ⌝ }
 {
     let place = survey_stops::reading_stops(text, most_nodes, most_links);
     let stop = Stop {
+        source,
         line: place.line,
         first: 0,
         last: one_less(place.nodes),
@@ -59,6 +62,7 @@ fn refuse_file(text: &[u8], refusal: Refusal, out: &mut [u8]) -> usize
 {
     let place = survey_stops::importing_stops(text);
     let stop = Stop {
+        source: Source::File,
         line: place.line,
         first: 1,
         last: place.nodes,
@@ -116,88 +120,13 @@ fn hubs_split(n: usize, t: usize, starts: &[u32], neighbours: &[u16], out: &mut 
     desk_answers::say_hubs(n, s, starts, neighbours, out)
 }
 
-// Two nodes of a survey, split likewise.
-fn pair_split(
-    n: usize,
-    t: usize,
-    starts: &[u32],
-    neighbours: &[u16],
-    full: &mut [u16],
-    low: &mut [u16],
-    report: &mut [u16],
-    a: usize,
-    b: usize,
-    out: &mut [u8],
-) -> usize
-    requires { ⌜ Accepted n (now starts) (now neighbours) × (200000 ≤ length (now out))
-        × (1048576 ≤ length (now full)) × (1048576 ≤ length (now low)) × (1048576 ≤ length (now report)) ⌝ }
-    ensures { λ r. ⌜ Wrote (now (out .entry)) (now (out .exit)) 0 r
-        (bySplit n t (λ s. pairSaid n s (neighboursOf (now (starts .entry)) (now (neighbours .entry))) a b)) ⌝ }
-{
-    if base_refusals::bad_threshold(t) {
-        return desk_refusals::write_threshold_refused(out, 0, t as u64);
-    }
-    let s = base_threshold::in_force(n, t);
-    let size = n * n;
-    desk_answers::say_pair(
-        n,
-        s,
-        starts,
-        neighbours,
-        &mut full[..size],
-        &mut low[..size],
-        &mut report[..size],
-        a,
-        b,
-        out,
-    )
-}
-
-// The walk of two nodes, split likewise.
-fn walk_split(
-    n: usize,
-    t: usize,
-    starts: &[u32],
-    neighbours: &[u16],
-    full: &mut [u16],
-    low: &mut [u16],
-    report: &mut [u16],
-    a: usize,
-    b: usize,
-    out: &mut [u8],
-) -> usize
-    requires { ⌜ Accepted n (now starts) (now neighbours) × (200000 ≤ length (now out))
-        × (1048576 ≤ length (now full)) × (1048576 ≤ length (now low)) × (1048576 ≤ length (now report)) ⌝ }
-    ensures { λ r. ⌜ Wrote (now (out .entry)) (now (out .exit)) 0 r
-        (bySplit n t (λ s. walkSaid n t s (now (starts .entry)) (now (neighbours .entry)) a b)) ⌝ }
-{
-    if base_refusals::bad_threshold(t) {
-        return desk_refusals::write_threshold_refused(out, 0, t as u64);
-    }
-    let s = base_threshold::in_force(n, t);
-    let size = n * n;
-    desk_answers::say_walk(
-        n,
-        t,
-        s,
-        starts,
-        neighbours,
-        &mut full[..size],
-        &mut low[..size],
-        &mut report[..size],
-        a,
-        b,
-        out,
-    )
-}
-
 // The command `check`: the counts of a survey.
 fn say_check(text: &[u8], starts: &mut [u32], neighbours: &mut [u16], out: &mut [u8]) -> usize
     requires { ⌜ (length (now starts) ≡ 1025) × (length (now neighbours) ≡ 32768) × (200000 ≤ length (now out)) ⌝ }
-    ensures { λ r. ⌜ Wrote (now (out .entry)) (now (out .exit)) 0 r (surveySaid 1024 16384 (now (text .entry)) checkOf) ⌝ }
+    ensures { λ r. ⌜ Wrote (now (out .entry)) (now (out .exit)) 0 r (surveySaid Source.Survey 1024 16384 (now (text .entry)) checkOf) ⌝ }
 {
     match survey_reading::read_within(text, 1024, 16384, starts, neighbours) {
-        Reading::Refused(r) => refuse_text(text, r, 1024, 16384, out),
+        Reading::Refused(r) => refuse_text(text, Source::Survey, r, 1024, 16384, out),
         Reading::Read(x) => desk_sentences::write_accepted(out, 0, x.nodes as u64, x.links as u64),
     }
 }
@@ -205,10 +134,10 @@ fn say_check(text: &[u8], starts: &mut [u32], neighbours: &mut [u16], out: &mut 
 // The command `write`.
 fn say_write(text: &[u8], starts: &mut [u32], neighbours: &mut [u16], out: &mut [u8]) -> usize
     requires { ⌜ (length (now starts) ≡ 1025) × (length (now neighbours) ≡ 32768) × (200000 ≤ length (now out)) ⌝ }
-    ensures { λ r. ⌜ Wrote (now (out .entry)) (now (out .exit)) 0 r (surveySaid 1024 16384 (now (text .entry)) writeOf) ⌝ }
+    ensures { λ r. ⌜ Wrote (now (out .entry)) (now (out .exit)) 0 r (surveySaid Source.Survey 1024 16384 (now (text .entry)) writeOf) ⌝ }
 {
     match survey_reading::read_within(text, 1024, 16384, starts, neighbours) {
-        Reading::Refused(r) => refuse_text(text, r, 1024, 16384, out),
+        Reading::Refused(r) => refuse_text(text, Source::Survey, r, 1024, 16384, out),
         Reading::Read(x) => survey_text(x.nodes, starts, neighbours, out),
     }
 }
@@ -216,10 +145,10 @@ fn say_write(text: &[u8], starts: &mut [u32], neighbours: &mut [u16], out: &mut 
 // The command `export`.
 fn say_export(text: &[u8], starts: &mut [u32], neighbours: &mut [u16], out: &mut [u8]) -> usize
     requires { ⌜ (length (now starts) ≡ 1025) × (length (now neighbours) ≡ 32768) × (200000 ≤ length (now out)) ⌝ }
-    ensures { λ r. ⌜ Wrote (now (out .entry)) (now (out .exit)) 0 r (surveySaid 1024 16384 (now (text .entry)) fileOf) ⌝ }
+    ensures { λ r. ⌜ Wrote (now (out .entry)) (now (out .exit)) 0 r (surveySaid Source.Survey 1024 16384 (now (text .entry)) fileOf) ⌝ }
 {
     match survey_reading::read_within(text, 1024, 16384, starts, neighbours) {
-        Reading::Refused(r) => refuse_text(text, r, 1024, 16384, out),
+        Reading::Refused(r) => refuse_text(text, Source::Survey, r, 1024, 16384, out),
         Reading::Read(x) => survey_file(x.nodes, starts, neighbours, out),
     }
 }
@@ -233,10 +162,10 @@ fn say_test(
     out: &mut [u8],
 ) -> usize
     requires { ⌜ (length (now starts) ≡ 1025) × (length (now neighbours) ≡ 32768) × (200000 ≤ length (now out)) ⌝ }
-    ensures { λ r. ⌜ Wrote (now (out .entry)) (now (out .exit)) 0 r (surveySaid 1024 16384 (now (text .entry)) (testOf t)) ⌝ }
+    ensures { λ r. ⌜ Wrote (now (out .entry)) (now (out .exit)) 0 r (surveySaid Source.Survey 1024 16384 (now (text .entry)) (testOf t)) ⌝ }
 {
     match survey_reading::read_within(text, 1024, 16384, starts, neighbours) {
-        Reading::Refused(r) => refuse_text(text, r, 1024, 16384, out),
+        Reading::Refused(r) => refuse_text(text, Source::Survey, r, 1024, 16384, out),
         Reading::Read(x) => desk_answers::say_test(x.nodes, t, starts, neighbours, out),
     }
 }
@@ -250,10 +179,10 @@ fn say_hubs(
     out: &mut [u8],
 ) -> usize
     requires { ⌜ (length (now starts) ≡ 1025) × (length (now neighbours) ≡ 32768) × (200000 ≤ length (now out)) ⌝ }
-    ensures { λ r. ⌜ Wrote (now (out .entry)) (now (out .exit)) 0 r (surveySaid 1024 16384 (now (text .entry)) (hubsOf t)) ⌝ }
+    ensures { λ r. ⌜ Wrote (now (out .entry)) (now (out .exit)) 0 r (surveySaid Source.Survey 1024 16384 (now (text .entry)) (hubsOf t)) ⌝ }
 {
     match survey_reading::read_within(text, 1024, 16384, starts, neighbours) {
-        Reading::Refused(r) => refuse_text(text, r, 1024, 16384, out),
+        Reading::Refused(r) => refuse_text(text, Source::Survey, r, 1024, 16384, out),
         Reading::Read(x) => hubs_split(x.nodes, t, starts, neighbours, out),
     }
 }
@@ -267,10 +196,10 @@ fn say_reports(
     out: &mut [u8],
 ) -> usize
     requires { ⌜ (length (now starts) ≡ 1025) × (length (now neighbours) ≡ 32768) × (200000 ≤ length (now out)) ⌝ }
-    ensures { λ r. ⌜ Wrote (now (out .entry)) (now (out .exit)) 0 r (surveySaid 128 2048 (now (text .entry)) (reportsOf t)) ⌝ }
+    ensures { λ r. ⌜ Wrote (now (out .entry)) (now (out .exit)) 0 r (surveySaid Source.Listing 128 2048 (now (text .entry)) (reportsOf t)) ⌝ }
 {
     match survey_reading::read_within(text, 128, 2048, starts, neighbours) {
-        Reading::Refused(r) => refuse_text(text, r, 128, 2048, out),
+        Reading::Refused(r) => refuse_text(text, Source::Listing, r, 128, 2048, out),
         Reading::Read(x) => list_split(x.nodes, t, starts, neighbours, out),
     }
 }
@@ -283,29 +212,16 @@ fn say_pair(
     text: &[u8],
     starts: &mut [u32],
     neighbours: &mut [u16],
-    full: &mut [u16],
-    low: &mut [u16],
-    report: &mut [u16],
     out: &mut [u8],
 ) -> usize
-    requires { ⌜ (length (now starts) ≡ 1025) × (length (now neighbours) ≡ 32768) × (200000 ≤ length (now out))
-        × (1048576 ≤ length (now full)) × (1048576 ≤ length (now low)) × (1048576 ≤ length (now report)) ⌝ }
-    ensures { λ r. ⌜ Wrote (now (out .entry)) (now (out .exit)) 0 r (surveySaid 1024 16384 (now (text .entry)) (pairOf t a b)) ⌝ }
+    requires { ⌜ (length (now starts) ≡ 1025) × (length (now neighbours) ≡ 32768) × (200000 ≤ length (now out)) ⌝ }
+    ensures { λ r. ⌜ Wrote (now (out .entry)) (now (out .exit)) 0 r (surveySaid Source.Survey 1024 16384 (now (text .entry)) (pairOf t a b)) ⌝ }
 {
     match survey_reading::read_within(text, 1024, 16384, starts, neighbours) {
-        Reading::Refused(r) => refuse_text(text, r, 1024, 16384, out),
-        Reading::Read(x) => pair_split(
-            x.nodes,
-            t,
-            starts,
-            neighbours,
-            full,
-            low,
-            report,
-            a,
-            b,
-            out,
-        ),
+        Reading::Refused(r) => refuse_text(text, Source::Survey, r, 1024, 16384, out),
+        Reading::Read(x) => {
+            desk_tables::say_nodes(false, x.nodes, t, starts, neighbours, a, b, out)
+        }
     }
 }
 
@@ -317,29 +233,16 @@ fn say_walk(
     text: &[u8],
     starts: &mut [u32],
     neighbours: &mut [u16],
-    full: &mut [u16],
-    low: &mut [u16],
-    report: &mut [u16],
     out: &mut [u8],
 ) -> usize
-    requires { ⌜ (length (now starts) ≡ 1025) × (length (now neighbours) ≡ 32768) × (200000 ≤ length (now out))
-        × (1048576 ≤ length (now full)) × (1048576 ≤ length (now low)) × (1048576 ≤ length (now report)) ⌝ }
-    ensures { λ r. ⌜ Wrote (now (out .entry)) (now (out .exit)) 0 r (surveySaid 1024 16384 (now (text .entry)) (walkOf t a b)) ⌝ }
+    requires { ⌜ (length (now starts) ≡ 1025) × (length (now neighbours) ≡ 32768) × (200000 ≤ length (now out)) ⌝ }
+    ensures { λ r. ⌜ Wrote (now (out .entry)) (now (out .exit)) 0 r (surveySaid Source.Survey 1024 16384 (now (text .entry)) (walkOf t a b)) ⌝ }
 {
     match survey_reading::read_within(text, 1024, 16384, starts, neighbours) {
-        Reading::Refused(r) => refuse_text(text, r, 1024, 16384, out),
-        Reading::Read(x) => walk_split(
-            x.nodes,
-            t,
-            starts,
-            neighbours,
-            full,
-            low,
-            report,
-            a,
-            b,
-            out,
-        ),
+        Reading::Refused(r) => refuse_text(text, Source::Survey, r, 1024, 16384, out),
+        Reading::Read(x) => {
+            desk_tables::say_nodes(true, x.nodes, t, starts, neighbours, a, b, out)
+        }
     }
 }
 
@@ -366,18 +269,14 @@ pub fn say(
     text: &[u8],
     starts: &mut [u32],
     neighbours: &mut [u16],
-    full: &mut [u16],
-    low: &mut [u16],
-    report: &mut [u16],
     out: &mut [u8],
 ) -> usize
-    requires { ⌜ (length (now starts) ≡ 1025) × (length (now neighbours) ≡ 32768) × (200000 ≤ length (now out))
-        × (1048576 ≤ length (now full)) × (1048576 ≤ length (now low)) × (1048576 ≤ length (now report)) ⌝ }
+    requires { ⌜ (length (now starts) ≡ 1025) × (length (now neighbours) ≡ 32768) × (200000 ≤ length (now out)) ⌝ }
     ensures { λ r. ⌜ Wrote (now (out .entry)) (now (out .exit)) 0 r (commandSaid command t a b (now (text .entry))) ⌝ }
 {
     match command {
-        Command::Pair => say_pair(t, a, b, text, starts, neighbours, full, low, report, out),
-        Command::Walk => say_walk(t, a, b, text, starts, neighbours, full, low, report, out),
+        Command::Pair => say_pair(t, a, b, text, starts, neighbours, out),
+        Command::Walk => say_walk(t, a, b, text, starts, neighbours, out),
         Command::Test => say_test(t, text, starts, neighbours, out),
         Command::Hubs => say_hubs(t, text, starts, neighbours, out),
         Command::Reports => say_reports(t, text, starts, neighbours, out),

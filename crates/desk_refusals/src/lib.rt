@@ -1,13 +1,23 @@
 // What is said at the desk where something is refused: one line, with the number, the place and the reason.
+use desk_sentences::write_sentence;
 use model::Refusal;
+use text_writing::write_text;
 ghost use Prim.Native.Nat.{_+_, _≤_};
 ghost use lib.ListN.{length};
 ghost use Rattle.base_lists.specs.Written.{Wrote};
 ghost use Rattle.model.specs.Answers.{number};
-ghost use Rattle.desk_refusals.specs.Reasons.{formSaid, unfit, reason, textRefused, nodeRefused, thresholdRefused};
+ghost use Rattle.desk_refusals.specs.Reasons.{formSaid, nodesMost, linksMost, rangeSaid, unfit, reason, textRefused, nodeRefused, thresholdRefused};
 
-// Where reading a text stopped: the line, the first and the last node that a link line may name, and the most nodes and links.
+// What is read: a survey, a survey for its listing, or an edge file.
+pub enum Source {
+    Survey,
+    Listing,
+    File,
+}
+
+// Where reading stopped: what was read, the line, the first and the last node that a line may name, and the most nodes and lines.
 pub struct Stop {
+    pub source: Source,
     pub line: usize,
     pub first: usize,
     pub last: usize,
@@ -17,14 +27,22 @@ pub struct Stop {
 
 // Writes the form of the lines that may stand at line `line` at a place, and returns the place after it.
 fn write_form(buf: &mut [u8], at: usize, line: usize) -> usize
-    requires { ⌜ at + 40 ≤ length (now buf) ⌝ }
+    requires { ⌜ at + 80 ≤ length (now buf) ⌝ }
     ensures { λ p. ⌜ Wrote (now (buf .entry)) (now (buf .exit)) at p (formSaid line) ⌝ }
-    ensures { λ p. ⌜ p ≤ at + 40 ⌝ }
+    ensures { λ p. ⌜ p ≤ at + 80 ⌝ }
 {
     if line == 1 {
-        return text_writing::write_text(buf, at, b"the first line of a survey is S,n,m\n");
+        return write_text(
+            buf,
+            at,
+            b"the first line of a survey is S,n,m and a line feed, and nothing else\n",
+        );
     }
-    text_writing::write_text(buf, at, b"a link line is L,a,b\n")
+    write_text(
+        buf,
+        at,
+        b"a link line is L,a,b and a line feed, and nothing else\n",
+    )
 }
 
 fn write_unfit(buf: &mut [u8], at: usize) -> usize
@@ -32,52 +50,71 @@ fn write_unfit(buf: &mut [u8], at: usize) -> usize
     ensures { λ p. ⌜ Wrote (now (buf .entry)) (now (buf .exit)) at p unfit ⌝ }
     ensures { λ p. ⌜ p ≤ at + 20 ⌝ }
 {
-    text_writing::write_text(buf, at, b"it does not fit\n")
+    write_text(buf, at, b"it does not fit\n")
+}
+
+// Writes how many nodes there may be at a place, and returns the place after it.
+fn write_nodes_most(buf: &mut [u8], at: usize, source: Source, most: u64) -> usize
+    requires { ⌜ at + 80 ≤ length (now buf) ⌝ }
+    ensures { λ p. ⌜ Wrote (now (buf .entry)) (now (buf .exit)) at p (nodesMost source most) ⌝ }
+    ensures { λ p. ⌜ p ≤ at + 80 ⌝ }
+{
+    match source {
+        Source::Survey => write_sentence(buf, at, b"a survey has 1 to # nodes\n", &[most]),
+        Source::Listing => write_sentence(buf, at, b"reports takes 1 to # nodes\n", &[most]),
+        Source::File => write_sentence(buf, at, b"a survey has 1 to # nodes\n", &[most]),
+    }
+}
+
+// Writes how many links there may be at a place, and returns the place after it.
+fn write_links_most(buf: &mut [u8], at: usize, source: Source, most: u64) -> usize
+    requires { ⌜ at + 80 ≤ length (now buf) ⌝ }
+    ensures { λ p. ⌜ Wrote (now (buf .entry)) (now (buf .exit)) at p (linksMost source most) ⌝ }
+    ensures { λ p. ⌜ p ≤ at + 80 ⌝ }
+{
+    match source {
+        Source::Survey => write_sentence(buf, at, b"a survey has at most # links\n", &[most]),
+        Source::Listing => write_sentence(buf, at, b"reports takes at most # links\n", &[most]),
+        Source::File => write_sentence(buf, at, b"a file has at most # lines e a b\n", &[most]),
+    }
+}
+
+// Writes which nodes a line may name at a place, and returns the place after it.
+fn write_range(buf: &mut [u8], at: usize, first: u64, last: u64) -> usize
+    requires { ⌜ at + 80 ≤ length (now buf) ⌝ }
+    ensures { λ p. ⌜ Wrote (now (buf .entry)) (now (buf .exit)) at p (rangeSaid first last) ⌝ }
+    ensures { λ p. ⌜ p ≤ at + 80 ⌝ }
+{
+    write_sentence(buf, at, b"the nodes are # to #\n", &[first, last])
 }
 
 // Writes why a text is refused at a place, and returns the place after it.
 fn write_reason(buf: &mut [u8], at: usize, refusal: Refusal, stop: Stop) -> usize
-    requires { ⌜ at + 80 ≤ length (now buf) ⌝ }
+    requires { ⌜ at + 100 ≤ length (now buf) ⌝ }
     ensures { λ p. ⌜ Wrote (now (buf .entry)) (now (buf .exit)) at p (reason (number refusal) stop) ⌝ }
-    ensures { λ p. ⌜ p ≤ at + 80 ⌝ }
+    ensures { λ p. ⌜ p ≤ at + 100 ⌝ }
 {
+    let source = stop.source;
     match refusal {
         Refusal::Form => write_form(buf, at, stop.line),
-        Refusal::NodeCount => desk_sentences::write_sentence(
+        Refusal::NodeCount => write_nodes_most(buf, at, source, stop.most_nodes as u64),
+        Refusal::LinkCount => write_links_most(buf, at, source, stop.most_links as u64),
+        Refusal::LineNode => write_range(buf, at, stop.first as u64, stop.last as u64),
+        Refusal::EqualEnds => write_text(buf, at, b"a link joins two different nodes\n"),
+        Refusal::RepeatedLink => {
+            write_text(buf, at, b"the link was given before, either way round\n")
+        }
+        Refusal::LineCount => write_text(
             buf,
             at,
-            b"a survey has 1 to # nodes\n",
-            &[stop.most_nodes as u64],
+            b"as many links must follow line 1 as it says, and nothing else\n",
         ),
-        Refusal::LinkCount => desk_sentences::write_sentence(
+        Refusal::FileForm => write_text(
             buf,
             at,
-            b"a survey has at most # links\n",
-            &[stop.most_links as u64],
+            b"a file is p edge n m, then m lines e a b, each with a line feed; comments begin with c\n",
         ),
-        Refusal::LineNode => desk_sentences::write_sentence(
-            buf,
-            at,
-            b"the nodes are # to #\n",
-            &[stop.first as u64, stop.last as u64],
-        ),
-        Refusal::EqualEnds => text_writing::write_text(
-            buf,
-            at,
-            b"a link joins two different nodes\n",
-        ),
-        Refusal::RepeatedLink => text_writing::write_text(buf, at, b"the link was given before\n"),
-        Refusal::LineCount => text_writing::write_text(
-            buf,
-            at,
-            b"there are fewer or more links than line 1 says\n",
-        ),
-        Refusal::FileForm => text_writing::write_text(
-            buf,
-            at,
-            b"the line is out of form or out of place\n",
-        ),
-        // no text is refused with one of these
+        // a text that is read into the longest lists is refused with none of these
         Refusal::ShortList => write_unfit(buf, at),
         Refusal::NotSurvey => write_unfit(buf, at),
         Refusal::NoNode => write_unfit(buf, at),
@@ -89,12 +126,12 @@ fn write_reason(buf: &mut [u8], at: usize, refusal: Refusal, stop: Stop) -> usiz
 
 // Writes why a text is refused, and at which line, at a place, and returns the place after it.
 pub fn write_text_refused(buf: &mut [u8], at: usize, refusal: Refusal, stop: Stop) -> usize
-    requires { ⌜ at + 150 ≤ length (now buf) ⌝ }
+    requires { ⌜ at + 170 ≤ length (now buf) ⌝ }
     ensures { λ p. ⌜ Wrote (now (buf .entry)) (now (buf .exit)) at p (textRefused (number refusal) stop) ⌝ }
-    ensures { λ p. ⌜ p ≤ at + 150 ⌝ }
+    ensures { λ p. ⌜ p ≤ at + 170 ⌝ }
 {
     let number = base_refusals::refusal_number(refusal);
-    let i = desk_sentences::write_sentence(
+    let i = write_sentence(
         buf,
         at,
         b"refused # at line #: ",
@@ -110,7 +147,7 @@ pub fn write_node_refused(buf: &mut [u8], at: usize, v: u64, n: u64) -> usize
     ensures { λ p. ⌜ p ≤ at + 110 ⌝ }
 {
     let number = base_refusals::refusal_number(Refusal::NoNode);
-    desk_sentences::write_sentence(
+    write_sentence(
         buf,
         at,
         b"refused # at node #: the nodes are 0 to #\n",
@@ -125,7 +162,7 @@ pub fn write_threshold_refused(buf: &mut [u8], at: usize, t: u64) -> usize
     ensures { λ p. ⌜ p ≤ at + 110 ⌝ }
 {
     let number = base_refusals::refusal_number(Refusal::BadThreshold);
-    desk_sentences::write_sentence(
+    write_sentence(
         buf,
         at,
         b"refused # at threshold #: a threshold is at most 1024\n",

@@ -1,7 +1,7 @@
 -- Nodes, of which some are written.
 -- Assumes nothing.
 use mathlib.Core.Path.{_≡_, refl, sym, ap, _∙_}
-use mathlib.Core.List.{List, [], _∷_, _++_, append-assoc, append-nil}
+use mathlib.Core.List.{List, [], _∷_, _++_, append-assoc}
 use Prim.Native.Nat.{ℕ, _+_, _*_, _^_, _≤_, _<_}
 use native.Mathlib.Omega.{arith}
 use lib.ListN.{length, getD, drop, drop-of-length-le}
@@ -85,7 +85,7 @@ unfolding hubsLine
 hubs-none [] e = refl
 hubs-none (v ∷ vs) e = absurd (omega (arith, e))
 
-pub hubs-some : (vs : List ℕ) → (length vs ≡ 0 → ⊥) → hubsLine vs ≡ sentence (bytes "hubs # in order") (length vs ∷ []) ++ nodesEnd vs
+pub hubs-some : (vs : List ℕ) → (length vs ≡ 0 → ⊥) → hubsLine vs ≡ sentence (bytes "hubs # in order:") (length vs ∷ []) ++ nodesEnd vs
 unfolding hubsLine
 hubs-some [] d = absurd (d refl)
 hubs-some (v ∷ vs) d = refl

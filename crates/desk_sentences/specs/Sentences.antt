@@ -28,7 +28,7 @@ nodesEnd vs = gather (λ v. 32 ∷ digits v) vs ++ bytes "\n"
 
 unfoldable pub reportLine : (a b r : ℕ) → Route → List ℕ
 reportLine a b r Itself = sentence (bytes "nodes # and # report # by itself\n") (a ∷ b ∷ r ∷ [])
-reportLine a b r Low = sentence (bytes "nodes # and # report # by low\n") (a ∷ b ∷ r ∷ [])
+reportLine a b r Low = sentence (bytes "nodes # and # report # by low nodes\n") (a ∷ b ∷ r ∷ [])
 reportLine a b r (Through h) = sentence (bytes "nodes # and # report # by hub #\n") (a ∷ b ∷ r ∷ h ∷ [])
 reportLine a b r NoRoute = sentence (bytes "nodes # and # report no route\n") (a ∷ b ∷ [])
 reportLine a b r Link = sentence (bytes "nodes # and # report # by link\n") (a ∷ b ∷ r ∷ [])
@@ -68,10 +68,10 @@ verdictLines x = verdictWord (x .verdict) ++ (searchesEnd (x .searches) ++ verdi
 
 unfoldable pub hubsLine : List ℕ → List ℕ
 hubsLine [] = bytes "hubs 0\n"
-hubsLine (h ∷ hs) = sentence (bytes "hubs # in order") (length (h ∷ hs) ∷ []) ++ nodesEnd (h ∷ hs)
+hubsLine (h ∷ hs) = sentence (bytes "hubs # in order:") (length (h ∷ hs) ∷ []) ++ nodesEnd (h ∷ hs)
 
 unfoldable pub highLine : (high n s : ℕ) → List ℕ
-highLine high n s = sentence (bytes "high nodes # of # by # or more neighbours\n") (high ∷ n ∷ s ∷ [])
+highLine high n s = sentence (bytes "high nodes # of # with # or more neighbours\n") (high ∷ n ∷ s ∷ [])
 
 -- ---- a survey that is accepted
 

@@ -59,7 +59,12 @@ fn write_report(buf: &mut [u8], at: usize, a: u64, b: u64, r: u64, route: Route)
 {
     match route {
         Route::Itself => write_sentence(buf, at, b"nodes # and # report # by itself\n", &[a, b, r]),
-        Route::Low => write_sentence(buf, at, b"nodes # and # report # by low\n", &[a, b, r]),
+        Route::Low => write_sentence(
+            buf,
+            at,
+            b"nodes # and # report # by low nodes\n",
+            &[a, b, r],
+        ),
         Route::Through(h) => write_sentence(
             buf,
             at,
@@ -201,7 +206,7 @@ pub fn write_hubs(buf: &mut [u8], at: usize, hubs: &[u16]) -> usize
     if hubs.len() == 0 {
         return text_writing::write_text(buf, at, b"hubs 0\n");
     }
-    let i = write_sentence(buf, at, b"hubs # in order", &[hubs.len() as u64]);
+    let i = write_sentence(buf, at, b"hubs # in order:", &[hubs.len() as u64]);
     write_nodes(buf, i, hubs)
 }
 
@@ -214,7 +219,7 @@ pub fn write_high(buf: &mut [u8], at: usize, high: u64, n: u64, s: u64) -> usize
     write_sentence(
         buf,
         at,
-        b"high nodes # of # by # or more neighbours\n",
+        b"high nodes # of # with # or more neighbours\n",
         &[high, n, s],
     )
 }

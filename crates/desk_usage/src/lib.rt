@@ -1,5 +1,6 @@
 // How the commands are used: the help page, and what is said where words are not understood or a file is too long.
 use desk_words::Command;
+use text_writing::write_text;
 ghost use Prim.Native.Nat.{_+_, _≤_};
 ghost use lib.ListN.{length};
 ghost use Rattle.base_lists.specs.Written.{Wrote};
@@ -15,13 +16,13 @@ pub enum Fault {
 
 // Writes that the first word is no command at a place, and returns the place after it.
 pub fn write_no_command(buf: &mut [u8], at: usize) -> usize
-    requires { ⌜ at + 160 ≤ length (now buf) ⌝ }
+    requires { ⌜ at + 170 ≤ length (now buf) ⌝ }
     ensures { λ p. ⌜ Wrote (now (buf .entry)) (now (buf .exit)) at p noCommand ⌝ }
 {
-    text_writing::write_text(
+    write_text(
         buf,
         at,
-        b"not understood: word 1 is no command; usage: puxerdau COMMAND [WORDS ..] < survey.txt; commands: pair walk test hubs reports check write export import help\n",
+        b"not understood: the first word is no command; usage: puxerdau COMMAND [WORDS ..] < survey.txt; commands: pair walk test hubs reports check write export import help\n",
     )
 }
 
@@ -32,88 +33,58 @@ fn write_usage(buf: &mut [u8], at: usize, command: Command) -> usize
     ensures { λ p. ⌜ p ≤ at + 60 ⌝ }
 {
     match command {
-        Command::Pair => text_writing::write_text(
-            buf,
-            at,
-            b"usage: puxerdau pair A B [--threshold T] < survey.txt\n",
-        ),
-        Command::Walk => text_writing::write_text(
-            buf,
-            at,
-            b"usage: puxerdau walk A B [--threshold T] < survey.txt\n",
-        ),
-        Command::Test => text_writing::write_text(
-            buf,
-            at,
-            b"usage: puxerdau test [--threshold T] < survey.txt\n",
-        ),
-        Command::Hubs => text_writing::write_text(
-            buf,
-            at,
-            b"usage: puxerdau hubs [--threshold T] < survey.txt\n",
-        ),
-        Command::Reports => text_writing::write_text(
-            buf,
-            at,
-            b"usage: puxerdau reports [--threshold T] < survey.txt\n",
-        ),
-        Command::Check => text_writing::write_text(
-            buf,
-            at,
-            b"usage: puxerdau check < survey.txt\n",
-        ),
-        Command::Write => text_writing::write_text(
-            buf,
-            at,
-            b"usage: puxerdau write < survey.txt\n",
-        ),
-        Command::Export => text_writing::write_text(
-            buf,
-            at,
-            b"usage: puxerdau export < survey.txt\n",
-        ),
-        Command::Import => text_writing::write_text(
-            buf,
-            at,
-            b"usage: puxerdau import < edges.col\n",
-        ),
-        Command::Help => text_writing::write_text(buf, at, b"usage: puxerdau help\n"),
+        Command::Pair => write_text(buf, at, b"pair A B [--threshold T] < survey.txt\n"),
+        Command::Walk => write_text(buf, at, b"walk A B [--threshold T] < survey.txt\n"),
+        Command::Test => write_text(buf, at, b"test [--threshold T] < survey.txt\n"),
+        Command::Hubs => write_text(buf, at, b"hubs [--threshold T] < survey.txt\n"),
+        Command::Reports => write_text(buf, at, b"reports [--threshold T] < survey.txt\n"),
+        Command::Check => write_text(buf, at, b"check < survey.txt\n"),
+        Command::Write => write_text(buf, at, b"write < survey.txt\n"),
+        Command::Export => write_text(buf, at, b"export < survey.txt\n"),
+        Command::Import => write_text(buf, at, b"import < edges.col\n"),
+        Command::Help => write_text(buf, at, b"help\n"),
     }
 }
 
 // Writes what is wrong at a place, and returns the place after it.
 fn write_wrong(buf: &mut [u8], at: usize, wrong: Fault) -> usize
-    requires { ⌜ at + 60 ≤ length (now buf) ⌝ }
+    requires { ⌜ at + 140 ≤ length (now buf) ⌝ }
     ensures { λ p. ⌜ Wrote (now (buf .entry)) (now (buf .exit)) at p (fault wrong) ⌝ }
-    ensures { λ p. ⌜ p ≤ at + 60 ⌝ }
+    ensures { λ p. ⌜ p ≤ at + 140 ⌝ }
 {
     match wrong {
         Fault::NoNumber(k) => desk_sentences::write_sentence(
             buf,
             at,
-            b"not understood: word # is no number; ",
+            b"not understood: word # behind the command is no number (one to ten digits, no zero in front); usage: puxerdau ",
             &[k],
         ),
         Fault::TooMany(k) => desk_sentences::write_sentence(
             buf,
             at,
-            b"not understood: word # is one too many; ",
+            b"not understood: word # behind the command is one too many; usage: puxerdau ",
             &[k],
         ),
-        Fault::Missing => text_writing::write_text(buf, at, b"not understood: a word is missing; "),
-        Fault::TooLong => text_writing::write_text(
+        Fault::Missing => {
+            write_text(
+                buf,
+                at,
+                b"not understood: a word is missing; usage: puxerdau ",
+            )
+        }
+        Fault::TooLong => write_text(
             buf,
             at,
-            b"not taken: the file has more than 524287 bytes; ",
+            b"not taken: the file has more than 524287 bytes; usage: puxerdau ",
         ),
     }
 }
 
 // Writes what is wrong and how the command is used at a place, and returns the place after it.
 pub fn write_fault(buf: &mut [u8], at: usize, wrong: Fault, command: Command) -> usize
-    requires { ⌜ at + 120 ≤ length (now buf) ⌝ }
+    requires { ⌜ at + 200 ≤ length (now buf) ⌝ }
     ensures { λ p. ⌜ Wrote (now (buf .entry)) (now (buf .exit)) at p (faultLine wrong command) ⌝ }
-    ensures { λ p. ⌜ p ≤ at + 120 ⌝ }
+    ensures { λ p. ⌜ p ≤ at + 200 ⌝ }
 {
     let i = write_wrong(buf, at, wrong);
     write_usage(buf, i, command)
@@ -124,9 +95,9 @@ pub fn write_help(buf: &mut [u8], at: usize) -> usize
     requires { ⌜ at + 2000 ≤ length (now buf) ⌝ }
     ensures { λ p. ⌜ Wrote (now (buf .entry)) (now (buf .exit)) at p help ⌝ }
 {
-    text_writing::write_text(
+    write_text(
         buf,
         at,
-        b"puxerdau: how many links a message needs between two nodes of a survey\nusage: puxerdau COMMAND [WORDS ..] < survey.txt\n\npair A B   the report of nodes A and B            puxerdau pair 1 3 < survey.txt\nwalk A B   the same, and the nodes on the way     puxerdau walk 1 3 < survey.txt\ntest       whether all nodes are near each other  puxerdau test < survey.txt\nhubs       the hubs, and how many nodes are high  puxerdau hubs < survey.txt\nreports    a line for each two nodes              puxerdau reports < survey.txt\ncheck      whether the survey is accepted         puxerdau check < survey.txt\nwrite      the survey with its lines in order     puxerdau write < survey.txt\nexport     the survey as a DIMACS edge file       puxerdau export < survey.txt > edges.col\nimport     an edge file as a survey               puxerdau import < edges.col > survey.txt\nhelp       this page                              puxerdau help\n\n--threshold T behind pair, walk, test, hubs or reports: nodes with T or more neighbours are\nhigh. Without it a stored table says how many that takes: puxerdau test --threshold 3 < survey.txt\nA survey is a line S,n,m and then m lines L,a,b: n nodes, numbered from 0, and m links.\nA report is never below the fewest links, and at most two above them.\nWhat is refused is said in one line: refused, a number, the place, and why.\n",
+        b"puxerdau: how many links a message needs between two nodes of a survey\nusage: puxerdau COMMAND [WORDS ..] < survey.txt\n\npair A B  the report of two nodes         puxerdau pair 1 3 < survey.txt\nwalk A B  the same, and the nodes between puxerdau walk 1 3 < survey.txt\ntest      are all nodes near each other?  puxerdau test < survey.txt\nhubs      hubs, and how many high nodes   puxerdau hubs < survey.txt\nreports   a line for each two nodes       puxerdau reports < survey.txt\ncheck     is the survey accepted?         puxerdau check < survey.txt\nwrite     the survey, its lines in order  puxerdau write < survey.txt\nexport    the survey as an edge file      puxerdau export < survey.txt > edges.col\nimport    an edge file as a survey        puxerdau import < edges.col > survey.txt\nhelp      this page                       puxerdau help\n\n--threshold T behind pair, walk, test, hubs or reports: nodes with T or more\nneighbours are high, as in: puxerdau test --threshold 3 < survey.txt\nWithout it a stored table says how many neighbours that takes.\nA survey is a line S,n,m and then m lines L,a,b: n nodes, numbered from 0, and\nm links, at most 1024 and 16384 (reports: 128 and 2048). Each line ends in a\nline feed. An edge file is in DIMACS form.\nA report is never below the fewest links, and at most two above them.\nWhat is refused is said in one line: refused, a number, the place, and why.\n",
     )
 }

@@ -97,3 +97,10 @@ module _ (w : List ℕ) where
           let none-left : drop (length (run w)) w ≡ [] = ap (λ (k : ℕ). drop k w) (sym fits) ∙ drop-of-length-le w (le-refl _) in
           let whole : run w ≡ w = sym (append-nil (run w)) ∙ ap (λ (u : List ℕ). run w ++ u) (sym none-left) ∙ sym (run-split w) in
           (ap isNumber (sym whole) ∙ f, ap valueOf (sym whole) ∙ sym (ap value (q ∙ found ∙ some)))
+
+-- ---- the second of three choices
+
+pub second : {A : Type 0} (b d : Bool) (x y z : A) → b ≡ false → d ≡ true → x ≡ (if b then y else if d then x else z)
+second true d x y z e f = absurd (true-T false (sym e))
+second false true x y z e f = refl
+second false false x y z e f = absurd (true-T false f)

@@ -2,7 +2,9 @@
 use text_reading::Number;
 ghost use mathlib.Core.Path.{_≡_};
 ghost use Rattle.model.specs.Basics.{same};
-ghost use Rattle.desk_words.specs.Words.{commandOf, wordOf};
+ghost use Rattle.desk_words.specs.Words.{commandOf, wordOf, nodesOf, splitsNodes, readsText};
+ghost use Rattle.desk_words.specs.Words.{nothingYet, withThreshold, withNode, withOption};
+ghost use Rattle.desk_words.specs.Words.{numberTaken, otherTaken, optionTaken, wordTaken, isWhole};
 
 pub enum Command {
     Pair,
@@ -38,11 +40,11 @@ pub struct Question {
     pub b: u64,
     pub threshold: u64,
     pub named: bool,
-    pub waits: bool,
+    pub number_next: bool,
 }
 
 // What a further word makes of a question, or what is wrong with it.
-pub enum Heard {
+pub enum Taken {
     Asks(Question),
     NoNumber,
     TooMany,
@@ -112,7 +114,9 @@ pub fn word_of(word: &[u8]) -> Word
 }
 
 // How many nodes a command asks for.
-fn nodes_of(command: Command) -> usize {
+fn nodes_of(command: Command) -> usize
+    ensures { λ r. ⌜ r ≡ nodesOf command ⌝ }
+{
     match command {
         Command::Pair => 2,
         Command::Walk => 2,
@@ -128,7 +132,9 @@ fn nodes_of(command: Command) -> usize {
 }
 
 // Whether a command splits the nodes, and so takes a threshold.
-fn splits(command: Command) -> bool {
+fn splits(command: Command) -> bool
+    ensures { λ r. ⌜ r ≡ splitsNodes command ⌝ }
+{
     match command {
         Command::Pair => true,
         Command::Walk => true,
@@ -144,93 +150,130 @@ fn splits(command: Command) -> bool {
 }
 
 // The question before the first word behind the command.
-pub fn nothing_yet() -> Question {
+pub fn nothing_yet() -> Question
+    ensures { λ r. ⌜ r ≡ nothingYet ⌝ }
+{
     Question {
         nodes: 0,
         a: 0,
         b: 0,
         threshold: 0,
         named: false,
-        waits: false,
+        number_next: false,
     }
 }
 
 // A question with a threshold, whose number was waited for.
-fn with_threshold(q: Question, t: u64) -> Question {
-    let mut r = q;
-    r.threshold = t;
-    r.waits = false;
-    r
+fn with_threshold(q: Question, t: u64) -> Question
+    ensures { λ r. ⌜ r ≡ withThreshold q t ⌝ }
+{
+    Question {
+        nodes: q.nodes,
+        a: q.a,
+        b: q.b,
+        threshold: t,
+        named: q.named,
+        number_next: false,
+    }
 }
 
 // A question with a node more: A, or B behind it.
-fn with_node(q: Question, v: u64) -> Question {
-    let mut r = q;
+fn with_node(q: Question, v: u64) -> Question
+    ensures { λ r. ⌜ r ≡ withNode q v ⌝ }
+{
     if q.nodes == 0 {
-        r.a = v;
-        r.nodes = 1;
-    } else {
-        r.b = v;
-        r.nodes = 2;
+        return Question {
+            nodes: 1,
+            a: v,
+            b: q.b,
+            threshold: q.threshold,
+            named: q.named,
+            number_next: q.number_next,
+        };
     }
-    r
+    Question {
+        nodes: 2,
+        a: q.a,
+        b: v,
+        threshold: q.threshold,
+        named: q.named,
+        number_next: q.number_next,
+    }
 }
 
 // A question in which a threshold is named, and its number waited for.
-fn with_option(q: Question) -> Question {
-    let mut r = q;
-    r.named = true;
-    r.waits = true;
-    r
+fn with_option(q: Question) -> Question
+    ensures { λ r. ⌜ r ≡ withOption q ⌝ }
+{
+    Question {
+        nodes: q.nodes,
+        a: q.a,
+        b: q.b,
+        threshold: q.threshold,
+        named: true,
+        number_next: true,
+    }
 }
 
 // What a number makes of a question.
-fn hear_number(command: Command, q: Question, v: u64) -> Heard {
-    if q.waits {
-        return Heard::Asks(with_threshold(q, v));
+fn take_number(command: Command, q: Question, v: u64) -> Taken
+    ensures { λ r. ⌜ r ≡ numberTaken command q v ⌝ }
+{
+    if q.number_next {
+        return Taken::Asks(with_threshold(q, v));
     }
     if q.nodes < nodes_of(command) {
-        return Heard::Asks(with_node(q, v));
+        return Taken::Asks(with_node(q, v));
     }
-    Heard::TooMany
+    Taken::TooMany
 }
 
 // What another word makes of a question: no number where one is needed.
-fn hear_other(command: Command, q: Question) -> Heard {
-    if q.waits {
-        return Heard::NoNumber;
+fn take_other(command: Command, q: Question) -> Taken
+    ensures { λ r. ⌜ r ≡ otherTaken command q ⌝ }
+{
+    if q.number_next {
+        return Taken::NoNumber;
     }
     if q.nodes < nodes_of(command) {
-        return Heard::NoNumber;
+        return Taken::NoNumber;
     }
-    Heard::TooMany
+    Taken::TooMany
 }
 
 // What `--threshold` makes of a question.
-fn hear_option(command: Command, q: Question) -> Heard {
+fn take_option(command: Command, q: Question) -> Taken
+    ensures { λ r. ⌜ r ≡ optionTaken command q ⌝ }
+{
     let first = splits(command) & !q.named;
     if first {
-        return Heard::Asks(with_option(q));
+        return Taken::Asks(with_option(q));
     }
-    hear_other(command, q)
+    take_other(command, q)
 }
 
 // What a word behind the command makes of a question.
-pub fn hear(command: Command, q: Question, word: Word) -> Heard {
+pub fn take_word(command: Command, q: Question, word: Word) -> Taken
+    ensures { λ r. ⌜ r ≡ wordTaken command q word ⌝ }
+{
     match word {
-        Word::Option => hear_option(command, q),
-        Word::Number(v) => hear_number(command, q, v),
-        Word::Other => hear_other(command, q),
+        Word::Option => take_option(command, q),
+        Word::Number(v) => take_number(command, q, v),
+        Word::Other => take_other(command, q),
     }
 }
 
 // Whether all is there that a command asks for.
-pub fn is_whole(command: Command, q: Question) -> bool {
-    !q.waits & (q.nodes == nodes_of(command))
+pub fn is_whole(command: Command, q: Question) -> bool
+    ensures { λ r. ⌜ r ≡ isWhole command q ⌝ }
+{
+    !q.number_next & (q.nodes == nodes_of(command))
 }
 
 // Whether a command reads a text.
-pub fn reads_text(command: Command) -> bool {
+pub fn reads_text(command: Command) -> bool
+    ensures { λ r. ⌜ r ≡ readsText command ⌝ }
+{
     match command {
         Command::Pair => true,
         Command::Walk => true,

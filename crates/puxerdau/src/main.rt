@@ -2,14 +2,14 @@
 // asked and what is answered.
 use desk_usage::Fault;
 use desk_words::Command;
-use desk_words::Heard;
 use desk_words::Named;
 use desk_words::Question;
+use desk_words::Taken;
 ghost use mathlib.Core.Path.{_≡_};
 ghost use Prim.Native.Nat.{_≤_};
 ghost use lib.ListN.{length};
 
-// A longer word is neither a command nor an option nor a number.
+// A longer word is neither a command nor an option nor a number; `os::arg` gives it as an empty one, which is none of these either.
 const WORD: usize = 16;
 
 // A survey's first 393,241 bytes decide (`reading-front` of crates/model/proofs/Fronts.antt); a longer file is not taken.
@@ -18,8 +18,6 @@ const TEXT: usize = 524288;
 const STARTS: usize = 1025;
 
 const NEIGHBOURS: usize = 32768;
-
-const TABLE: usize = 1048576;
 
 const OUT: usize = 200000;
 
@@ -30,11 +28,11 @@ enum Understood {
 }
 
 // What word i makes of a question.
-fn hear_word(command: Command, q: Question, i: usize) -> Heard {
+fn take_word(command: Command, q: Question, i: usize) -> Taken {
     let mut word = [0u8; WORD];
     let k = os::arg(i, &mut word);
     let said = desk_words::word_of(&word[..k]);
-    desk_words::hear(command, q, said)
+    desk_words::take_word(command, q, said)
 }
 
 // What the words behind the command ask. There are `count` words, the program's name among them.
@@ -42,10 +40,10 @@ fn understand(command: Command, count: usize) -> Understood {
     let mut q = desk_words::nothing_yet();
     let mut i = 2;
     while i < count {
-        match hear_word(command, q, i) {
-            Heard::Asks(r) => q = r,
-            Heard::NoNumber => return Understood::Wrong(Fault::NoNumber(i as u64)),
-            Heard::TooMany => return Understood::Wrong(Fault::TooMany(i as u64)),
+        match take_word(command, q, i) {
+            Taken::Asks(r) => q = r,
+            Taken::NoNumber => return Understood::Wrong(Fault::NoNumber(i as u64 - 1)),
+            Taken::TooMany => return Understood::Wrong(Fault::TooMany(i as u64 - 1)),
         }
         i += 1;
     }
@@ -72,13 +70,9 @@ fn answer_with(
     text: &mut [u8],
     starts: &mut [u32],
     neighbours: &mut [u16],
-    full: &mut [u16],
-    low: &mut [u16],
-    report: &mut [u16],
     out: &mut [u8],
 )
-    requires { ⌜ (length (now starts) ≡ 1025) × (length (now neighbours) ≡ 32768) × (200000 ≤ length (now out))
-        × (1048576 ≤ length (now full)) × (1048576 ≤ length (now low)) × (1048576 ≤ length (now report)) ⌝ }
+    requires { ⌜ (length (now starts) ≡ 1025) × (length (now neighbours) ≡ 32768) × (200000 ≤ length (now out)) ⌝ }
 {
     let k = read_text(command, text);
     let r = desk_commands::say(
@@ -89,9 +83,6 @@ fn answer_with(
         &text[..k],
         starts,
         neighbours,
-        full,
-        low,
-        report,
         out,
     );
     io::write_all(1, &out[..r]);
@@ -104,22 +95,16 @@ fn answer_in(
     text: &mut [u8; TEXT],
     starts: &mut [u32; STARTS],
     neighbours: &mut [u16; NEIGHBOURS],
-    full: &mut [u16; TABLE],
-    low: &mut [u16; TABLE],
-    report: &mut [u16; TABLE],
     out: &mut [u8; OUT],
 ) {
-    answer_with(command, q, text, starts, neighbours, full, low, report, out);
+    answer_with(command, q, text, starts, neighbours, out);
 }
 
-// The same with lists of its own: 7 MiB of the stack.
+// The same with lists of its own.
 fn answer(command: Command, q: Question) {
     let mut text = [0u8; TEXT];
     let mut starts = [0u32; STARTS];
     let mut neighbours = [0u16; NEIGHBOURS];
-    let mut full = [0u16; TABLE];
-    let mut low = [0u16; TABLE];
-    let mut report = [0u16; TABLE];
     let mut out = [0u8; OUT];
     answer_in(
         command,
@@ -127,22 +112,19 @@ fn answer(command: Command, q: Question) {
         &mut text,
         &mut starts,
         &mut neighbours,
-        &mut full,
-        &mut low,
-        &mut report,
         &mut out,
     );
 }
 
 // Prints what is wrong with the words behind a command.
 fn print_fault(command: Command, wrong: Fault) {
-    let mut line = [0u8; 120];
+    let mut line = [0u8; 200];
     let k = desk_usage::write_fault(&mut line, 0, wrong, command);
     io::write_all(1, &line[..k]);
 }
 
 fn print_no_command() {
-    let mut line = [0u8; 160];
+    let mut line = [0u8; 170];
     let k = desk_usage::write_no_command(&mut line, 0);
     io::write_all(1, &line[..k]);
 }

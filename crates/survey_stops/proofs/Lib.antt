@@ -1,2 +1,3 @@
 pub mod StopLaws
 pub mod KeptLaws
+pub mod StopRight

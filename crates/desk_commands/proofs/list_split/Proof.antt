@@ -2,7 +2,7 @@
 -- Assumes nothing.
 use mathlib.Core.Path.{sym, _∙_}
 use borrow.Author.Needs.{needs}
-use Rattle.desk_commands.proofs.CommandLaws.{split-refused, split-taken}
+use Rattle.desk_answers.proofs.SaidLaws.{split-refused, split-taken}
 use Rattle.desk_commands.proofs.list_split.Statement.{statement}
 use Rattle.desk_commands.proofs.list_split.Tie as tie
 

@@ -74,6 +74,12 @@ same-length-2 c = search needs
 same-length-3 : tie.Need-same-length-3
 same-length-3 c = search needs
 
+returns : tie.Need-returns
+unfolding commandSaid
+returns c = 
+    let said = c .before .before .before .before .before .before in
+    rw (said .before .before .before .before .enum-told .given .1) (said .say-pair .ensures)
+
 same-length-4 : tie.Need-same-length-4
 same-length-4 c = search needs
 
@@ -83,11 +89,11 @@ same-length-5 c = search needs
 same-length-6 : tie.Need-same-length-6
 same-length-6 c = search needs
 
-returns : tie.Need-returns
+returns-2 : tie.Need-returns-2
 unfolding commandSaid
-returns c =
-    let said = c .before .before .before .before .before .before .before .before .before .before .before .before in
-    rw (said .before .before .before .before .before .before .before .enum-told .given .1) (said .say-pair .ensures)
+returns-2 c = 
+    let said = c .before .before .before .before .before .before in
+    rw (said .before .before .before .before .enum-told2 .given .1) (said .say-walk .ensures)
 
 same-length-7 : tie.Need-same-length-7
 same-length-7 c = search needs
@@ -98,6 +104,12 @@ same-length-8 c = search needs
 same-length-9 : tie.Need-same-length-9
 same-length-9 c = search needs
 
+returns-3 : tie.Need-returns-3
+unfolding commandSaid
+returns-3 c = 
+    let said = c .before .before .before .before .before .before in
+    rw (said .before .before .before .before .enum-told3 .given .1) (said .say-test .ensures)
+
 same-length-10 : tie.Need-same-length-10
 same-length-10 c = search needs
 
@@ -107,11 +119,11 @@ same-length-11 c = search needs
 same-length-12 : tie.Need-same-length-12
 same-length-12 c = search needs
 
-returns-2 : tie.Need-returns-2
+returns-4 : tie.Need-returns-4
 unfolding commandSaid
-returns-2 c =
-    let said = c .before .before .before .before .before .before .before .before .before .before .before .before in
-    rw (said .before .before .before .before .before .before .before .enum-told2 .given .1) (said .say-walk .ensures)
+returns-4 c = 
+    let said = c .before .before .before .before .before .before in
+    rw (said .before .before .before .before .enum-told4 .given .1) (said .say-hubs .ensures)
 
 same-length-13 : tie.Need-same-length-13
 same-length-13 c = search needs
@@ -122,11 +134,11 @@ same-length-14 c = search needs
 same-length-15 : tie.Need-same-length-15
 same-length-15 c = search needs
 
-returns-3 : tie.Need-returns-3
+returns-5 : tie.Need-returns-5
 unfolding commandSaid
-returns-3 c =
+returns-5 c = 
     let said = c .before .before .before .before .before .before in
-    rw (said .before .before .before .before .enum-told3 .given .1) (said .say-test .ensures)
+    rw (said .before .before .before .before .enum-told5 .given .1) (said .say-reports .ensures)
 
 same-length-16 : tie.Need-same-length-16
 same-length-16 c = search needs
@@ -137,11 +149,11 @@ same-length-17 c = search needs
 same-length-18 : tie.Need-same-length-18
 same-length-18 c = search needs
 
-returns-4 : tie.Need-returns-4
+returns-6 : tie.Need-returns-6
 unfolding commandSaid
-returns-4 c =
+returns-6 c = 
     let said = c .before .before .before .before .before .before in
-    rw (said .before .before .before .before .enum-told4 .given .1) (said .say-hubs .ensures)
+    rw (said .before .before .before .before .enum-told6 .given .1) (said .say-check .ensures)
 
 same-length-19 : tie.Need-same-length-19
 same-length-19 c = search needs
@@ -152,11 +164,11 @@ same-length-20 c = search needs
 same-length-21 : tie.Need-same-length-21
 same-length-21 c = search needs
 
-returns-5 : tie.Need-returns-5
+returns-7 : tie.Need-returns-7
 unfolding commandSaid
-returns-5 c =
+returns-7 c = 
     let said = c .before .before .before .before .before .before in
-    rw (said .before .before .before .before .enum-told5 .given .1) (said .say-reports .ensures)
+    rw (said .before .before .before .before .enum-told7 .given .1) (said .say-write .ensures)
 
 same-length-22 : tie.Need-same-length-22
 same-length-22 c = search needs
@@ -167,11 +179,11 @@ same-length-23 c = search needs
 same-length-24 : tie.Need-same-length-24
 same-length-24 c = search needs
 
-returns-6 : tie.Need-returns-6
+returns-8 : tie.Need-returns-8
 unfolding commandSaid
-returns-6 c =
+returns-8 c = 
     let said = c .before .before .before .before .before .before in
-    rw (said .before .before .before .before .enum-told6 .given .1) (said .say-check .ensures)
+    rw (said .before .before .before .before .enum-told8 .given .1) (said .say-export .ensures)
 
 same-length-25 : tie.Need-same-length-25
 same-length-25 c = search needs
@@ -182,48 +194,18 @@ same-length-26 c = search needs
 same-length-27 : tie.Need-same-length-27
 same-length-27 c = search needs
 
-returns-7 : tie.Need-returns-7
+returns-9 : tie.Need-returns-9
 unfolding commandSaid
-returns-7 c =
+returns-9 c = 
     let said = c .before .before .before .before .before .before in
-    rw (said .before .before .before .before .enum-told7 .given .1) (said .say-write .ensures)
+    rw (said .before .before .before .before .enum-told9 .given .1) (said .say-import .ensures)
 
 same-length-28 : tie.Need-same-length-28
 same-length-28 c = search needs
 
-same-length-29 : tie.Need-same-length-29
-same-length-29 c = search needs
-
-same-length-30 : tie.Need-same-length-30
-same-length-30 c = search needs
-
-returns-8 : tie.Need-returns-8
-unfolding commandSaid
-returns-8 c =
-    let said = c .before .before .before .before .before .before in
-    rw (said .before .before .before .before .enum-told8 .given .1) (said .say-export .ensures)
-
-same-length-31 : tie.Need-same-length-31
-same-length-31 c = search needs
-
-same-length-32 : tie.Need-same-length-32
-same-length-32 c = search needs
-
-same-length-33 : tie.Need-same-length-33
-same-length-33 c = search needs
-
-returns-9 : tie.Need-returns-9
-unfolding commandSaid
-returns-9 c =
-    let said = c .before .before .before .before .before .before in
-    rw (said .before .before .before .before .enum-told9 .given .1) (said .say-import .ensures)
-
-same-length-34 : tie.Need-same-length-34
-same-length-34 c = search needs
-
 returns-10 : tie.Need-returns-10
 unfolding commandSaid
-returns-10 c =
+returns-10 c = 
     let said = c .before .before in
     rw (said .before .before .enum-told10 .given .1) (said .write-help .ensures)
 
@@ -254,44 +236,38 @@ say-spec =
     same-length
     same-length-2
     same-length-3
+    returns
     same-length-4
     same-length-5
     same-length-6
-    returns
+    returns-2
     same-length-7
     same-length-8
     same-length-9
+    returns-3
     same-length-10
     same-length-11
     same-length-12
-    returns-2
+    returns-4
     same-length-13
     same-length-14
     same-length-15
-    returns-3
+    returns-5
     same-length-16
     same-length-17
     same-length-18
-    returns-4
+    returns-6
     same-length-19
     same-length-20
     same-length-21
-    returns-5
+    returns-7
     same-length-22
     same-length-23
     same-length-24
-    returns-6
+    returns-8
     same-length-25
     same-length-26
     same-length-27
-    returns-7
-    same-length-28
-    same-length-29
-    same-length-30
-    returns-8
-    same-length-31
-    same-length-32
-    same-length-33
     returns-9
-    same-length-34
+    same-length-28
     returns-10)

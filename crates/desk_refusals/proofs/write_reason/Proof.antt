@@ -16,38 +16,20 @@ write-form-requires c κs = search needs
 enum-told-2 : tie.Need-enum-told-2
 enum-told-2 c = search needs
 
-slice-aggregate-write-sentence : tie.Need-slice-aggregate-write-sentence
-slice-aggregate-write-sentence c = search needs
-
-slice-aggregate-write-sentence-2 : tie.Need-slice-aggregate-write-sentence-2
-slice-aggregate-write-sentence-2 c = search needs
-
-write-sentence-requires : tie.Need-write-sentence-requires
-write-sentence-requires c κs = search needs
+write-nodes-most-requires : tie.Need-write-nodes-most-requires
+write-nodes-most-requires c κs = search needs
 
 enum-told-3 : tie.Need-enum-told-3
 enum-told-3 c = search needs
 
-slice-aggregate-write-sentence-3 : tie.Need-slice-aggregate-write-sentence-3
-slice-aggregate-write-sentence-3 c = search needs
-
-slice-aggregate-write-sentence-4 : tie.Need-slice-aggregate-write-sentence-4
-slice-aggregate-write-sentence-4 c = search needs
-
-write-sentence-requires-2 : tie.Need-write-sentence-requires-2
-write-sentence-requires-2 c κs = search needs
+write-links-most-requires : tie.Need-write-links-most-requires
+write-links-most-requires c κs = search needs
 
 enum-told-4 : tie.Need-enum-told-4
 enum-told-4 c = search needs
 
-slice-aggregate-write-sentence-5 : tie.Need-slice-aggregate-write-sentence-5
-slice-aggregate-write-sentence-5 c = search needs
-
-slice-aggregate-write-sentence-6 : tie.Need-slice-aggregate-write-sentence-6
-slice-aggregate-write-sentence-6 c = search needs
-
-write-sentence-requires-3 : tie.Need-write-sentence-requires-3
-write-sentence-requires-3 c κs = search needs
+write-range-requires : tie.Need-write-range-requires
+write-range-requires c κs = search needs
 
 enum-told-5 : tie.Need-enum-told-5
 enum-told-5 c = search needs
@@ -134,28 +116,28 @@ same-length-2 : tie.Need-same-length-2
 same-length-2 c = search needs
 
 returns-2 : tie.Need-returns-2
-unfolding reason bytes
+unfolding reason
 returns-2 c =
     let wrote = c .before .before in
-    let w = wrote .write-sentence .ensures in (rw (wrote .before .before .before .before .enum-told2 .given .1) (w .0), omega (arith, w .1))
+    let w = wrote .write-nodes-most .ensures in (rw (wrote .before .before .enum-told2 .given .1) (w .0), omega (arith, w .1))
 
 same-length-3 : tie.Need-same-length-3
 same-length-3 c = search needs
 
 returns-3 : tie.Need-returns-3
-unfolding reason bytes
+unfolding reason
 returns-3 c =
     let wrote = c .before .before in
-    let w = wrote .write-sentence2 .ensures in (rw (wrote .before .before .before .before .enum-told3 .given .1) (w .0), omega (arith, w .1))
+    let w = wrote .write-links-most .ensures in (rw (wrote .before .before .enum-told3 .given .1) (w .0), omega (arith, w .1))
 
 same-length-4 : tie.Need-same-length-4
 same-length-4 c = search needs
 
 returns-4 : tie.Need-returns-4
-unfolding reason bytes
+unfolding reason
 returns-4 c =
     let wrote = c .before .before in
-    let w = wrote .write-sentence3 .ensures in (rw (wrote .before .before .before .before .enum-told4 .given .1) (w .0), omega (arith, w .1))
+    let w = wrote .write-range .ensures in (rw (wrote .before .before .enum-told4 .given .1) (w .0), omega (arith, w .1))
 
 same-length-5 : tie.Need-same-length-5
 same-length-5 c = search needs
@@ -254,17 +236,11 @@ write-reason-spec =
     enum-told
     write-form-requires
     enum-told-2
-    slice-aggregate-write-sentence
-    slice-aggregate-write-sentence-2
-    write-sentence-requires
+    write-nodes-most-requires
     enum-told-3
-    slice-aggregate-write-sentence-3
-    slice-aggregate-write-sentence-4
-    write-sentence-requires-2
+    write-links-most-requires
     enum-told-4
-    slice-aggregate-write-sentence-5
-    slice-aggregate-write-sentence-6
-    write-sentence-requires-3
+    write-range-requires
     enum-told-5
     slice-aggregate-write-text
     write-text-requires

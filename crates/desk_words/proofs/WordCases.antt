@@ -1,0 +1,28 @@
+-- The words of two nodes and a threshold ask for just these, wherever the option stands.
+-- Assumes nothing.
+use mathlib.Core.Path.{_≡_, refl}
+use mathlib.Core.Bool.{true, false}
+use mathlib.Core.List.{[], _∷_}
+use Prim.Native.Nat.{ℕ}
+use Rattle.desk_words.specs.declared.Command.the-variants.{Walk}
+use Rattle.desk_words.specs.declared.Word.the-variants.{Option, Number}
+use Rattle.desk_words.specs.declared.Question.{Question}
+use Rattle.desk_words.specs.declared.Taken.the-variants.{Asks}
+use Rattle.desk_words.specs.Words.{nothingYet, allTaken}
+
+-- nodes a and b, split by t
+abbrev both : (a b t : ℕ) → Question
+both a b t = record { nodes = 2; a = a; b = b; threshold = t; named = true; «number_next» = false }
+
+module _ (a b t : ℕ) where
+  pub option-first : allTaken Walk nothingYet (Option ∷ Number t ∷ Number a ∷ Number b ∷ []) ≡ Asks (both a b t)
+  unfolding allTaken
+  option-first = refl
+
+  pub option-between : allTaken Walk nothingYet (Number a ∷ Option ∷ Number t ∷ Number b ∷ []) ≡ Asks (both a b t)
+  unfolding allTaken
+  option-between = refl
+
+  pub option-last : allTaken Walk nothingYet (Number a ∷ Number b ∷ Option ∷ Number t ∷ []) ≡ Asks (both a b t)
+  unfolding allTaken
+  option-last = refl
