@@ -1,26 +1,32 @@
 -- What is said of an accepted survey is right, and a node is refused only if it is none of the survey's.
 -- Assumes nothing.
-use mathlib.Core.Path.{_≡_, refl, sym, ap, _∙_}
-use mathlib.Core.Bool.{true, false}
+use mathlib.Core.Path.{_≡_, ap, _∙_, subst}
+use mathlib.Core.Logic.{⊎-elim}
 use mathlib.Core.List.{List}
-use Prim.Native.Nat.{ℕ, _*_, _≤_, _<_}
+use Prim.Native.Nat.{ℕ, _≤_, _<_}
 use native.Mathlib.Omega.{arith}
-use borrow.Author.Tests.{le-leb, leb-true}
-use lib.Dec.{leb}
+use borrow.Author.Tests.{leb-true}
+use lib.Dec.{T, leb, leb→le}
 use Rattle.model.specs.declared.Answer.{Answer}
 use Rattle.model.specs.Answers.{Outcome, answered}
 use Rattle.model.specs.Survey.{Graph, neighboursOf, Accepted}
 use Rattle.model.specs.Threshold.{inForce}
 use Rattle.model.specs.Graph.{linked}
 use Rattle.model.specs.Tables.{fullTable, lowTable, reportTable}
-use Rattle.model.specs.Asking.{asking}
+use Rattle.model.specs.Pair.{badPair}
 use Rattle.model.specs.Walking.{AfterWalking, walking}
-use Rattle.model.specs.Demand.{AllowedAnswer}
+use Rattle.model.proofs.Tests.{or-e, picked}
 use Rattle.model.proofs.Demand.{asking-allowed, walking-sound, testing-right}
 use Rattle.model.proofs.Listing.{rules-built}
 use Rattle.model.proofs.Sizes.{built-enough}
-use Rattle.desk_answers.specs.Said.{askedSaid, pairSaid, walkedSaid, walkSaid, testedSaid, testSaid}
+use Rattle.desk_answers.specs.Said.{farNode, askedSaid, pairSaid, walkedSaid, walkSaid, testedSaid, testSaid}
 use Rattle.desk_answers.specs.Right.{RightPair, RightWalk, RightTest}
+
+-- the node that is named is none of the n
+pub far-right : (n a b : ℕ) → T (badPair n a b) → n ≤ farNode n a b
+unfolding farNode
+far-right n a b t = picked (λ v. n ≤ v) (leb n a) a b (leb-true n a)
+    (λ e. ⊎-elim (λ h. absurd (subst T e h)) (leb→le n b) (or-e (leb n a) (leb n b) t))
 
 module _ {n : ℕ} {starts neighbours : List ℕ} (acc : Accepted n starts neighbours) where
   abbrev G : Graph

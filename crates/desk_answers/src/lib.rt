@@ -9,7 +9,6 @@ ghost use lib.ListN.{length};
 ghost use Rattle.model.specs.Answers.{answered};
 ghost use Rattle.model.specs.Basics.{none, upTo, keep};
 ghost use Rattle.model.specs.Survey.{neighboursOf, Accepted};
-ghost use Rattle.model.specs.Threshold.{inForce};
 ghost use Rattle.model.specs.Hubs.{isHigh};
 ghost use Rattle.base_lists.specs.Written.{Wrote};
 ghost use Rattle.desk_answers.specs.Said.{farNode, pairSaid, walkedSaid, walkSaid, testSaid, hubsSaid};

@@ -1,9 +1,8 @@
 -- What a command says, from what the calls answer.
 -- Assumes nothing.
-use mathlib.Core.Path.{_≡_, refl, sym, ap, _∙_}
+use mathlib.Core.Path.{_≡_, sym, ap, _∙_}
 use mathlib.Core.List.{List}
 use Prim.Native.Nat.{ℕ, _≤_, _<_}
-use native.Mathlib.Omega.{arith}
 use borrow.Author.Tests.{lt-ltb, le-ltb}
 use lib.ListN.{length}
 use Rattle.model.specs.declared.Refusal.{Refusal}
@@ -12,15 +11,12 @@ use Rattle.model.specs.declared.Reading.{Reading}
 use Rattle.model.specs.declared.Reading.the-variants as read
 use Rattle.model.specs.declared.Counting.{Counting}
 use Rattle.model.specs.declared.Counting.the-variants as counting
-use Rattle.model.specs.Answers.{Outcome, refused, answered, number}
+use Rattle.model.specs.Answers.{answered, number}
 use Rattle.model.specs.Basics.{over}
-use Rattle.model.specs.Survey.{Accepted}
-use Rattle.model.specs.Reading.{AfterReading, Parsed, parse, readReturned, readingOf}
+use Rattle.model.specs.Reading.{AfterReading, parse, readReturned, readingOf}
 use Rattle.model.specs.Writing.{AfterWriting, writeReturned}
 use Rattle.model.specs.Dimacs.{importing}
-use Rattle.model.proofs.Links.{parse-sound}
 use Rattle.model.proofs.Outcomes.{never, numberIn}
-use Rattle.model.proofs.ReadBack.{read-accepted}
 use Rattle.base_lists.specs.Written.{Wrote}
 use Rattle.base_lists.proofs.Written.{over-wrote}
 use Rattle.desk_words.specs.declared.Command.the-variants.{Import}
@@ -48,23 +44,6 @@ module _ (source : Source) (N M : ℕ) (text : List ℕ) (say : Saying) {p q : �
 
   pub text-read : {x : Size} → r ≡ read.Read x → surveySaid source N M text say ≡ say x starts neighbours
   text-read i = said ∙ ap (λ (z : Reading). ofReading refuse say (readReturned z starts neighbours)) i
-
--- what was read is an accepted survey, within the limit on its nodes
-pub read-survey : (N M : ℕ) → N ≤ 1024 → M ≤ 16384 → (text : List ℕ) (p q : ℕ) (r : Reading) (starts neighbours : List ℕ)
-    → readReturned r starts neighbours ≡ readingOf p q (parse N M p q text) → (x : Size) → r ≡ read.Read x
-    → Accepted (x .nodes) starts neighbours × (x .nodes ≤ N)
-unfolding readingOf numberIn
-read-survey N M nodes links text p q r starts neighbours e x i =
-    at (parse N M p q text) refl (ap (λ (z : Reading). readReturned z starts neighbours) (sym i) ∙ e)
-  where
-    at : (o : Outcome Parsed) → parse N M p q text ≡ o → readReturned (read.Read x) starts neighbours ≡ readingOf p q o
-        → Accepted (x .nodes) starts neighbours × (x .nodes ≤ N)
-    at (refused k) h f = never (sym (ap (λ (z : AfterReading). z .answer) f))
-    at (answered y) h f =
-        let j : x .nodes ≡ y .nodes = ap (λ (z : AfterReading). numberIn (λ s. s .nodes) (z .answer)) f in
-        let s : starts ≡ readingOf p q (answered y) .starts = ap (λ (z : AfterReading). z .starts) f in
-        let m : neighbours ≡ readingOf p q (answered y) .neighbours = ap (λ (z : AfterReading). z .neighbours) f in
-        (rw (j, s, m) (read-accepted N M p q nodes links text y h), omega (arith, j, parse-sound N M p q text y h .within .size))
 
 -- ---- a file
 

@@ -1,5 +1,4 @@
 // Two nodes of a survey, asked or walked with tables that are built for the question.
-ghost use mathlib.Core.Path.{_≡_};
 ghost use Prim.Native.Nat.{_≤_};
 ghost use lib.ListN.{length};
 ghost use Rattle.model.specs.Survey.{neighboursOf, Accepted};

@@ -11,24 +11,18 @@ use Rattle.model.specs.declared.Size.{Size}
 use Rattle.model.specs.declared.Counting.the-variants as counting
 use Rattle.model.specs.declared.Reading.the-variants as read
 use Rattle.model.specs.Answers.{Outcome, refused, answered, number}
-use Rattle.model.specs.Basics.{over}
 use Rattle.model.specs.SurveyText.{lineOf}
 use Rattle.model.specs.Survey.{Graph, neighboursOf, Accepted}
 use Rattle.model.specs.Threshold.{inForce}
-use Rattle.model.specs.Hubs.{hubs}
-use Rattle.model.specs.Tables.{fullTable, lowTable, reportTable}
-use Rattle.model.specs.Building.{AfterBuilding, built}
 use Rattle.model.specs.Reading.{AfterReading, Parsed, parse, readReturned, readingOf}
 use Rattle.model.specs.Writing.{writingOf, writeReturned}
 use Rattle.model.specs.Listing.{pairLines, listingOf, listingText, listing}
 use Rattle.model.proofs.Covering.{hubs-length}
-use Rattle.model.proofs.Entries.{length-table}
-use Rattle.model.proofs.Links.{parse-sound}
 use Rattle.model.proofs.Outcomes.{never, numberIn}
-use Rattle.model.proofs.ReadBack.{read-accepted, read-graph, write-whole}
+use Rattle.model.proofs.ReadBack.{read-survey, read-graph, write-whole}
 use Rattle.table_building.proofs.WholeTables.{AreTables}
 use Rattle.base_lists.specs.Written.{Wrote}
-use Rattle.base_lists.proofs.Written.{wrote-over, over-whole}
+use Rattle.base_lists.proofs.Written.{wrote-over}
 
 pub square-most : (n : ℕ) → n ≤ 128 → n * n ≤ 16384
 square-most n h = mul-le-mul h h
@@ -70,22 +64,19 @@ module _ (text : List ℕ) {p q : ℕ} (p-is : p ≡ 128 + 1) (q-is : q ≡ 2 * 
   pub listing-read : (x : Size) → readReturned (read.Read x) starts neighbours ≡ readingOf p q (parse 128 2048 p q text)
       → IsListed text starts neighbours (x .nodes)
   unfolding readingOf listingText numberIn
-  listing-read x e = at (parse 128 2048 p q text) refl e
+  listing-read x e =
+      let r = read-survey 128 2048 (omega arith) (omega arith) text p q (read.Read x) starts neighbours e x refl in
+      record { survey = r .0; few = r .1; lines = at (parse 128 2048 p q text) refl e }
     where
       at : (o : Outcome Parsed) → parse 128 2048 p q text ≡ o → readReturned (read.Read x) starts neighbours ≡ readingOf p q o
-          → IsListed text starts neighbours (x .nodes)
+          → listingOf (x .nodes) (inForce (x .nodes) 0) (neighboursOf starts neighbours) ≡ listing text
       at (refused k) h e = never (sym (ap (λ (z : AfterReading). z .answer) e))
       at (answered y) h e =
           let j : x .nodes ≡ y .nodes = ap (λ (z : AfterReading). numberIn (λ s. s .nodes) (z .answer)) e in
           let s : starts ≡ readingOf p q (answered y) .starts = ap (λ (z : AfterReading). z .starts) e in
           let m : neighbours ≡ readingOf p q (answered y) .neighbours = ap (λ (z : AfterReading). z .neighbours) e in
-          record {
-            survey = rw (j, s, m) (read-accepted 128 2048 p q (omega arith) (omega arith) text y h);
-            few = omega (arith, j, parse-sound 128 2048 p q text y h .within .size);
-            lines =
-                rw (j, s, m, read-graph 128 2048 p q (omega arith) (omega arith) text y h)
-                (sym (ap listingText h) ∙ listing-said text p-is q-is);
-          }
+          rw (j, s, m, read-graph 128 2048 p q (omega arith) (omega arith) text y h)
+          (sym (ap listingText h) ∙ listing-said text p-is q-is)
 
 -- ---- a listing that is copied into a buffer
 

@@ -10,7 +10,7 @@ use native.Mathlib.Omega.{arith}
 use native.Mathlib.Decide.{decLe}
 use borrow.Author.Tests.{eqb-true, eqb-false, eq-eqb, ne-eqb, leb-true, leb-false}
 use lib.Dec.{T, eqb, leb, eqb→eq, not-T}
-use Rattle.model.specs.Basics.{none, if_then_else_, has}
+use Rattle.model.specs.Basics.{none, has}
 use Rattle.model.specs.Graph.{Edges, between, Chain, here, link, Fewest, linked}
 use Rattle.model.specs.Survey.{Graph, IsGraph}
 use Rattle.model.specs.Hubs.{isHigh, isLow, hubs}

@@ -14,12 +14,14 @@ use lib.Dec.{T, eqb, ltb, ltb→lt, lt→ltb}
 use lib.ListN.{length, getD, take, drop, replicate, length-append}
 use lib.Seq.{take-at, getD-drop, getD-append-add}
 use Rattle.model.specs.declared.Size.{Size}
+use Rattle.model.specs.declared.Reading.{Reading}
+use Rattle.model.specs.declared.Reading.the-variants as read
 use Rattle.model.specs.Answers.{Outcome, refused, answered}
 use Rattle.model.specs.Basics.{from, upTo, has, keep, gather, over}
 use Rattle.model.specs.SurveyText.{ordered}
 use Rattle.model.specs.Survey.{Graph, neighboursOf, ascending, Accepted}
 use Rattle.model.specs.Graph.{linked}
-use Rattle.model.specs.Reading.{named, Parsed, parse, graphOf, startsOf, neighboursFrom, readingOf, reading}
+use Rattle.model.specs.Reading.{named, Parsed, parse, graphOf, startsOf, neighboursFrom, AfterReading, readReturned, readingOf, reading}
 use Rattle.model.specs.Writing.{textOf, AfterWriting, writingOf, writing}
 use Rattle.model.specs.Demand.{IsRead, ReadRight, asRead, WriteRight}
 use Rattle.model.proofs.Tests.{picked, and-i, or-l, or-r, or-e, eq-T, no-false, same-test, lt-or}
@@ -179,6 +181,23 @@ module _ (N M p q : ℕ) (nodes : N ≤ 1024) (links : M ≤ 16384) (text : List
           (rw z)
           ∙ sym (keep-none _ _
           (λ y m t. absurd (omega (arith, named-below (x .nodes) (x .links) [] (facts .fresh) v _ t .0))))
+
+-- what was read is an accepted survey, within the limit on its nodes
+pub read-survey : (N M : ℕ) → N ≤ 1024 → M ≤ 16384 → (text : List ℕ) (p q : ℕ) (r : Reading) (starts neighbours : List ℕ)
+    → readReturned r starts neighbours ≡ readingOf p q (parse N M p q text) → (x : Size) → r ≡ read.Read x
+    → Accepted (x .nodes) starts neighbours × (x .nodes ≤ N)
+unfolding readingOf numberIn
+read-survey N M nodes links text p q r starts neighbours e x i =
+    at (parse N M p q text) refl (ap (λ (z : Reading). readReturned z starts neighbours) (sym i) ∙ e)
+  where
+    at : (o : Outcome Parsed) → parse N M p q text ≡ o → readReturned (read.Read x) starts neighbours ≡ readingOf p q o
+        → Accepted (x .nodes) starts neighbours × (x .nodes ≤ N)
+    at (refused k) h f = never (sym (ap (λ (z : AfterReading). z .answer) f))
+    at (answered y) h f =
+        let j : x .nodes ≡ y .nodes = ap (λ (z : AfterReading). numberIn (λ s. s .nodes) (z .answer)) f in
+        let s : starts ≡ readingOf p q (answered y) .starts = ap (λ (z : AfterReading). z .starts) f in
+        let m : neighbours ≡ readingOf p q (answered y) .neighbours = ap (λ (z : AfterReading). z .neighbours) f in
+        (rw (j, s, m) (read-accepted N M p q nodes links text y h), omega (arith, j, parse-sound N M p q text y h .within .size))
 
 -- what reading accepts is an accepted survey, with exactly the links that the lines name
 pub reading-right : (text : List ℕ) (p q : ℕ) → ReadRight text (reading text p q)

@@ -74,7 +74,8 @@ pub record Allowed (E : Edges) (a b r : ℕ) : Type 0 where
 unfoldable pub leastNeeded : ℕ → ℕ
 leastNeeded r = if leb r 2 then r else if leb r 4 then 2 else r - 2
 
--- rules 9.4 and 9.7: asking is not refused, its report is allowed, and it is 1 by the link exactly where the two are linked
+-- rules 9.4 and 9.7: asking is not refused, its report is allowed, it is 1 by the link exactly where the two are linked, and no fewer links
+-- are needed than it leaves open
 pub record AllowedAnswer (E : Edges) (a b : ℕ) (o : Outcome Answer) : Type 0 where
   pub value : Answer
   pub given : o ≡ answered value
@@ -138,7 +139,7 @@ pub record WholeWay (text : List ℕ) (x : Size) (starts neighbours : List ℕ) 
   pub as-many : length links ≡ x .links
   pub lines : text ≡ surveyText (x .nodes) (x .links) links
   -- building and asking are not refused, and the report is allowed over those links, 1 by link exactly where one of them joins the two, and
-  -- leaves open no fewer links than are needed
+  -- no fewer links are needed than it leaves open
   pub count : ℕ
   pub builds : made .answer ≡ answered count
   pub value : Answer

@@ -1,6 +1,5 @@
 -- `desk_answers::far_node` meets its contract: a, unless it is below n.
 -- Assumes nothing.
-use borrow.Author.Needs.{needs}
 use borrow.Author.Tests.{le-leb, lt-leb}
 use Rattle.desk_answers.specs.Said.{farNode}
 use Rattle.desk_answers.proofs.far_node.Statement.{statement}

@@ -76,7 +76,7 @@ same-length-3 c = search needs
 
 returns : tie.Need-returns
 unfolding commandSaid
-returns c = 
+returns c =
     let said = c .before .before .before .before .before .before in
     rw (said .before .before .before .before .enum-told .given .1) (said .say-pair .ensures)
 
@@ -91,7 +91,7 @@ same-length-6 c = search needs
 
 returns-2 : tie.Need-returns-2
 unfolding commandSaid
-returns-2 c = 
+returns-2 c =
     let said = c .before .before .before .before .before .before in
     rw (said .before .before .before .before .enum-told2 .given .1) (said .say-walk .ensures)
 
@@ -106,7 +106,7 @@ same-length-9 c = search needs
 
 returns-3 : tie.Need-returns-3
 unfolding commandSaid
-returns-3 c = 
+returns-3 c =
     let said = c .before .before .before .before .before .before in
     rw (said .before .before .before .before .enum-told3 .given .1) (said .say-test .ensures)
 
@@ -121,7 +121,7 @@ same-length-12 c = search needs
 
 returns-4 : tie.Need-returns-4
 unfolding commandSaid
-returns-4 c = 
+returns-4 c =
     let said = c .before .before .before .before .before .before in
     rw (said .before .before .before .before .enum-told4 .given .1) (said .say-hubs .ensures)
 
@@ -136,7 +136,7 @@ same-length-15 c = search needs
 
 returns-5 : tie.Need-returns-5
 unfolding commandSaid
-returns-5 c = 
+returns-5 c =
     let said = c .before .before .before .before .before .before in
     rw (said .before .before .before .before .enum-told5 .given .1) (said .say-reports .ensures)
 
@@ -151,7 +151,7 @@ same-length-18 c = search needs
 
 returns-6 : tie.Need-returns-6
 unfolding commandSaid
-returns-6 c = 
+returns-6 c =
     let said = c .before .before .before .before .before .before in
     rw (said .before .before .before .before .enum-told6 .given .1) (said .say-check .ensures)
 
@@ -166,7 +166,7 @@ same-length-21 c = search needs
 
 returns-7 : tie.Need-returns-7
 unfolding commandSaid
-returns-7 c = 
+returns-7 c =
     let said = c .before .before .before .before .before .before in
     rw (said .before .before .before .before .enum-told7 .given .1) (said .say-write .ensures)
 
@@ -181,7 +181,7 @@ same-length-24 c = search needs
 
 returns-8 : tie.Need-returns-8
 unfolding commandSaid
-returns-8 c = 
+returns-8 c =
     let said = c .before .before .before .before .before .before in
     rw (said .before .before .before .before .enum-told8 .given .1) (said .say-export .ensures)
 
@@ -196,7 +196,7 @@ same-length-27 c = search needs
 
 returns-9 : tie.Need-returns-9
 unfolding commandSaid
-returns-9 c = 
+returns-9 c =
     let said = c .before .before .before .before .before .before in
     rw (said .before .before .before .before .enum-told9 .given .1) (said .say-import .ensures)
 
@@ -205,7 +205,7 @@ same-length-28 c = search needs
 
 returns-10 : tie.Need-returns-10
 unfolding commandSaid
-returns-10 c = 
+returns-10 c =
     let said = c .before .before in
     rw (said .before .before .enum-told10 .given .1) (said .write-help .ensures)
 

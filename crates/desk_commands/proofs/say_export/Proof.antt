@@ -2,7 +2,8 @@
 -- Assumes nothing.
 use native.Mathlib.Omega.{arith}
 use borrow.Author.Needs.{needs}
-use Rattle.desk_commands.proofs.CommandLaws.{text-refused, text-read, read-survey}
+use Rattle.model.proofs.ReadBack.{read-survey}
+use Rattle.desk_commands.proofs.CommandLaws.{text-refused, text-read}
 use Rattle.desk_commands.proofs.say_export.Statement.{statement}
 use Rattle.desk_commands.proofs.say_export.Tie as tie
 

@@ -1,6 +1,5 @@
 -- `desk_words::with_node` meets its contract: A, or B behind it.
 -- Assumes nothing.
-use borrow.Author.Needs.{needs}
 use borrow.Author.Tests.{eq-eqb, ne-eqb}
 use Rattle.desk_words.proofs.with_node.Statement.{statement}
 use Rattle.desk_words.proofs.with_node.Tie as tie
