@@ -98,6 +98,27 @@ pub fn write_help(buf: &mut [u8], at: usize) -> usize
     write_text(
         buf,
         at,
-        b"puxerdau: how many links a message needs between two nodes of a survey\nusage: puxerdau COMMAND [WORDS ..] < survey.txt\n\npair A B  the report of two nodes         puxerdau pair 1 3 < survey.txt\nwalk A B  the same, and the nodes between puxerdau walk 1 3 < survey.txt\ntest      are all nodes near each other?  puxerdau test < survey.txt\nhubs      hubs, and how many high nodes   puxerdau hubs < survey.txt\nreports   a line for each two nodes       puxerdau reports < survey.txt\ncheck     is the survey accepted?         puxerdau check < survey.txt\nwrite     the survey, its lines in order  puxerdau write < survey.txt\nexport    the survey as an edge file      puxerdau export < survey.txt > edges.col\nimport    an edge file as a survey        puxerdau import < edges.col > survey.txt\nhelp      this page                       puxerdau help\n\n--threshold T behind pair, walk, test, hubs or reports: nodes with T or more\nneighbours are high, as in: puxerdau test --threshold 3 < survey.txt\nWithout it a stored table says how many neighbours that takes.\nA survey is a line S,n,m and then m lines L,a,b: n nodes, numbered from 0, and\nm links, at most 1024 and 16384 (reports: 128 and 2048). Each line ends in a\nline feed. An edge file is in DIMACS form.\nA report is never below the fewest links, and at most two above them.\nWhat is refused is said in one line: refused, a number, the place, and why.\n",
+        b"puxerdau: how many links a message needs between two nodes of a survey\n\
+            usage: puxerdau COMMAND [WORDS ..] < survey.txt\n\
+            \n\
+            pair A B  the report of two nodes         puxerdau pair 1 3 < survey.txt\n\
+            walk A B  the same, and the nodes between puxerdau walk 1 3 < survey.txt\n\
+            test      are all nodes near each other?  puxerdau test < survey.txt\n\
+            hubs      hubs, and how many high nodes   puxerdau hubs < survey.txt\n\
+            reports   a line for each two nodes       puxerdau reports < survey.txt\n\
+            check     is the survey accepted?         puxerdau check < survey.txt\n\
+            write     the survey, its lines in order  puxerdau write < survey.txt\n\
+            export    the survey as an edge file      puxerdau export < survey.txt > edges.col\n\
+            import    an edge file as a survey        puxerdau import < edges.col > survey.txt\n\
+            help      this page                       puxerdau help\n\
+            \n\
+            --threshold T behind pair, walk, test, hubs or reports: nodes with T or more\n\
+            neighbours are high, as in: puxerdau test --threshold 3 < survey.txt\n\
+            Without it a stored table says how many neighbours that takes.\n\
+            A survey is a line S,n,m and then m lines L,a,b: n nodes, numbered from 0, and\n\
+            m links, at most 1024 and 16384 (reports: 128 and 2048). Each line ends in a\n\
+            line feed. An edge file is in DIMACS form.\n\
+            A report is never below the fewest links, and at most two above them.\n\
+            What is refused is said in one line: refused, a number, the place, and why.\n",
     )
 }

@@ -72,8 +72,20 @@ returns c =
     let said = high .before .before .before in
     let chose = said .before .before .before .before in
     let start = chose .before .before .before .before .before in
-    let v = rw (hubs-front _ _ _ _ _ _ (chose .choose-hubs .ensures .0) (chose .choose-hubs .ensures .1)) at (said .write-hubs .ensures .0) in
-    rw (sym (high .high-count .ensures)) (wrote-then (omega (arith, part chose, count-few chose, start .pre .0 .size, start .pre .1, said .write-hubs .ensures .1, v .ends, w .0 .ends, w .1)) v (w .0))
+    let v = rw (hubs-front _ _ _ _ _ _ (chose .choose-hubs .ensures .0) (chose .choose-hubs .ensures .1)) at (said .write-hubs .ensures .0)
+    in
+    rw (sym (high .high-count .ensures)) (wrote-then
+    (omega (
+      arith,
+      part chose,
+      count-few chose,
+      start .pre .0 .size,
+      start .pre .1,
+      said .write-hubs .ensures .1,
+      v .ends,
+      w .0 .ends,
+      w .1,
+    )) v (w .0))
 
 pub say-hubs-spec : {M : Type 1} → statement M
 say-hubs-spec =

@@ -12,7 +12,8 @@ slice-aggregate-build-tables : tie.Need-slice-aggregate-build-tables
 slice-aggregate-build-tables c = search needs
 
 build-tables-requires : tie.Need-build-tables-requires
-build-tables-requires c κs = let start = c .before .before .before .before .before .before .before .before .before .before in (start .pre .0, omega (arith, start .pre .2, start .pre .3, start .pre .4, start .pre .0 .size))
+build-tables-requires c κs = let start = c .before .before .before .before .before .before .before .before .before .before
+    in (start .pre .0, omega (arith, start .pre .2, start .pre .3, start .pre .4, start .pre .0 .size))
 
 ask-requires : tie.Need-ask-requires
 ask-requires c κs = search needs
@@ -53,7 +54,8 @@ returns c =
     let build = asked .before .before .before .before .before .before .before .before .before .before .before in
     let start = build .before .before .before .before .before .before .before .before .before .before .before in
     let own = tables-whole _ _ _ _ _ _ _ (build .build-tables .ensures) (start .pre .2) (start .pre .3) (start .pre .4) in
-    rw (said-refused own _ _ _ (asked .ask .ensures .0) (told .enum-told .given .1), sym (far .far-node .ensures)) (wrote .write-node-refused .ensures .0)
+    rw (said-refused own _ _ _ (asked .ask .ensures .0) (told .enum-told .given .1), sym (far .far-node .ensures))
+    (wrote .write-node-refused .ensures .0)
 
 same-length-5 : tie.Need-same-length-5
 same-length-5 c = search needs

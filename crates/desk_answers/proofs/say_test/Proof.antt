@@ -27,7 +27,8 @@ returns : tie.Need-returns
 returns c =
     let wrote = c .before .before in
     let told = wrote .before .before in
-    rw (tested-refused _ _ _ _ _ (told .before .before .test .ensures .0) (told .enum-told .given .1)) (wrote .write-threshold-refused .ensures .0)
+    rw (tested-refused _ _ _ _ _ (told .before .before .test .ensures .0) (told .enum-told .given .1))
+    (wrote .write-threshold-refused .ensures .0)
 
 same-length-2 : tie.Need-same-length-2
 same-length-2 c = search needs

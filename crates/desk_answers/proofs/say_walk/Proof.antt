@@ -15,7 +15,8 @@ slice-aggregate-build-tables : tie.Need-slice-aggregate-build-tables
 slice-aggregate-build-tables c = search needs
 
 build-tables-requires : tie.Need-build-tables-requires
-build-tables-requires c κs = let start = c .before .before .before .before .before .before .before .before .before .before in (start .pre .0, omega (arith, start .pre .2, start .pre .3, start .pre .4, start .pre .0 .size))
+build-tables-requires c κs = let start = c .before .before .before .before .before .before .before .before .before .before
+    in (start .pre .0, omega (arith, start .pre .2, start .pre .3, start .pre .4, start .pre .0 .size))
 
 slice-aggregate-write-walk : tie.Need-slice-aggregate-write-walk
 slice-aggregate-write-walk c = search needs
@@ -30,7 +31,10 @@ far-node-requires : tie.Need-far-node-requires
 far-node-requires c κs = search needs
 
 write-node-refused-requires : tie.Need-write-node-refused-requires
-write-node-refused-requires c κs = let start = c .before .before .before .before .before .before .before .before .before .before .before .before .before .before .before .before .before .before .before .before .before .before .before .before .before .before .before .before in (start .pre .0 .some-node, omega (arith, start .pre .1))
+write-node-refused-requires c κs =
+    let walked = c .before .before .before .before .before in
+    let build = walked .before .before .before .before .before .before .before .before .before .before .before .before in
+    let start = build .before .before .before .before .before .before .before .before .before .before .before in (start .pre .0 .some-node, omega (arith, start .pre .1))
 
 enum-known-x : tie.Need-enum-known-x
 enum-known-x c = search needs
@@ -43,7 +47,8 @@ say-walked-requires c κs =
     let told = c .before .before .before in
     let walked = told .before .before .before in
     let length-is = walked .write-walk .kept .1 .1 .1 .1 .1 .1 .1 .1 .1 .0 ∙ length-replicate {A = ℕ} 2048 0 in
-    let start = walked .before .before .before .before .before .before .before .before .before .before .before .before .before .before .before .before .before .before .before .before .before .before .before in (
+    let build = walked .before .before .before .before .before .before .before .before .before .before .before .before in
+    let start = build .before .before .before .before .before .before .before .before .before .before .before in (
       (omega (arith, length-is), omega (arith, start .pre .1)),
       λ some. front-within _ _ (walked .write-walk .ensures .1 .0 _ (ap pairAnswer (told .x .given .1)) some .count),
     )
@@ -69,7 +74,11 @@ returns c =
     let build = walked .before .before .before .before .before .before .before .before .before .before .before .before in
     let start = build .before .before .before .before .before .before .before .before .before .before .before in
     let own = tables-whole _ _ _ _ _ _ _ (build .build-tables .ensures) (start .pre .2) (start .pre .3) (start .pre .4) in
-    rw (walked-refused _ _ _ _ _ own _ _ (length-replicate {A = ℕ} 2048 0) _ _ (walked .write-walk .ensures .0) (told .enum-told .given .1), sym (far .far-node .ensures)) (wrote .write-node-refused .ensures .0)
+    rw (
+      walked-refused _ _ _ _ _ own _ _ (length-replicate {A = ℕ} 2048 0) _ _ (walked .write-walk .ensures .0)
+          (told .enum-told .given .1),
+      sym (far .far-node .ensures),
+    ) (wrote .write-node-refused .ensures .0)
 
 same-length-5 : tie.Need-same-length-5
 same-length-5 c = search needs
@@ -91,7 +100,8 @@ returns-2 c =
     let build = walked .before .before .before .before .before .before .before .before .before .before .before .before in
     let start = build .before .before .before .before .before .before .before .before .before .before .before in
     let own = tables-whole _ _ _ _ _ _ _ (build .build-tables .ensures) (start .pre .2) (start .pre .3) (start .pre .4) in
-    rw (walked-answered _ _ _ _ _ own _ _ (length-replicate {A = ℕ} 2048 0) _ _ (walked .write-walk .ensures .0) (told .x .given .1)) (wrote .say-walked .ensures)
+    rw (walked-answered _ _ _ _ _ own _ _ (length-replicate {A = ℕ} 2048 0) _ _ (walked .write-walk .ensures .0) (told .x .given .1))
+    (wrote .say-walked .ensures)
 
 pub say-walk-spec : {M : Type 1} → statement M
 say-walk-spec =

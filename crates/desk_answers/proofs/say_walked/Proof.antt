@@ -31,7 +31,8 @@ add-k : tie.Need-add-k
 add-k c = search needs
 
 slice-aggregate-write-walk : tie.Need-slice-aggregate-write-walk
-slice-aggregate-write-walk c = let test = c .before .before .before in sym (length-take-le _ _ (test .before .before .before .before .before .before .before .before .pre .1 (test .if1 .left)))
+slice-aggregate-write-walk c = let test = c .before .before .before in sym
+    (length-take-le _ _ (test .before .before .before .before .before .before .before .before .pre .1 (test .if1 .left)))
 
 write-walk-requires : tie.Need-write-walk-requires
 write-walk-requires c κs =
@@ -55,7 +56,9 @@ returns-2 c =
     let v = pair .write-pair .ensures in
     let start = pair .before .before .before .before in
     let few = length-take-le (start .args .x .report + 1) (start .args .walk .now) (start .pre .1 (test .if1 .left)) in
-    rw (ne-eqb _ _ (test .if1 .left)) (wrote-then (omega (arith, few, start .pre .1 (test .if1 .left), start .pre .0 .0, start .pre .0 .1, v .0 .ends, v .1, w .0 .ends, w .1)) (v .0) (w .0))
+    rw (ne-eqb _ _ (test .if1 .left)) (wrote-then
+    (omega (arith, few, start .pre .1 (test .if1 .left), start .pre .0 .0, start .pre .0 .1, v .0 .ends, v .1, w .0 .ends, w .1))
+    (v .0) (w .0))
 
 pub say-walked-spec : {M : Type 1} → statement M
 say-walked-spec =

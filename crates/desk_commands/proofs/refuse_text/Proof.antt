@@ -23,7 +23,8 @@ returns c =
     let wrote = c .before .before in
     let less = wrote .before .before in
     let stops = less .before in
-    rw (sym (stops .reading-stops .ensures .0), sym (less .one-less .ensures ∙ ap (λ (k : ℕ). k - 1) (stops .reading-stops .ensures .1))) (wrote .write-text-refused .ensures .0)
+    rw (sym (stops .reading-stops .ensures .0), sym (less .one-less .ensures ∙ ap (λ (k : ℕ). k - 1) (stops .reading-stops .ensures .1)))
+    (wrote .write-text-refused .ensures .0)
 
 pub refuse-text-spec : {M : Type 1} → statement M
 refuse-text-spec =

@@ -33,8 +33,11 @@ enum-known-x c = search needs
 
 survey-text-requires : tie.Need-survey-text-requires
 survey-text-requires c κs =
-    let told = c .before .before .before .before in
-    (told .before .before .before .before .before .before .import-survey .ensures .1 _ (ap readAnswer (told .x .given .1)) .survey, omega (arith, told .before .before .before .before .before .before .before .before .before .before .before .before .before .before .pre .2))
+    let told = c .before .before .before .before in (
+      told .before .before .before .before .before .before .import-survey .ensures .1 _ (ap readAnswer (told .x .given .1)) .survey,
+      omega
+          (arith, told .before .before .before .before .before .before .before .before .before .before .before .before .before .before .pre .2),
+    )
 
 same-length-2 : tie.Need-same-length-2
 same-length-2 c = search needs
@@ -51,7 +54,8 @@ returns-2 c =
     let told = wrote .before .before .before in
     let call = told .before .before .before .before .before .before in
     let start = told .before .before .before .before .before .before .before .before .before .before .before .before .before .before in
-    rw (file-refused _ _ (call .before .before .before .if1 .left) (start .pre .0) (start .pre .1) _ _ _ (call .import-survey .ensures .0) (told .r .given .1)) (wrote .refuse-file .ensures)
+    rw (file-refused _ _ (call .before .before .before .if1 .left) (start .pre .0) (start .pre .1) _ _ _ (call .import-survey .ensures .0)
+    (told .r .given .1)) (wrote .refuse-file .ensures)
 
 same-length-5 : tie.Need-same-length-5
 same-length-5 c = search needs
@@ -68,7 +72,8 @@ returns-3 c =
     let told = wrote .before .before .before .before .before in
     let call = told .before .before .before .before .before .before in
     let start = told .before .before .before .before .before .before .before .before .before .before .before .before .before .before in
-    rw (file-read _ _ (call .before .before .before .if1 .left) (start .pre .0) (start .pre .1) _ _ _ (call .import-survey .ensures .0) (told .x .given .1)) (wrote .survey-text .ensures)
+    rw (file-read _ _ (call .before .before .before .if1 .left) (start .pre .0) (start .pre .1) _ _ _ (call .import-survey .ensures .0)
+    (told .x .given .1)) (wrote .survey-text .ensures)
 
 pub say-import-spec : {M : Type 1} → statement M
 say-import-spec =

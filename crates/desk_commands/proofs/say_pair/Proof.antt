@@ -22,7 +22,8 @@ enum-known-x c = search needs
 say-nodes-requires : tie.Need-say-nodes-requires
 say-nodes-requires c κs =
     let told = c .before .before .before .before in
-    let survey = read-survey 1024 16384 (omega arith) (omega arith) _ _ _ _ _ _ (told .before .before .before .before .before .before .read-within .ensures) _ (told .x .given .1) in
+    let survey = read-survey 1024 16384 (omega arith) (omega arith) _ _ _ _ _ _
+    (told .before .before .before .before .before .before .read-within .ensures) _ (told .x .given .1) in
     (survey .0, omega (arith, told .before .before .before .before .before .before .before .before .before .before .before .before .before .pre .2))
 
 same-length : tie.Need-same-length
@@ -39,7 +40,8 @@ returns c =
     let wrote = c .before .before in
     let told = wrote .before .before .before in
     let start = told .before .before .before .before .before .before .before .before .before .before .before .before .before in
-    rw (text-refused _ _ _ _ _ (start .pre .0) (start .pre .1) _ _ _ (told .before .before .before .before .before .before .read-within .ensures) (told .r .given .1)) (wrote .refuse-text .ensures)
+    rw (text-refused _ _ _ _ _ (start .pre .0) (start .pre .1) _ _ _
+    (told .before .before .before .before .before .before .read-within .ensures) (told .r .given .1)) (wrote .refuse-text .ensures)
 
 same-length-4 : tie.Need-same-length-4
 same-length-4 c = search needs
@@ -55,7 +57,8 @@ returns-2 c =
     let wrote = c .before .before in
     let told = wrote .before .before .before .before .before in
     let start = told .before .before .before .before .before .before .before .before .before .before .before .before .before in
-    rw (text-read _ _ _ _ _ (start .pre .0) (start .pre .1) _ _ _ (told .before .before .before .before .before .before .read-within .ensures) (told .x .given .1)) (wrote .say-nodes .ensures)
+    rw (text-read _ _ _ _ _ (start .pre .0) (start .pre .1) _ _ _
+    (told .before .before .before .before .before .before .read-within .ensures) (told .x .given .1)) (wrote .say-nodes .ensures)
 
 pub say-pair-spec : {M : Type 1} → statement M
 say-pair-spec =

@@ -34,7 +34,8 @@ returns c =
     let wrote = c .before .before in
     let told = wrote .before .before .before in
     let start = told .before .before .before .before .before .before .before .before .before .before .before .before .before in
-    rw (text-refused _ _ _ _ _ (start .pre .0) (start .pre .1) _ _ _ (told .before .before .before .before .before .before .read-within .ensures) (told .r .given .1)) (wrote .refuse-text .ensures)
+    rw (text-refused _ _ _ _ _ (start .pre .0) (start .pre .1) _ _ _
+    (told .before .before .before .before .before .before .read-within .ensures) (told .r .given .1)) (wrote .refuse-text .ensures)
 
 same-length-4 : tie.Need-same-length-4
 same-length-4 c = search needs
@@ -50,7 +51,8 @@ returns-2 c =
     let wrote = c .before .before in
     let told = wrote .before .before .before .before .before in
     let start = told .before .before .before .before .before .before .before .before .before .before .before .before .before in
-    rw (text-read _ _ _ _ _ (start .pre .0) (start .pre .1) _ _ _ (told .before .before .before .before .before .before .read-within .ensures) (told .x .given .1)) (wrote .say-test .ensures)
+    rw (text-read _ _ _ _ _ (start .pre .0) (start .pre .1) _ _ _
+    (told .before .before .before .before .before .before .read-within .ensures) (told .x .given .1)) (wrote .say-test .ensures)
 
 pub say-test-spec : {M : Type 1} → statement M
 say-test-spec =

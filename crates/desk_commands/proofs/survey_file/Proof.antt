@@ -26,7 +26,8 @@ returns c =
     let write = c .before .before .before .before in
     let start = write .before .before .before .before .before in
     let survey = start .pre .0 in
-    never-refused _ _ _ _ (write .export-survey .ensures .0 ∙ exporting-answers _ _ _ survey _ (omega (arith, file-few _ _ _ survey, start .pre .1))) (c .enum-told .given .1)
+    never-refused _ _ _ _ (write .export-survey .ensures .0 ∙ exporting-answers _ _ _ survey _
+    (omega (arith, file-few _ _ _ survey, start .pre .1))) (c .enum-told .given .1)
 
 same-length-2 : tie.Need-same-length-2
 same-length-2 c = search needs
@@ -36,7 +37,8 @@ returns-2 c =
     let write = c .before .before .before .before .before in
     let start = write .before .before .before .before .before in
     let survey = start .pre .0 in
-    written-whole _ _ _ _ (write .export-survey .ensures .0 ∙ exporting-answers _ _ _ survey _ (omega (arith, file-few _ _ _ survey, start .pre .1))) (c .before .k .given .1)
+    written-whole _ _ _ _ (write .export-survey .ensures .0 ∙ exporting-answers _ _ _ survey _
+    (omega (arith, file-few _ _ _ survey, start .pre .1))) (c .before .k .given .1)
 
 pub survey-file-spec : {M : Type 1} → statement M
 survey-file-spec =

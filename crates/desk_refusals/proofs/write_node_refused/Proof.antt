@@ -32,7 +32,11 @@ returns : tie.Need-returns
 unfolding nodeRefused bytes
 returns c =
     let said = c .before .before in
-    let w = said .write-sentence .ensures in (rw (said .before .before .before .before .refusal-number .ensures) at (w .0), omega (arith, w .1))
+    let w = said .write-sentence .ensures in (
+      rw (said .before .before .before .before .refusal-number .ensures) at (w .0),
+      omega
+          (arith, w .1),
+    )
 
 pub write-node-refused-spec : {M : Type 1} → statement M
 write-node-refused-spec =

@@ -29,7 +29,11 @@ returns : tie.Need-returns
 unfolding thresholdRefused bytes
 returns c =
     let said = c .before .before in
-    let w = said .write-sentence .ensures in (rw (said .before .before .before .before .refusal-number .ensures) at (w .0), omega (arith, w .1))
+    let w = said .write-sentence .ensures in (
+      rw (said .before .before .before .before .refusal-number .ensures) at (w .0),
+      omega
+          (arith, w .1),
+    )
 
 pub write-threshold-refused-spec : {M : Type 1} → statement M
 write-threshold-refused-spec =

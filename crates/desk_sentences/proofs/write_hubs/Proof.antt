@@ -46,7 +46,8 @@ returns-2 c =
     let count = nodes .before .before .before .before in
     let v = count .write-sentence .ensures in
     let test = count .before .before .before .before in (
-      rw (hubs-some _ (test .if1 .left)) (wrote-then (omega (arith, w .0 .ends, w .1, v .0 .ends, v .1, test .before .before .before .pre)) (v .0) (w .0)),
+      rw (hubs-some _ (test .if1 .left)) (wrote-then (omega (arith, w .0 .ends, w .1, v .0 .ends, v .1, test .before .before .before .pre))
+          (v .0) (w .0)),
       omega (arith, w .1, v .1),
     )
 

@@ -38,7 +38,11 @@ unfolding neededLine bytes
 returns-2 c =
     let wrote = c .before .before in
     let w = wrote .write-text2 .ensures in
-    let test = wrote .before .before .before in (rw (ne-eqb _ _ (test .before .if1 .left), eq-eqb _ _ (test .if2 .taken)) w, omega (arith, w .ends))
+    let test = wrote .before .before .before in (
+      rw (ne-eqb _ _ (test .before .if1 .left), eq-eqb _ _ (test .if2 .taken)) w,
+      omega
+          (arith, w .ends),
+    )
 
 slice-aggregate-write-sentence : tie.Need-slice-aggregate-write-sentence
 slice-aggregate-write-sentence c = search needs
@@ -84,7 +88,13 @@ returns-4 c =
     let w = wrote .write-sentence2 .ensures in
     let least = wrote .before .before .before .before in
     let test = least .before in (
-      rw (ne-eqb _ _ (test .before .before .if1 .left), ne-eqb _ _ (test .before .if2 .left), lt-leb _ _ (test .if3 .left), sym (least .least-needed .ensures)) (w .0),
+      rw (
+        ne-eqb _ _ (test .before .before .if1 .left),
+        ne-eqb _ _ (test .before .if2 .left),
+        lt-leb _ _ (test .if3 .left),
+        sym
+            (least .least-needed .ensures),
+      ) (w .0),
       omega (arith, w .1),
     )
 

@@ -62,8 +62,9 @@ done c =
 
 same-length : tie.Need-same-length Inv-loop μ-loop
 same-length c =
+    let start = c .before .before .before .before .before .before .before .before in
     let w = done (c .before .before) in
-    wrote-length (omega (arith, w .0 .ends, w .1, c .before .before .before .before .before .before .before .before .pre)) (w .0)
+    wrote-length (omega (arith, w .0 .ends, w .1, start .pre)) (w .0)
 
 returns : tie.Need-returns Inv-loop μ-loop
 returns c = done (c .before .before)

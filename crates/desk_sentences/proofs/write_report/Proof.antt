@@ -86,7 +86,11 @@ returns-2 : tie.Need-returns-2
 unfolding reportLine bytes
 returns-2 c =
     let wrote = c .before .before in
-    let w = wrote .write-sentence2 .ensures in (rw (wrote .before .before .before .before .enum-told2 .given .1) (w .0), omega (arith, w .1))
+    let w = wrote .write-sentence2 .ensures in (
+      rw (wrote .before .before .before .before .enum-told2 .given .1) (w .0),
+      omega
+          (arith, w .1),
+    )
 
 same-length-3 : tie.Need-same-length-3
 same-length-3 c = search needs
@@ -95,7 +99,11 @@ returns-3 : tie.Need-returns-3
 unfolding reportLine bytes
 returns-3 c =
     let wrote = c .before .before in
-    let w = wrote .write-sentence3 .ensures in (rw (wrote .before .before .before .before .before .route .given .1) (w .0), omega (arith, w .1))
+    let w = wrote .write-sentence3 .ensures in (
+      rw (wrote .before .before .before .before .before .route .given .1) (w .0),
+      omega
+          (arith, w .1),
+    )
 
 same-length-4 : tie.Need-same-length-4
 same-length-4 c = search needs
@@ -104,7 +112,11 @@ returns-4 : tie.Need-returns-4
 unfolding reportLine bytes
 returns-4 c =
     let wrote = c .before .before in
-    let w = wrote .write-sentence4 .ensures in (rw (wrote .before .before .before .before .enum-told3 .given .1) (w .0), omega (arith, w .1))
+    let w = wrote .write-sentence4 .ensures in (
+      rw (wrote .before .before .before .before .enum-told3 .given .1) (w .0),
+      omega
+          (arith, w .1),
+    )
 
 same-length-5 : tie.Need-same-length-5
 same-length-5 c = search needs
@@ -113,7 +125,11 @@ returns-5 : tie.Need-returns-5
 unfolding reportLine bytes
 returns-5 c =
     let wrote = c .before .before in
-    let w = wrote .write-sentence5 .ensures in (rw (wrote .before .before .before .before .enum-told4 .given .1) (w .0), omega (arith, w .1))
+    let w = wrote .write-sentence5 .ensures in (
+      rw (wrote .before .before .before .before .enum-told4 .given .1) (w .0),
+      omega
+          (arith, w .1),
+    )
 
 pub write-report-spec : {M : Type 1} → statement M
 write-report-spec =

@@ -39,7 +39,11 @@ returns-2 : tie.Need-returns-2
 unfolding searchesEnd bytes
 returns-2 c =
     let wrote = c .before .before in
-    let w = wrote .write-sentence .ensures in (rw (ne-eqb _ _ (wrote .before .before .before .before .if1 .left)) (w .0), omega (arith, w .1))
+    let w = wrote .write-sentence .ensures in (
+      rw (ne-eqb _ _ (wrote .before .before .before .before .if1 .left)) (w .0),
+      omega
+          (arith, w .1),
+    )
 
 pub write-searches-spec : {M : Type 1} → statement M
 write-searches-spec =

@@ -26,7 +26,8 @@ returns c =
     let nodes = c .before .before in
     let w = nodes .write-nodes .ensures in
     let word = nodes .before .before .before .before in (
-      wrote-then (omega (arith, w .0 .ends, w .1, word .write-text .ensures .ends, word .before .before .before .before .before .pre)) (word .write-text .ensures) (w .0),
+      wrote-then (omega (arith, w .0 .ends, w .1, word .write-text .ensures .ends, word .before .before .before .before .before .pre))
+          (word .write-text .ensures) (w .0),
       omega (arith, w .1, word .write-text .ensures .ends),
     )
 

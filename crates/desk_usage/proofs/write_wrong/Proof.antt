@@ -56,7 +56,11 @@ returns : tie.Need-returns
 unfolding fault bytes
 returns c =
     let wrote = c .before .before in
-    let w = wrote .write-sentence .ensures in (rw (wrote .before .before .before .before .before .wrong .given .1) (w .0), omega (arith, w .1))
+    let w = wrote .write-sentence .ensures in (
+      rw (wrote .before .before .before .before .before .wrong .given .1) (w .0),
+      omega
+          (arith, w .1),
+    )
 
 same-length-2 : tie.Need-same-length-2
 same-length-2 c = search needs
@@ -65,7 +69,11 @@ returns-2 : tie.Need-returns-2
 unfolding fault bytes
 returns-2 c =
     let wrote = c .before .before in
-    let w = wrote .write-sentence2 .ensures in (rw (wrote .before .before .before .before .before .wrong2 .given .1) (w .0), omega (arith, w .1))
+    let w = wrote .write-sentence2 .ensures in (
+      rw (wrote .before .before .before .before .before .wrong2 .given .1) (w .0),
+      omega
+          (arith, w .1),
+    )
 
 same-length-3 : tie.Need-same-length-3
 same-length-3 c = search needs

@@ -32,7 +32,11 @@ unfolding wordOf bytes
 returns-2 c =
     let parsed = c .before .before in
     let test = parsed .before in
-    rw (sym (test .before .is-word .ensures) ∙ test .if1 .left, number-none _ (sym (c .enum-told .given .1) ∙ parsed .parse-number .ensures))
+    rw (
+      sym (test .before .is-word .ensures) ∙ test .if1 .left,
+      number-none _
+          (sym (c .enum-told .given .1) ∙ parsed .parse-number .ensures),
+    )
 
 returns-3 : tie.Need-returns-3
 unfolding wordOf bytes
@@ -40,7 +44,11 @@ returns-3 c =
     let said = c .before .before in
     let parsed = said .before .before in
     let test = parsed .before in
-    rw (sym (test .before .is-word .ensures) ∙ test .if1 .left, number-part _ (sym (said .v .given .1) ∙ parsed .parse-number .ensures) (c .if2 .taken))
+    rw (
+      sym (test .before .is-word .ensures) ∙ test .if1 .left,
+      number-part _ (sym (said .v .given .1) ∙ parsed .parse-number .ensures)
+          (c .if2 .taken),
+    )
 
 returns-4 : tie.Need-returns-4
 unfolding wordOf bytes
