@@ -17,7 +17,6 @@ use Rattle.model.specs.declared.Testing.the-variants as tests
 use Rattle.model.specs.Answers.{pairAnswer, testAnswer}
 use Rattle.model.specs.Basics.{upTo, keep}
 use Rattle.model.specs.Survey.{Graph, neighboursOf}
-use Rattle.model.specs.Threshold.{inForce, badThreshold}
 use Rattle.model.specs.Hubs.{isHigh}
 use Rattle.model.specs.Asking.{asking}
 use Rattle.model.specs.Walking.{AfterWalking, walkReturned, walking}
@@ -27,18 +26,7 @@ use Rattle.model.proofs.Lists.{of-upTo, keep-same, keep-below}
 use Rattle.table_building.proofs.WholeTables.{AreTables}
 use Rattle.desk_sentences.specs.Sentences.{pairLines, verdictLines}
 use Rattle.desk_refusals.specs.Reasons.{nodeRefused, thresholdRefused}
-use Rattle.desk_answers.specs.Said.{farNode, bySplit, askedSaid, pairSaid, walkedSaid, walkSaid, testedSaid, testSaid}
-
--- ---- the threshold
-
-module _ (n t : ℕ) (say : ℕ → List ℕ) where
-  pub split-refused : badThreshold t ≡ true → bySplit n t say ≡ thresholdRefused t
-  unfolding bySplit
-  split-refused e = rw e
-
-  pub split-taken : badThreshold t ≡ false → bySplit n t say ≡ say (inForce n t)
-  unfolding bySplit
-  split-taken e = rw e
+use Rattle.desk_answers.specs.Said.{farNode, askedSaid, pairSaid, walkedSaid, walkSaid, testedSaid, testSaid}
 
 -- ---- a pair and its walk, by tables that are those of the rules
 

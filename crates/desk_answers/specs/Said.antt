@@ -9,7 +9,6 @@ use Rattle.model.specs.declared.TestResult.{TestResult}
 use Rattle.model.specs.Answers.{Outcome, refused, answered}
 use Rattle.model.specs.Basics.{none, if_then_else_, upTo, keep}
 use Rattle.model.specs.Survey.{Graph, neighboursOf}
-use Rattle.model.specs.Threshold.{inForce, badThreshold}
 use Rattle.model.specs.Hubs.{isHigh, hubs}
 use Rattle.model.specs.Tables.{fullTable, lowTable, reportTable}
 use Rattle.model.specs.Asking.{asking}
@@ -21,10 +20,6 @@ use Rattle.desk_refusals.specs.Reasons.{nodeRefused, thresholdRefused}
 -- the node that is refused: a, unless it is below n
 unfoldable pub farNode : (n a b : ℕ) → ℕ
 farNode n a b = if leb n a then a else b
-
--- what is said by the threshold in force where t is given
-unfoldable pub bySplit : (n t : ℕ) → (ℕ → List ℕ) → List ℕ
-bySplit n t say = if badThreshold t then thresholdRefused t else say (inForce n t)
 
 -- ---- pair: asked with the tables of rules 5.2 to 5.5
 

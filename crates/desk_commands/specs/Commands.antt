@@ -1,6 +1,6 @@
 -- What each command says of a text (docs/COMMANDS.md).
 -- Assumes nothing.
-use mathlib.Core.Bool.{true, false}
+use mathlib.Core.Bool.{Bool, true, false, not}
 use mathlib.Core.List.{List}
 use Prim.Native.Nat.{ℕ, _-_}
 use lib.Dec.{ltb}
@@ -9,6 +9,7 @@ use Rattle.model.specs.declared.Size.{Size}
 use Rattle.model.specs.Answers.{Outcome, refused, answered}
 use Rattle.model.specs.Basics.{if_then_else_}
 use Rattle.model.specs.Survey.{neighboursOf}
+use Rattle.model.specs.Threshold.{inForce, badThreshold}
 use Rattle.model.specs.Reading.{AfterReading, parse, readingOf}
 use Rattle.model.specs.Writing.{textOf}
 use Rattle.model.specs.Dimacs.{uncommented, importing, exportOf}
@@ -16,25 +17,63 @@ use Rattle.model.specs.Listing.{listingOf}
 use Rattle.survey_stops.specs.Stops.{nodesIn, firstSays, readStop, lineAt, headSays, fileLine}
 use Rattle.desk_words.specs.declared.Command.{Command}
 use Rattle.desk_words.specs.declared.Command.the-variants.{Pair, Walk, Test, Hubs, Reports, Check, Write, Export, Import, Help}
+use Rattle.desk_words.specs.Words.{readsText}
 use Rattle.desk_sentences.specs.Sentences.{acceptedLine}
 use Rattle.desk_refusals.specs.declared.Source.{Source}
 use Rattle.desk_refusals.specs.declared.Source.the-variants.{Survey, Listing, File}
 use Rattle.desk_refusals.specs.declared.Stop.{Stop}
-use Rattle.desk_refusals.specs.Reasons.{textRefused}
+use Rattle.desk_refusals.specs.Reasons.{textRefused, thresholdRefused}
 use Rattle.desk_usage.specs.declared.Fault.the-variants.{TooLong}
 use Rattle.desk_usage.specs.Usage.{faultLine, help}
-use Rattle.desk_answers.specs.Said.{bySplit, testSaid, hubsSaid}
+use Rattle.desk_answers.specs.Said.{testSaid, hubsSaid}
 use Rattle.desk_tables.specs.Nodes.{nodesAsked}
 
--- where reading a survey text stops, within limits on its counts; and where importing a file does, whose nodes are numbered from 1
-abbrev pub textStop : Source → (mostNodes mostLinks : ℕ) → List ℕ → Stop
-textStop source mostNodes mostLinks text = record {
+-- ---- what is read: `reports` takes a survey within the listing's limits, `import` a file, every other command a survey
+
+abbrev pub sourceOf : Command → Source
+sourceOf Pair = Survey
+sourceOf Walk = Survey
+sourceOf Test = Survey
+sourceOf Hubs = Survey
+sourceOf Reports = Listing
+sourceOf Check = Survey
+sourceOf Write = Survey
+sourceOf Export = Survey
+sourceOf Import = File
+sourceOf Help = Survey
+
+abbrev pub mostNodes : Source → ℕ
+mostNodes Survey = 1024
+mostNodes Listing = 128
+mostNodes File = 1024
+
+abbrev pub mostLinks : Source → ℕ
+mostLinks Survey = 16384
+mostLinks Listing = 2048
+mostLinks File = 16384
+
+-- a file is taken if it is not too long
+unfoldable pub tooLong : Source → List ℕ → Bool
+tooLong Survey text = false
+tooLong Listing text = false
+tooLong File text = ltb 524287 (length text)
+
+-- read into the longest lists
+unfoldable pub readAs : Source → List ℕ → AfterReading
+readAs Survey text = readingOf 1025 32768 (parse 1024 16384 1025 32768 text)
+readAs Listing text = readingOf 1025 32768 (parse 128 2048 1025 32768 text)
+readAs File text = importing text 1025 32768
+
+-- ---- where reading stops: the nodes of a survey text are numbered from 0, those of a file from 1
+
+abbrev pub textStop : Source → List ℕ → Stop
+textStop source text = record {
   source = source;
-  line = lineAt text (readStop mostNodes mostLinks text);
+  line = lineAt text (readStop (mostNodes source) (mostLinks source) text);
   first = 0;
-  last = nodesIn (firstSays mostNodes mostLinks text) - 1;
-  «most_nodes» = mostNodes;
-  «most_links» = mostLinks;
+  last = nodesIn (firstSays (mostNodes source) (mostLinks source) text) - 1;
+  «most_nodes» = mostNodes source;
+  «most_links» = mostLinks source;
 }
 
 abbrev pub fileStop : List ℕ → Stop
@@ -43,68 +82,46 @@ fileStop text = record {
   line = fileLine text;
   first = 1;
   last = nodesIn (headSays (uncommented text));
-  «most_nodes» = 1024;
-  «most_links» = 16384;
+  «most_nodes» = mostNodes File;
+  «most_links» = mostLinks File;
 }
 
--- what is said of the survey that was read, by its size and its two lists
-abbrev pub Saying : Type 0
-Saying = Size → (starts neighbours : List ℕ) → List ℕ
+abbrev pub stopOf : Source → List ℕ → Stop
+stopOf Survey text = textStop Survey text
+stopOf Listing text = textStop Listing text
+stopOf File text = fileStop text
 
-abbrev pub ofOutcome : (refuse : ℕ → List ℕ) → (Size → List ℕ) → Outcome Size → List ℕ
-ofOutcome refuse say (refused k) = refuse k
-ofOutcome refuse say (answered x) = say x
+-- ---- what is said of the survey that was read: t is the threshold, 0 where there is none, s the one in force; a and b are the nodes
 
-abbrev pub ofReading : (refuse : ℕ → List ℕ) → Saying → AfterReading → List ℕ
-ofReading refuse say r = ofOutcome refuse (λ x. say x (r .starts) (r .neighbours)) (r .answer)
+unfoldable pub saidOf : Command → (t s a b : ℕ) → Size → (starts neighbours : List ℕ) → List ℕ
+saidOf Pair t s a b x starts neighbours = nodesAsked false (x .nodes) t s starts neighbours a b
+saidOf Walk t s a b x starts neighbours = nodesAsked true (x .nodes) t s starts neighbours a b
+saidOf Test t s a b x starts neighbours = testSaid (x .nodes) t starts neighbours
+saidOf Hubs t s a b x starts neighbours = hubsSaid (x .nodes) s (neighboursOf starts neighbours)
+saidOf Reports t s a b x starts neighbours = listingOf (x .nodes) s (neighboursOf starts neighbours)
+saidOf Check t s a b x starts neighbours = acceptedLine (x .nodes) (x .links)
+saidOf Write t s a b x starts neighbours = textOf (x .nodes) starts neighbours
+saidOf Export t s a b x starts neighbours = exportOf (x .nodes) starts neighbours
+saidOf Import t s a b x starts neighbours = textOf (x .nodes) starts neighbours
+saidOf Help t s a b x starts neighbours = help
 
--- a text is read into the longest lists, within limits on its counts: why it is refused, or what is said of the survey
-unfoldable pub surveySaid : Source → (mostNodes mostLinks : ℕ) → List ℕ → Saying → List ℕ
-surveySaid source mostNodes mostLinks text say =
-    ofReading (λ k. textRefused k (textStop source mostNodes mostLinks text)) say
-    (readingOf 1025 32768 (parse mostNodes mostLinks 1025 32768 text))
+-- if the threshold is not refused
+unfoldable pub surveySaid : Command → (t a b : ℕ) → Size → (starts neighbours : List ℕ) → List ℕ
+surveySaid c t a b x starts neighbours =
+    if badThreshold t then thresholdRefused t else saidOf c t (inForce (x .nodes) t) a b x starts neighbours
 
--- the same of a file, if it is not too long
-unfoldable pub fileSaid : List ℕ → Saying → List ℕ
-fileSaid text say =
-    if ltb 524287 (length text) then faultLine TooLong Import
-    else ofReading (λ k. textRefused k (fileStop text)) say (importing text 1025 32768)
+-- ---- what is said of a text: why it is refused, or what is said of its survey
 
--- ---- the commands: t is the threshold, 0 where there is none, and a and b are the nodes
+unfoldable pub onOutcome : (ℕ → List ℕ) → (Size → List ℕ) → Outcome Size → List ℕ
+onOutcome refuse say (refused k) = refuse k
+onOutcome refuse say (answered x) = say x
 
-abbrev pub pairOf : (t a b : ℕ) → Saying
-pairOf t a b x starts neighbours = nodesAsked false (x .nodes) t starts neighbours a b
-
-abbrev pub walkOf : (t a b : ℕ) → Saying
-walkOf t a b x starts neighbours = nodesAsked true (x .nodes) t starts neighbours a b
-
-abbrev pub testOf : (t : ℕ) → Saying
-testOf t x starts neighbours = testSaid (x .nodes) t starts neighbours
-
-abbrev pub hubsOf : (t : ℕ) → Saying
-hubsOf t x starts neighbours = bySplit (x .nodes) t (λ s. hubsSaid (x .nodes) s (neighboursOf starts neighbours))
-
-abbrev pub reportsOf : (t : ℕ) → Saying
-reportsOf t x starts neighbours = bySplit (x .nodes) t (λ s. listingOf (x .nodes) s (neighboursOf starts neighbours))
-
-abbrev pub checkOf : Saying
-checkOf x starts neighbours = acceptedLine (x .nodes) (x .links)
-
-abbrev pub writeOf : Saying
-writeOf x starts neighbours = textOf (x .nodes) starts neighbours
-
-abbrev pub fileOf : Saying
-fileOf x starts neighbours = exportOf (x .nodes) starts neighbours
+unfoldable pub readSaid : Command → (t a b : ℕ) → List ℕ → AfterReading → List ℕ
+readSaid c t a b text r =
+    onOutcome (λ k. textRefused k (stopOf (sourceOf c) text)) (λ x. surveySaid c t a b x (r .starts) (r .neighbours)) (r .answer)
 
 unfoldable pub commandSaid : Command → (t a b : ℕ) → List ℕ → List ℕ
-commandSaid Pair t a b text = surveySaid Survey 1024 16384 text (pairOf t a b)
-commandSaid Walk t a b text = surveySaid Survey 1024 16384 text (walkOf t a b)
-commandSaid Test t a b text = surveySaid Survey 1024 16384 text (testOf t)
-commandSaid Hubs t a b text = surveySaid Survey 1024 16384 text (hubsOf t)
-commandSaid Reports t a b text = surveySaid Listing 128 2048 text (reportsOf t)
-commandSaid Check t a b text = surveySaid Survey 1024 16384 text checkOf
-commandSaid Write t a b text = surveySaid Survey 1024 16384 text writeOf
-commandSaid Export t a b text = surveySaid Survey 1024 16384 text fileOf
-commandSaid Import t a b text = fileSaid text writeOf
--- reads no text
-commandSaid Help t a b text = help
+commandSaid c t a b text =
+    if not (readsText c) then help
+    else if tooLong (sourceOf c) text then faultLine TooLong c
+    else readSaid c t a b text (readAs (sourceOf c) text)

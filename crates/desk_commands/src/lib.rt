@@ -6,19 +6,19 @@ use desk_words::Command;
 use model::Counting;
 use model::Reading;
 use model::Refusal;
+use model::Size;
 ghost use mathlib.Core.Path.{_≡_};
 ghost use Prim.Native.Nat.{_-_, _≤_};
 ghost use lib.ListN.{length};
 ghost use Rattle.model.specs.Answers.{number};
-ghost use Rattle.model.specs.Survey.{neighboursOf, Accepted};
+ghost use Rattle.model.specs.Survey.{Accepted};
+ghost use Rattle.model.specs.Reading.{readReturned};
 ghost use Rattle.model.specs.Writing.{textOf};
 ghost use Rattle.model.specs.Dimacs.{exportOf};
-ghost use Rattle.model.specs.Listing.{listingOf};
 ghost use Rattle.base_lists.specs.Written.{Wrote};
 ghost use Rattle.desk_refusals.specs.Reasons.{textRefused};
-ghost use Rattle.desk_answers.specs.Said.{bySplit, hubsSaid};
-ghost use Rattle.desk_commands.specs.Commands.{textStop, fileStop, surveySaid, fileSaid, commandSaid};
-ghost use Rattle.desk_commands.specs.Commands.{pairOf, walkOf, testOf, hubsOf, reportsOf, checkOf, writeOf, fileOf};
+ghost use Rattle.desk_commands.specs.Commands.{sourceOf, mostNodes, mostLinks, tooLong, readAs, textStop, fileStop, stopOf};
+ghost use Rattle.desk_commands.specs.Commands.{saidOf, surveySaid, readSaid, commandSaid};
 
 // One less, or 0.
 fn one_less(k: usize) -> usize
@@ -30,46 +30,96 @@ fn one_less(k: usize) -> usize
     k - 1
 }
 
-// Says why a survey text is refused, and at which line, from the first byte on.
-fn refuse_text(
-    text: &[u8],
-    source: Source,
-    refusal: Refusal,
-    most_nodes: usize,
-    most_links: usize,
-    out: &mut [u8],
-) -> usize
-    requires { ⌜ («most_nodes» ≤ 1024) × («most_links» ≤ 16384) × (200000 ≤ length (now out)) ⌝ }
-    ensures { λ r. ⌜ Wrote (now (out .entry)) (now (out .exit)) 0 r
-        (textRefused (number refusal) (textStop source «most_nodes» «most_links» (now (text .entry)))) ⌝ }
+// What a command reads.
+fn source_of(command: Command) -> Source
+    ensures { λ r. ⌜ r ≡ sourceOf command ⌝ }
+{
+    match command {
+        Command::Pair => Source::Survey,
+        Command::Walk => Source::Survey,
+        Command::Test => Source::Survey,
+        Command::Hubs => Source::Survey,
+        Command::Reports => Source::Listing,
+        Command::Check => Source::Survey,
+        Command::Write => Source::Survey,
+        Command::Export => Source::Survey,
+        Command::Import => Source::File,
+        Command::Help => Source::Survey,
+    }
+}
+
+// Whether a text is longer than is taken.
+fn too_long(source: Source, text: &[u8]) -> bool
+    ensures { λ r. ⌜ r ≡ tooLong source (now (text .entry)) ⌝ }
+{
+    match source {
+        Source::Survey => false,
+        Source::Listing => false,
+        Source::File => 524287 < text.len(),
+    }
+}
+
+// Where reading a survey text stops, within limits on its counts.
+fn text_stop(source: Source, text: &[u8], most_nodes: usize, most_links: usize) -> Stop
+    requires { ⌜ («most_nodes» ≡ mostNodes source) × («most_links» ≡ mostLinks source) ⌝ }
+    ensures { λ r. ⌜ r ≡ textStop source (now (text .entry)) ⌝ }
 {
     let place = survey_stops::reading_stops(text, most_nodes, most_links);
-    let stop = Stop {
+    Stop {
         source,
         line: place.line,
         first: 0,
         last: one_less(place.nodes),
         most_nodes,
         most_links,
-    };
-    desk_refusals::write_text_refused(out, 0, refusal, stop)
+    }
 }
 
-// Says why a file is refused, and at which line, from the first byte on.
-fn refuse_file(text: &[u8], refusal: Refusal, out: &mut [u8]) -> usize
-    requires { ⌜ 200000 ≤ length (now out) ⌝ }
-    ensures { λ r. ⌜ Wrote (now (out .entry)) (now (out .exit)) 0 r (textRefused (number refusal) (fileStop (now (text .entry)))) ⌝ }
+// Where importing a file stops.
+fn file_stop(text: &[u8]) -> Stop
+    ensures { λ r. ⌜ r ≡ fileStop (now (text .entry)) ⌝ }
 {
     let place = survey_stops::importing_stops(text);
-    let stop = Stop {
+    Stop {
         source: Source::File,
         line: place.line,
         first: 1,
         last: place.nodes,
         most_nodes: 1024,
         most_links: 16384,
-    };
+    }
+}
+
+// Where reading a text stops.
+fn stop_of(source: Source, text: &[u8]) -> Stop
+    ensures { λ r. ⌜ r ≡ stopOf source (now (text .entry)) ⌝ }
+{
+    match source {
+        Source::Survey => text_stop(Source::Survey, text, 1024, 16384),
+        Source::Listing => text_stop(Source::Listing, text, 128, 2048),
+        Source::File => file_stop(text),
+    }
+}
+
+// Says why a text is refused, and at which line, from the first byte on.
+fn refuse_text(source: Source, text: &[u8], refusal: Refusal, out: &mut [u8]) -> usize
+    requires { ⌜ 200000 ≤ length (now out) ⌝ }
+    ensures { λ r. ⌜ Wrote (now (out .entry)) (now (out .exit)) 0 r (textRefused (number refusal) (stopOf source (now (text .entry)))) ⌝ }
+{
+    let stop = stop_of(source, text);
     desk_refusals::write_text_refused(out, 0, refusal, stop)
+}
+
+// Reads a text into the two lists.
+fn read_as(source: Source, text: &[u8], starts: &mut [u32], neighbours: &mut [u16]) -> Reading
+    requires { ⌜ (length (now starts) ≡ 1025) × (length (now neighbours) ≡ 32768) ⌝ }
+    ensures { λ r. ⌜ readReturned r (now (starts .exit)) (now (neighbours .exit)) ≡ readAs source (now (text .entry)) ⌝ }
+{
+    match source {
+        Source::Survey => survey_reading::read_within(text, 1024, 16384, starts, neighbours),
+        Source::Listing => survey_reading::read_within(text, 128, 2048, starts, neighbours),
+        Source::File => survey_importing::import_survey(text, starts, neighbours),
+    }
 }
 
 // What a survey has as text, from the first byte on.
@@ -94,118 +144,64 @@ fn survey_file(n: usize, starts: &[u32], neighbours: &[u16], out: &mut [u8]) -> 
     }
 }
 
-// The listing of a survey, split by threshold t, or by the stored one where t is 0.
-fn list_split(n: usize, t: usize, starts: &[u32], neighbours: &[u16], out: &mut [u8]) -> usize
-    requires { ⌜ Accepted n (now starts) (now neighbours) × (n ≤ 128) × (200000 ≤ length (now out)) ⌝ }
+// Says what a command says of a survey, from the first byte on: s is the threshold in force where t is given.
+fn say_of(
+    command: Command,
+    t: usize,
+    s: usize,
+    a: usize,
+    b: usize,
+    size: Size,
+    starts: &[u32],
+    neighbours: &[u16],
+    out: &mut [u8],
+) -> usize
+    requires { ⌜ Accepted (size .nodes) (now starts) (now neighbours) × (size .nodes ≤ mostNodes (sourceOf command))
+        × (200000 ≤ length (now out)) ⌝ }
     ensures { λ r. ⌜ Wrote (now (out .entry)) (now (out .exit)) 0 r
-        (bySplit n t (λ s. listingOf n s (neighboursOf (now (starts .entry)) (now (neighbours .entry))))) ⌝ }
+        (saidOf command t s a b size (now (starts .entry)) (now (neighbours .entry))) ⌝ }
+{
+    let n = size.nodes;
+    match command {
+        Command::Pair => desk_tables::say_nodes(false, n, t, s, starts, neighbours, a, b, out),
+        Command::Walk => desk_tables::say_nodes(true, n, t, s, starts, neighbours, a, b, out),
+        Command::Test => desk_answers::say_test(n, t, starts, neighbours, out),
+        Command::Hubs => desk_answers::say_hubs(n, s, starts, neighbours, out),
+        Command::Reports => listing_writing::list_survey(n, s, starts, neighbours, out),
+        Command::Check => desk_sentences::write_accepted(out, 0, n as u64, size.links as u64),
+        Command::Write => survey_text(n, starts, neighbours, out),
+        Command::Export => survey_file(n, starts, neighbours, out),
+        Command::Import => survey_text(n, starts, neighbours, out),
+        Command::Help => desk_usage::write_help(out, 0),
+    }
+}
+
+// The same, if the threshold is not refused.
+fn say_survey(
+    command: Command,
+    t: usize,
+    a: usize,
+    b: usize,
+    size: Size,
+    starts: &[u32],
+    neighbours: &[u16],
+    out: &mut [u8],
+) -> usize
+    requires { ⌜ Accepted (size .nodes) (now starts) (now neighbours) × (size .nodes ≤ mostNodes (sourceOf command))
+        × (200000 ≤ length (now out)) ⌝ }
+    ensures { λ r. ⌜ Wrote (now (out .entry)) (now (out .exit)) 0 r
+        (surveySaid command t a b size (now (starts .entry)) (now (neighbours .entry))) ⌝ }
 {
     if base_refusals::bad_threshold(t) {
         return desk_refusals::write_threshold_refused(out, 0, t as u64);
     }
-    let s = base_threshold::in_force(n, t);
-    listing_writing::list_survey(n, s, starts, neighbours, out)
+    let s = base_threshold::in_force(size.nodes, t);
+    say_of(command, t, s, a, b, size, starts, neighbours, out)
 }
 
-// The hubs of a survey, split likewise.
-fn hubs_split(n: usize, t: usize, starts: &[u32], neighbours: &[u16], out: &mut [u8]) -> usize
-    requires { ⌜ Accepted n (now starts) (now neighbours) × (200000 ≤ length (now out)) ⌝ }
-    ensures { λ r. ⌜ Wrote (now (out .entry)) (now (out .exit)) 0 r
-        (bySplit n t (λ s. hubsSaid n s (neighboursOf (now (starts .entry)) (now (neighbours .entry))))) ⌝ }
-{
-    if base_refusals::bad_threshold(t) {
-        return desk_refusals::write_threshold_refused(out, 0, t as u64);
-    }
-    let s = base_threshold::in_force(n, t);
-    desk_answers::say_hubs(n, s, starts, neighbours, out)
-}
-
-// The command `check`: the counts of a survey.
-fn say_check(text: &[u8], starts: &mut [u32], neighbours: &mut [u16], out: &mut [u8]) -> usize
-    requires { ⌜ (length (now starts) ≡ 1025) × (length (now neighbours) ≡ 32768) × (200000 ≤ length (now out)) ⌝ }
-    ensures { λ r. ⌜ Wrote (now (out .entry)) (now (out .exit)) 0 r (surveySaid Source.Survey 1024 16384 (now (text .entry)) checkOf) ⌝ }
-{
-    match survey_reading::read_within(text, 1024, 16384, starts, neighbours) {
-        Reading::Refused(r) => refuse_text(text, Source::Survey, r, 1024, 16384, out),
-        Reading::Read(x) => desk_sentences::write_accepted(out, 0, x.nodes as u64, x.links as u64),
-    }
-}
-
-// The command `write`.
-fn say_write(text: &[u8], starts: &mut [u32], neighbours: &mut [u16], out: &mut [u8]) -> usize
-    requires { ⌜ (length (now starts) ≡ 1025) × (length (now neighbours) ≡ 32768) × (200000 ≤ length (now out)) ⌝ }
-    ensures { λ r. ⌜ Wrote (now (out .entry)) (now (out .exit)) 0 r (surveySaid Source.Survey 1024 16384 (now (text .entry)) writeOf) ⌝ }
-{
-    match survey_reading::read_within(text, 1024, 16384, starts, neighbours) {
-        Reading::Refused(r) => refuse_text(text, Source::Survey, r, 1024, 16384, out),
-        Reading::Read(x) => survey_text(x.nodes, starts, neighbours, out),
-    }
-}
-
-// The command `export`.
-fn say_export(text: &[u8], starts: &mut [u32], neighbours: &mut [u16], out: &mut [u8]) -> usize
-    requires { ⌜ (length (now starts) ≡ 1025) × (length (now neighbours) ≡ 32768) × (200000 ≤ length (now out)) ⌝ }
-    ensures { λ r. ⌜ Wrote (now (out .entry)) (now (out .exit)) 0 r (surveySaid Source.Survey 1024 16384 (now (text .entry)) fileOf) ⌝ }
-{
-    match survey_reading::read_within(text, 1024, 16384, starts, neighbours) {
-        Reading::Refused(r) => refuse_text(text, Source::Survey, r, 1024, 16384, out),
-        Reading::Read(x) => survey_file(x.nodes, starts, neighbours, out),
-    }
-}
-
-// The command `test`.
-fn say_test(
-    t: usize,
-    text: &[u8],
-    starts: &mut [u32],
-    neighbours: &mut [u16],
-    out: &mut [u8],
-) -> usize
-    requires { ⌜ (length (now starts) ≡ 1025) × (length (now neighbours) ≡ 32768) × (200000 ≤ length (now out)) ⌝ }
-    ensures { λ r. ⌜ Wrote (now (out .entry)) (now (out .exit)) 0 r (surveySaid Source.Survey 1024 16384 (now (text .entry)) (testOf t)) ⌝ }
-{
-    match survey_reading::read_within(text, 1024, 16384, starts, neighbours) {
-        Reading::Refused(r) => refuse_text(text, Source::Survey, r, 1024, 16384, out),
-        Reading::Read(x) => desk_answers::say_test(x.nodes, t, starts, neighbours, out),
-    }
-}
-
-// The command `hubs`.
-fn say_hubs(
-    t: usize,
-    text: &[u8],
-    starts: &mut [u32],
-    neighbours: &mut [u16],
-    out: &mut [u8],
-) -> usize
-    requires { ⌜ (length (now starts) ≡ 1025) × (length (now neighbours) ≡ 32768) × (200000 ≤ length (now out)) ⌝ }
-    ensures { λ r. ⌜ Wrote (now (out .entry)) (now (out .exit)) 0 r (surveySaid Source.Survey 1024 16384 (now (text .entry)) (hubsOf t)) ⌝ }
-{
-    match survey_reading::read_within(text, 1024, 16384, starts, neighbours) {
-        Reading::Refused(r) => refuse_text(text, Source::Survey, r, 1024, 16384, out),
-        Reading::Read(x) => hubs_split(x.nodes, t, starts, neighbours, out),
-    }
-}
-
-// The command `reports`, within the listing's own limits.
-fn say_reports(
-    t: usize,
-    text: &[u8],
-    starts: &mut [u32],
-    neighbours: &mut [u16],
-    out: &mut [u8],
-) -> usize
-    requires { ⌜ (length (now starts) ≡ 1025) × (length (now neighbours) ≡ 32768) × (200000 ≤ length (now out)) ⌝ }
-    ensures { λ r. ⌜ Wrote (now (out .entry)) (now (out .exit)) 0 r (surveySaid Source.Listing 128 2048 (now (text .entry)) (reportsOf t)) ⌝ }
-{
-    match survey_reading::read_within(text, 128, 2048, starts, neighbours) {
-        Reading::Refused(r) => refuse_text(text, Source::Listing, r, 128, 2048, out),
-        Reading::Read(x) => list_split(x.nodes, t, starts, neighbours, out),
-    }
-}
-
-// The command `pair`.
-fn say_pair(
+// Reads a text and says what a command says of it, or why it is refused.
+fn say_text(
+    command: Command,
     t: usize,
     a: usize,
     b: usize,
@@ -215,48 +211,13 @@ fn say_pair(
     out: &mut [u8],
 ) -> usize
     requires { ⌜ (length (now starts) ≡ 1025) × (length (now neighbours) ≡ 32768) × (200000 ≤ length (now out)) ⌝ }
-    ensures { λ r. ⌜ Wrote (now (out .entry)) (now (out .exit)) 0 r (surveySaid Source.Survey 1024 16384 (now (text .entry)) (pairOf t a b)) ⌝ }
+    ensures { λ r. ⌜ Wrote (now (out .entry)) (now (out .exit)) 0 r
+        (readSaid command t a b (now (text .entry)) (readAs (sourceOf command) (now (text .entry)))) ⌝ }
 {
-    match survey_reading::read_within(text, 1024, 16384, starts, neighbours) {
-        Reading::Refused(r) => refuse_text(text, Source::Survey, r, 1024, 16384, out),
-        Reading::Read(x) => {
-            desk_tables::say_nodes(false, x.nodes, t, starts, neighbours, a, b, out)
-        }
-    }
-}
-
-// The command `walk`.
-fn say_walk(
-    t: usize,
-    a: usize,
-    b: usize,
-    text: &[u8],
-    starts: &mut [u32],
-    neighbours: &mut [u16],
-    out: &mut [u8],
-) -> usize
-    requires { ⌜ (length (now starts) ≡ 1025) × (length (now neighbours) ≡ 32768) × (200000 ≤ length (now out)) ⌝ }
-    ensures { λ r. ⌜ Wrote (now (out .entry)) (now (out .exit)) 0 r (surveySaid Source.Survey 1024 16384 (now (text .entry)) (walkOf t a b)) ⌝ }
-{
-    match survey_reading::read_within(text, 1024, 16384, starts, neighbours) {
-        Reading::Refused(r) => refuse_text(text, Source::Survey, r, 1024, 16384, out),
-        Reading::Read(x) => {
-            desk_tables::say_nodes(true, x.nodes, t, starts, neighbours, a, b, out)
-        }
-    }
-}
-
-// The command `import`.
-fn say_import(text: &[u8], starts: &mut [u32], neighbours: &mut [u16], out: &mut [u8]) -> usize
-    requires { ⌜ (length (now starts) ≡ 1025) × (length (now neighbours) ≡ 32768) × (200000 ≤ length (now out)) ⌝ }
-    ensures { λ r. ⌜ Wrote (now (out .entry)) (now (out .exit)) 0 r (fileSaid (now (text .entry)) writeOf) ⌝ }
-{
-    if 524287 < text.len() {
-        return desk_usage::write_fault(out, 0, Fault::TooLong, Command::Import);
-    }
-    match survey_importing::import_survey(text, starts, neighbours) {
-        Reading::Refused(r) => refuse_file(text, r, out),
-        Reading::Read(x) => survey_text(x.nodes, starts, neighbours, out),
+    let source = source_of(command);
+    match read_as(source, text, starts, neighbours) {
+        Reading::Refused(r) => refuse_text(source, text, r, out),
+        Reading::Read(x) => say_survey(command, t, a, b, x, starts, neighbours, out),
     }
 }
 
@@ -274,16 +235,11 @@ pub fn say(
     requires { ⌜ (length (now starts) ≡ 1025) × (length (now neighbours) ≡ 32768) × (200000 ≤ length (now out)) ⌝ }
     ensures { λ r. ⌜ Wrote (now (out .entry)) (now (out .exit)) 0 r (commandSaid command t a b (now (text .entry))) ⌝ }
 {
-    match command {
-        Command::Pair => say_pair(t, a, b, text, starts, neighbours, out),
-        Command::Walk => say_walk(t, a, b, text, starts, neighbours, out),
-        Command::Test => say_test(t, text, starts, neighbours, out),
-        Command::Hubs => say_hubs(t, text, starts, neighbours, out),
-        Command::Reports => say_reports(t, text, starts, neighbours, out),
-        Command::Check => say_check(text, starts, neighbours, out),
-        Command::Write => say_write(text, starts, neighbours, out),
-        Command::Export => say_export(text, starts, neighbours, out),
-        Command::Import => say_import(text, starts, neighbours, out),
-        Command::Help => desk_usage::write_help(out, 0),
+    if !desk_words::reads_text(command) {
+        return desk_usage::write_help(out, 0);
     }
+    if too_long(source_of(command), text) {
+        return desk_usage::write_fault(out, 0, Fault::TooLong, command);
+    }
+    say_text(command, t, a, b, text, starts, neighbours, out)
 }

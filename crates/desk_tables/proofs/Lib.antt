@@ -1,1 +1,1 @@
-pub mod SplitLaws
+pub mod TableSize

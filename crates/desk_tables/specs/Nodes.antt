@@ -5,9 +5,10 @@ use mathlib.Core.List.{List}
 use Prim.Native.Nat.{ℕ}
 use Rattle.model.specs.Basics.{if_then_else_}
 use Rattle.model.specs.Survey.{neighboursOf}
-use Rattle.desk_answers.specs.Said.{bySplit, pairSaid, walkSaid}
+use Rattle.desk_answers.specs.Said.{pairSaid, walkSaid}
 
-unfoldable pub nodesAsked : (walks : Bool) (n t : ℕ) (starts neighbours : List ℕ) (a b : ℕ) → List ℕ
-nodesAsked walks n t starts neighbours a b =
-    if walks then bySplit n t (λ s. walkSaid n t s starts neighbours a b)
-    else bySplit n t (λ s. pairSaid n s (neighboursOf starts neighbours) a b)
+-- by threshold s, which is the one in force where t is given
+unfoldable pub nodesAsked : (walks : Bool) (n t s : ℕ) (starts neighbours : List ℕ) (a b : ℕ) → List ℕ
+nodesAsked walks n t s starts neighbours a b =
+    if walks then walkSaid n t s starts neighbours a b
+    else pairSaid n s (neighboursOf starts neighbours) a b

@@ -11,6 +11,9 @@ use lib.ListN.{length, drop, drop-of-length-le}
 use Rattle.model.specs.Basics.{if_then_else_, same, all}
 use Rattle.model.specs.Numbers.{isDigit, isNumber, valueOf}
 use Rattle.model.proofs.Tests.{true-T, and-l, and-r}
+use Rattle.desk_words.specs.declared.Command.{Command}
+use Rattle.desk_words.specs.declared.Named.{Named}
+use Rattle.desk_words.specs.Words.{ifNamed}
 use Rattle.text_reading.specs.declared.Number.{Number}
 use Rattle.text_reading.specs.declared.Number.the-variants as number
 use Rattle.text_reading.specs.Scan.{run, numberOf, numberAt, begins}
@@ -35,6 +38,10 @@ words-begin [] [] e = refl
 words-begin [] (y ∷ v) e = absurd (omega (arith, e))
 words-begin (x ∷ w) [] e = absurd (omega (arith, e))
 words-begin (x ∷ w) (y ∷ v) e = ap (λ (t : Bool). eqb x y && t) (words-begin w v (omega (arith, e)))
+
+-- what is found otherwise may be replaced by what it equals
+pub or-else : (w name : List ℕ) (c : Command) {r x y : Named} → r ≡ ifNamed w name c x → x ≡ y → r ≡ ifNamed w name c y
+or-else w name c e i = e ∙ ap (ifNamed w name c) i
 
 -- ---- numbers
 

@@ -16,19 +16,22 @@ use Rattle.desk_words.specs.declared.Question.{Question}
 use Rattle.desk_words.specs.declared.Taken.{Taken}
 use Rattle.desk_words.specs.declared.Taken.the-variants.{Asks, NoNumber, TooMany}
 
+-- the command whose name a word is, or what is found otherwise
+unfoldable pub ifNamed : (w name : List ℕ) → Command → Named → Named
+ifNamed w name c found = if same w name then Is c else found
+
 unfoldable pub commandOf : List ℕ → Named
 commandOf w =
-    if same w (bytes "pair") then Is Pair
-    else if same w (bytes "walk") then Is Walk
-    else if same w (bytes "test") then Is Test
-    else if same w (bytes "hubs") then Is Hubs
-    else if same w (bytes "reports") then Is Reports
-    else if same w (bytes "check") then Is Check
-    else if same w (bytes "write") then Is Write
-    else if same w (bytes "export") then Is Export
-    else if same w (bytes "import") then Is Import
-    else if same w (bytes "help") then Is Help
-    else Unknown
+    ifNamed w (bytes "pair") Pair
+    (ifNamed w (bytes "walk") Walk
+    (ifNamed w (bytes "test") Test
+    (ifNamed w (bytes "hubs") Hubs
+    (ifNamed w (bytes "reports") Reports
+    (ifNamed w (bytes "check") Check
+    (ifNamed w (bytes "write") Write
+    (ifNamed w (bytes "export") Export
+    (ifNamed w (bytes "import") Import
+    (ifNamed w (bytes "help") Help Unknown)))))))))
 
 unfoldable pub wordOf : List ℕ → Word
 wordOf w =

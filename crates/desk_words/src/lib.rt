@@ -2,7 +2,7 @@
 use text_reading::Number;
 ghost use mathlib.Core.Path.{_≡_};
 ghost use Rattle.model.specs.Basics.{same};
-ghost use Rattle.desk_words.specs.Words.{commandOf, wordOf, nodesOf, splitsNodes, readsText};
+ghost use Rattle.desk_words.specs.Words.{ifNamed, commandOf, wordOf, nodesOf, splitsNodes, readsText};
 ghost use Rattle.desk_words.specs.Words.{nothingYet, withThreshold, withNode, withOption};
 ghost use Rattle.desk_words.specs.Words.{numberTaken, otherTaken, optionTaken, wordTaken, isWhole};
 
@@ -60,41 +60,31 @@ fn is_word(word: &[u8], name: &[u8]) -> bool
     text_reading::has_word(word, 0, name)
 }
 
-// The command that a word names.
+// The command, if the word is its name, else what was found otherwise.
+fn or_named(word: &[u8], name: &[u8], command: Command, found: Named) -> Named
+    ensures { λ r. ⌜ r ≡ ifNamed (now (word .entry)) (now (name .entry)) command found ⌝ }
+{
+    if is_word(word, name) {
+        return Named::Is(command);
+    }
+    found
+}
+
+// The command that a word names, tried from the last to the first.
 pub fn command_of(word: &[u8]) -> Named
     ensures { λ r. ⌜ r ≡ commandOf (now (word .entry)) ⌝ }
 {
-    if is_word(word, b"pair") {
-        return Named::Is(Command::Pair);
-    }
-    if is_word(word, b"walk") {
-        return Named::Is(Command::Walk);
-    }
-    if is_word(word, b"test") {
-        return Named::Is(Command::Test);
-    }
-    if is_word(word, b"hubs") {
-        return Named::Is(Command::Hubs);
-    }
-    if is_word(word, b"reports") {
-        return Named::Is(Command::Reports);
-    }
-    if is_word(word, b"check") {
-        return Named::Is(Command::Check);
-    }
-    if is_word(word, b"write") {
-        return Named::Is(Command::Write);
-    }
-    if is_word(word, b"export") {
-        return Named::Is(Command::Export);
-    }
-    if is_word(word, b"import") {
-        return Named::Is(Command::Import);
-    }
-    if is_word(word, b"help") {
-        return Named::Is(Command::Help);
-    }
-    Named::Unknown
+    let found = Named::Unknown;
+    let found = or_named(word, b"help", Command::Help, found);
+    let found = or_named(word, b"import", Command::Import, found);
+    let found = or_named(word, b"export", Command::Export, found);
+    let found = or_named(word, b"write", Command::Write, found);
+    let found = or_named(word, b"check", Command::Check, found);
+    let found = or_named(word, b"reports", Command::Reports, found);
+    let found = or_named(word, b"hubs", Command::Hubs, found);
+    let found = or_named(word, b"test", Command::Test, found);
+    let found = or_named(word, b"walk", Command::Walk, found);
+    or_named(word, b"pair", Command::Pair, found)
 }
 
 // What a word behind the command says.

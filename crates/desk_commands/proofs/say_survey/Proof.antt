@@ -1,10 +1,10 @@
--- `desk_commands::list_split` meets its contract: refused, or said by the threshold in force.
+-- `desk_commands::say_survey` meets its contract: refused, or said by the threshold in force.
 -- Assumes nothing.
 use mathlib.Core.Path.{sym, _∙_}
 use borrow.Author.Needs.{needs}
-use Rattle.desk_answers.proofs.SaidLaws.{split-refused, split-taken}
-use Rattle.desk_commands.proofs.list_split.Statement.{statement}
-use Rattle.desk_commands.proofs.list_split.Tie as tie
+use Rattle.desk_commands.proofs.CommandLaws.{threshold-refused, threshold-taken}
+use Rattle.desk_commands.proofs.say_survey.Statement.{statement}
+use Rattle.desk_commands.proofs.say_survey.Tie as tie
 
 bad-threshold-requires : tie.Need-bad-threshold-requires
 bad-threshold-requires c κs = search needs
@@ -19,27 +19,28 @@ returns : tie.Need-returns
 returns c =
     let wrote = c .before .before in
     let test = wrote .before .before in
-    rw (split-refused _ _ _ (sym (test .before .bad-threshold .ensures) ∙ test .if1 .taken)) (wrote .write-threshold-refused .ensures .0)
+    rw (threshold-refused _ _ _ _ _ _ _ (sym (test .before .bad-threshold .ensures) ∙ test .if1 .taken))
+    (wrote .write-threshold-refused .ensures .0)
 
 in-force-requires : tie.Need-in-force-requires
 in-force-requires c κs = search needs
 
-list-survey-requires : tie.Need-list-survey-requires
-list-survey-requires c κs = search needs
+say-of-requires : tie.Need-say-of-requires
+say-of-requires c κs = search needs
 
 same-length-2 : tie.Need-same-length-2
 same-length-2 c = search needs
 
 returns-2 : tie.Need-returns-2
 returns-2 c =
-    let wrote = c .before .before in
-    let force = wrote .before .before in
+    let said = c .before .before in
+    let force = said .before .before in
     let test = force .before in
-    rw (split-taken _ _ _ (sym (test .before .bad-threshold .ensures) ∙ test .if1 .left), sym (force .in-force .ensures))
-    (wrote .list-survey .ensures)
+    rw (threshold-taken _ _ _ _ _ _ _ (sym (test .before .bad-threshold .ensures) ∙ test .if1 .left), sym (force .in-force .ensures))
+    (said .say-of .ensures)
 
-pub list-split-spec : {M : Type 1} → statement M
-list-split-spec =
+pub say-survey-spec : {M : Type 1} → statement M
+say-survey-spec =
     tie.close
     (tie.spec
     bad-threshold-requires
@@ -47,6 +48,6 @@ list-split-spec =
     same-length
     returns
     in-force-requires
-    list-survey-requires
+    say-of-requires
     same-length-2
     returns-2)

@@ -1,4 +1,4 @@
--- The size of the tables, and which of the two is said.
+-- The size of the tables.
 -- Assumes nothing.
 use mathlib.Core.List.{List}
 use Prim.Native.Nat.{ℕ, _*_, _≤_}
