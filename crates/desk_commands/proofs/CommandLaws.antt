@@ -15,7 +15,7 @@ use Rattle.model.specs.declared.Counting.the-variants as counting
 use Rattle.model.specs.Answers.{answered, number, readAnswer}
 use Rattle.model.specs.Basics.{over}
 use Rattle.model.specs.Survey.{Accepted}
-use Rattle.model.specs.Threshold.{inForce, badThreshold}
+use Rattle.model.specs.Threshold.{badThreshold}
 use Rattle.model.specs.Reading.{AfterReading, parse, readReturned, readingOf}
 use Rattle.model.specs.Writing.{AfterWriting, writeReturned}
 use Rattle.model.specs.Dimacs.{importing, ImportRight}
@@ -105,7 +105,7 @@ module _ (c : Command) (t a b : ℕ) (x : Size) (starts neighbours : List ℕ) w
   threshold-refused e = rw e
 
   pub threshold-taken : badThreshold t ≡ false
-      → surveySaid c t a b x starts neighbours ≡ saidOf c t (inForce (x .nodes) t) a b x starts neighbours
+      → surveySaid c t a b x starts neighbours ≡ saidOf c t a b x starts neighbours
   unfolding surveySaid
   threshold-taken e = rw e
 

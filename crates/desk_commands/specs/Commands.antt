@@ -59,9 +59,12 @@ tooLong Listing text = false
 tooLong File text = ltb 524287 (length text)
 
 -- read into the longest lists
+abbrev pub textRead : Source → List ℕ → AfterReading
+textRead source text = readingOf 1025 32768 (parse (mostNodes source) (mostLinks source) 1025 32768 text)
+
 unfoldable pub readAs : Source → List ℕ → AfterReading
-readAs Survey text = readingOf 1025 32768 (parse 1024 16384 1025 32768 text)
-readAs Listing text = readingOf 1025 32768 (parse 128 2048 1025 32768 text)
+readAs Survey text = textRead Survey text
+readAs Listing text = textRead Listing text
 readAs File text = importing text 1025 32768
 
 -- ---- where reading stops: the nodes of a survey text are numbered from 0, those of a file from 1
@@ -91,24 +94,24 @@ stopOf Survey text = textStop Survey text
 stopOf Listing text = textStop Listing text
 stopOf File text = fileStop text
 
--- ---- what is said of the survey that was read: t is the threshold, 0 where there is none, s the one in force; a and b are the nodes
+-- ---- what is said of the survey that was read: t is the threshold, 0 where there is none; a and b are the nodes
 
-unfoldable pub saidOf : Command → (t s a b : ℕ) → Size → (starts neighbours : List ℕ) → List ℕ
-saidOf Pair t s a b x starts neighbours = nodesAsked false (x .nodes) t s starts neighbours a b
-saidOf Walk t s a b x starts neighbours = nodesAsked true (x .nodes) t s starts neighbours a b
-saidOf Test t s a b x starts neighbours = testSaid (x .nodes) t starts neighbours
-saidOf Hubs t s a b x starts neighbours = hubsSaid (x .nodes) s (neighboursOf starts neighbours)
-saidOf Reports t s a b x starts neighbours = listingOf (x .nodes) s (neighboursOf starts neighbours)
-saidOf Check t s a b x starts neighbours = acceptedLine (x .nodes) (x .links)
-saidOf Write t s a b x starts neighbours = textOf (x .nodes) starts neighbours
-saidOf Export t s a b x starts neighbours = exportOf (x .nodes) starts neighbours
-saidOf Import t s a b x starts neighbours = textOf (x .nodes) starts neighbours
-saidOf Help t s a b x starts neighbours = help
+unfoldable pub saidOf : Command → (t a b : ℕ) → Size → (starts neighbours : List ℕ) → List ℕ
+saidOf Pair t a b x starts neighbours = nodesAsked false (x .nodes) t starts neighbours a b
+saidOf Walk t a b x starts neighbours = nodesAsked true (x .nodes) t starts neighbours a b
+saidOf Test t a b x starts neighbours = testSaid (x .nodes) t starts neighbours
+saidOf Hubs t a b x starts neighbours = hubsSaid (x .nodes) (inForce (x .nodes) t) (neighboursOf starts neighbours)
+saidOf Reports t a b x starts neighbours = listingOf (x .nodes) (inForce (x .nodes) t) (neighboursOf starts neighbours)
+saidOf Check t a b x starts neighbours = acceptedLine (x .nodes) (x .links)
+saidOf Write t a b x starts neighbours = textOf (x .nodes) starts neighbours
+saidOf Export t a b x starts neighbours = exportOf (x .nodes) starts neighbours
+saidOf Import t a b x starts neighbours = textOf (x .nodes) starts neighbours
+saidOf Help t a b x starts neighbours = help
 
--- if the threshold is not refused
+-- if the threshold is not refused; words name none for a command that splits no nodes
 unfoldable pub surveySaid : Command → (t a b : ℕ) → Size → (starts neighbours : List ℕ) → List ℕ
 surveySaid c t a b x starts neighbours =
-    if badThreshold t then thresholdRefused t else saidOf c t (inForce (x .nodes) t) a b x starts neighbours
+    if badThreshold t then thresholdRefused t else saidOf c t a b x starts neighbours
 
 -- ---- what is said of a text: why it is refused, or what is said of its survey
 

@@ -8,10 +8,12 @@ use model::Reading;
 use model::Refusal;
 use model::Size;
 ghost use mathlib.Core.Path.{_≡_};
+ghost use mathlib.Core.Bool.{false};
 ghost use Prim.Native.Nat.{_-_, _≤_};
 ghost use lib.ListN.{length};
 ghost use Rattle.model.specs.Answers.{number};
 ghost use Rattle.model.specs.Survey.{Accepted};
+ghost use Rattle.model.specs.Threshold.{badThreshold};
 ghost use Rattle.model.specs.Reading.{readReturned};
 ghost use Rattle.model.specs.Writing.{textOf};
 ghost use Rattle.model.specs.Dimacs.{exportOf};
@@ -144,11 +146,10 @@ fn survey_file(n: usize, starts: &[u32], neighbours: &[u16], out: &mut [u8]) -> 
     }
 }
 
-// Says what a command says of a survey, from the first byte on: s is the threshold in force where t is given.
+// Says what a command says of a survey, from the first byte on.
 fn say_of(
     command: Command,
     t: usize,
-    s: usize,
     a: usize,
     b: usize,
     size: Size,
@@ -157,14 +158,15 @@ fn say_of(
     out: &mut [u8],
 ) -> usize
     requires { ⌜ Accepted (size .nodes) (now starts) (now neighbours) × (size .nodes ≤ mostNodes (sourceOf command))
-        × (200000 ≤ length (now out)) ⌝ }
+        × (badThreshold t ≡ false) × (200000 ≤ length (now out)) ⌝ }
     ensures { λ r. ⌜ Wrote (now (out .entry)) (now (out .exit)) 0 r
-        (saidOf command t s a b size (now (starts .entry)) (now (neighbours .entry))) ⌝ }
+        (saidOf command t a b size (now (starts .entry)) (now (neighbours .entry))) ⌝ }
 {
     let n = size.nodes;
+    let s = base_threshold::in_force(n, t);
     match command {
-        Command::Pair => desk_tables::say_nodes(false, n, t, s, starts, neighbours, a, b, out),
-        Command::Walk => desk_tables::say_nodes(true, n, t, s, starts, neighbours, a, b, out),
+        Command::Pair => desk_tables::say_nodes(false, n, t, starts, neighbours, a, b, out),
+        Command::Walk => desk_tables::say_nodes(true, n, t, starts, neighbours, a, b, out),
         Command::Test => desk_answers::say_test(n, t, starts, neighbours, out),
         Command::Hubs => desk_answers::say_hubs(n, s, starts, neighbours, out),
         Command::Reports => listing_writing::list_survey(n, s, starts, neighbours, out),
@@ -195,8 +197,7 @@ fn say_survey(
     if base_refusals::bad_threshold(t) {
         return desk_refusals::write_threshold_refused(out, 0, t as u64);
     }
-    let s = base_threshold::in_force(size.nodes, t);
-    say_of(command, t, s, a, b, size, starts, neighbours, out)
+    say_of(command, t, a, b, size, starts, neighbours, out)
 }
 
 // Reads a text and says what a command says of it, or why it is refused.

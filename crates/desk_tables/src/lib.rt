@@ -1,14 +1,16 @@
 // Two nodes of a survey, asked or walked with tables that are built for the question.
 ghost use mathlib.Core.Path.{_≡_};
+ghost use mathlib.Core.Bool.{false};
 ghost use Prim.Native.Nat.{_*_, _≤_};
 ghost use lib.ListN.{length};
 ghost use Rattle.model.specs.Survey.{Accepted};
+ghost use Rattle.model.specs.Threshold.{badThreshold};
 ghost use Rattle.base_lists.specs.Written.{Wrote};
-ghost use Rattle.desk_tables.specs.Nodes.{nodesAsked};
+ghost use Rattle.desk_tables.specs.Nodes.{askedBy, nodesAsked};
 
 const TABLE: usize = 1048576;
 
-// Says the answer to two nodes, or their walk too, by threshold s, which is the one in force where t is given.
+// Says the answer to two nodes, or their walk too: the tables are split by s, and the walk is given the threshold t.
 fn say_by(
     walks: bool,
     n: usize,
@@ -26,7 +28,7 @@ fn say_by(
     requires { ⌜ Accepted n (now starts) (now neighbours) × (200000 ≤ length (now out))
         × (length (now full) ≡ n * n) × (length (now low) ≡ n * n) × (length (now report) ≡ n * n) ⌝ }
     ensures { λ r. ⌜ Wrote (now (out .entry)) (now (out .exit)) 0 r
-        (nodesAsked walks n t s (now (starts .entry)) (now (neighbours .entry)) a b) ⌝ }
+        (askedBy walks n t s (now (starts .entry)) (now (neighbours .entry)) a b) ⌝ }
 {
     if walks {
         return desk_answers::say_walk(n, t, s, starts, neighbours, full, low, report, a, b, out);
@@ -52,7 +54,7 @@ fn say_within(
     requires { ⌜ Accepted n (now starts) (now neighbours) × (200000 ≤ length (now out))
         × (1048576 ≤ length (now full)) × (1048576 ≤ length (now low)) × (1048576 ≤ length (now report)) ⌝ }
     ensures { λ r. ⌜ Wrote (now (out .entry)) (now (out .exit)) 0 r
-        (nodesAsked walks n t s (now (starts .entry)) (now (neighbours .entry)) a b) ⌝ }
+        (askedBy walks n t s (now (starts .entry)) (now (neighbours .entry)) a b) ⌝ }
 {
     let size = n * n;
     say_by(
@@ -88,7 +90,7 @@ fn say_in(
 ) -> usize
     requires { ⌜ Accepted n (now starts) (now neighbours) × (200000 ≤ length (now out)) ⌝ }
     ensures { λ r. ⌜ Wrote (now (out .entry)) (now (out .exit)) 0 r
-        (nodesAsked walks n t s (now (starts .entry)) (now (neighbours .entry)) a b) ⌝ }
+        (askedBy walks n t s (now (starts .entry)) (now (neighbours .entry)) a b) ⌝ }
 {
     say_within(
         walks,
@@ -106,22 +108,22 @@ fn say_in(
     )
 }
 
-// The same with tables of its own: 6 MiB of the stack.
+// The same by the threshold in force where t is given, with tables of its own: 6 MiB of the stack.
 pub fn say_nodes(
     walks: bool,
     n: usize,
     t: usize,
-    s: usize,
     starts: &[u32],
     neighbours: &[u16],
     a: usize,
     b: usize,
     out: &mut [u8],
 ) -> usize
-    requires { ⌜ Accepted n (now starts) (now neighbours) × (200000 ≤ length (now out)) ⌝ }
+    requires { ⌜ Accepted n (now starts) (now neighbours) × (badThreshold t ≡ false) × (200000 ≤ length (now out)) ⌝ }
     ensures { λ r. ⌜ Wrote (now (out .entry)) (now (out .exit)) 0 r
-        (nodesAsked walks n t s (now (starts .entry)) (now (neighbours .entry)) a b) ⌝ }
+        (nodesAsked walks n t (now (starts .entry)) (now (neighbours .entry)) a b) ⌝ }
 {
+    let s = base_threshold::in_force(n, t);
     let mut full = [0u16; TABLE];
     let mut low = [0u16; TABLE];
     let mut report = [0u16; TABLE];

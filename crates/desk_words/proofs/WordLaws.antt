@@ -1,4 +1,4 @@
--- When two words are the same, and when a word is a number.
+-- When two words are the same, what a name finds, and when a word is a number.
 -- Assumes nothing.
 use mathlib.Core.Path.{_≡_, refl, sym, ap, _∙_}
 use mathlib.Core.Bool.{Bool, true, false, not, _&&_, _||_}
@@ -40,8 +40,8 @@ words-begin (x ∷ w) [] e = absurd (omega (arith, e))
 words-begin (x ∷ w) (y ∷ v) e = ap (λ (t : Bool). eqb x y && t) (words-begin w v (omega (arith, e)))
 
 -- what is found otherwise may be replaced by what it equals
-pub or-else : (w name : List ℕ) (c : Command) {r x y : Named} → r ≡ ifNamed w name c x → x ≡ y → r ≡ ifNamed w name c y
-or-else w name c e i = e ∙ ap (ifNamed w name c) i
+pub if-named-else : (w name : List ℕ) (c : Command) {r x y : Named} → r ≡ ifNamed w name c x → x ≡ y → r ≡ ifNamed w name c y
+if-named-else w name c e i = e ∙ ap (ifNamed w name c) i
 
 -- ---- numbers
 

@@ -61,7 +61,7 @@ fn is_word(word: &[u8], name: &[u8]) -> bool
 }
 
 // The command, if the word is its name, else what was found otherwise.
-fn or_named(word: &[u8], name: &[u8], command: Command, found: Named) -> Named
+fn if_named(word: &[u8], name: &[u8], command: Command, found: Named) -> Named
     ensures { λ r. ⌜ r ≡ ifNamed (now (word .entry)) (now (name .entry)) command found ⌝ }
 {
     if is_word(word, name) {
@@ -75,16 +75,16 @@ pub fn command_of(word: &[u8]) -> Named
     ensures { λ r. ⌜ r ≡ commandOf (now (word .entry)) ⌝ }
 {
     let found = Named::Unknown;
-    let found = or_named(word, b"help", Command::Help, found);
-    let found = or_named(word, b"import", Command::Import, found);
-    let found = or_named(word, b"export", Command::Export, found);
-    let found = or_named(word, b"write", Command::Write, found);
-    let found = or_named(word, b"check", Command::Check, found);
-    let found = or_named(word, b"reports", Command::Reports, found);
-    let found = or_named(word, b"hubs", Command::Hubs, found);
-    let found = or_named(word, b"test", Command::Test, found);
-    let found = or_named(word, b"walk", Command::Walk, found);
-    or_named(word, b"pair", Command::Pair, found)
+    let found = if_named(word, b"help", Command::Help, found);
+    let found = if_named(word, b"import", Command::Import, found);
+    let found = if_named(word, b"export", Command::Export, found);
+    let found = if_named(word, b"write", Command::Write, found);
+    let found = if_named(word, b"check", Command::Check, found);
+    let found = if_named(word, b"reports", Command::Reports, found);
+    let found = if_named(word, b"hubs", Command::Hubs, found);
+    let found = if_named(word, b"test", Command::Test, found);
+    let found = if_named(word, b"walk", Command::Walk, found);
+    if_named(word, b"pair", Command::Pair, found)
 }
 
 // What a word behind the command says.

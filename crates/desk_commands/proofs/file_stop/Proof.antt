@@ -1,6 +1,6 @@
 -- `desk_commands::file_stop` meets its contract: the place where importing stops.
 -- Assumes nothing.
-use mathlib.Core.Path.{sym, ap, _∙_}
+use mathlib.Core.Path.{sym}
 use borrow.Author.Needs.{needs}
 use Rattle.desk_commands.proofs.file_stop.Statement.{statement}
 use Rattle.desk_commands.proofs.file_stop.Tie as tie

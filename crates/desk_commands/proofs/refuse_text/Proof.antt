@@ -1,6 +1,6 @@
 -- `desk_commands::refuse_text` meets its contract: the line, with the place where reading stops.
 -- Assumes nothing.
-use mathlib.Core.Path.{sym, ap, _∙_}
+use mathlib.Core.Path.{sym}
 use borrow.Author.Needs.{needs}
 use Rattle.desk_commands.proofs.refuse_text.Statement.{statement}
 use Rattle.desk_commands.proofs.refuse_text.Tie as tie

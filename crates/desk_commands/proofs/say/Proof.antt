@@ -1,4 +1,4 @@
--- `desk_commands::say` meets its contract
+-- `desk_commands::say` meets its contract: the help page, a file that is too long, or what is said of the text.
 -- Assumes nothing.
 use mathlib.Core.Path.{sym, ap, _∙_}
 use mathlib.Core.Bool.{not}

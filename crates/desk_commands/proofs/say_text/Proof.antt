@@ -1,4 +1,4 @@
--- `desk_commands::say_text` meets its contract
+-- `desk_commands::say_text` meets its contract: why the text is refused, or what is said of its survey.
 -- Assumes nothing.
 use mathlib.Core.Path.{sym}
 use native.Mathlib.Omega.{arith}

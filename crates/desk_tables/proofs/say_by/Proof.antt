@@ -1,7 +1,7 @@
 -- `desk_tables::say_by` meets its contract: the walk, or the answer alone.
 -- Assumes nothing.
 use borrow.Author.Needs.{needs}
-use Rattle.desk_tables.specs.Nodes.{nodesAsked}
+use Rattle.desk_tables.specs.Nodes.{askedBy}
 use Rattle.desk_tables.proofs.say_by.Statement.{statement}
 use Rattle.desk_tables.proofs.say_by.Tie as tie
 
@@ -21,7 +21,7 @@ same-length-4 : tie.Need-same-length-4
 same-length-4 c = search needs
 
 returns : tie.Need-returns
-unfolding nodesAsked
+unfolding askedBy
 returns c =
     let said = c .before .before .before .before .before .before .before .before in
     rw (said .before .before .before .before .before .if1 .taken) (said .say-walk .ensures)
@@ -42,7 +42,7 @@ same-length-8 : tie.Need-same-length-8
 same-length-8 c = search needs
 
 returns-2 : tie.Need-returns-2
-unfolding nodesAsked
+unfolding askedBy
 returns-2 c =
     let said = c .before .before .before .before .before .before .before .before in
     rw (said .before .before .before .before .before .if1 .left) (said .say-pair .ensures)
