@@ -3,27 +3,49 @@
 
 use crate::common::{disorder, samples_of, text_of, Random, Sample};
 use std::ffi::OsStr;
+use std::fs::File;
 use std::io::Write;
 use std::os::unix::ffi::OsStrExt;
-use std::process::{Command, Stdio};
+use std::process::{Child, Command, Stdio};
 
 /// What the program prints for these words and this text on standard input.
 pub fn output_of(program: &str, words: &[Vec<u8>], text: &[u8]) -> Result<Vec<u8>, String> {
-    let explain = |error: std::io::Error| format!("{program}: {error}");
-    let mut child = Command::new(program)
-        .args(words.iter().map(|word| OsStr::from_bytes(word)))
-        .stdin(Stdio::piped())
-        .stdout(Stdio::piped())
-        .spawn()
-        .map_err(explain)?;
+    let mut child = begin(program, words, Stdio::piped())?;
     // The program may stop reading before the end of a long text.
     let _ = child.stdin.take().map(|mut input| input.write_all(text));
-    let output = child.wait_with_output().map_err(explain)?;
-    if output.status.success() {
-        Ok(output.stdout)
-    } else {
-        Err(format!("{program}: {}", output.status))
+    end(program, child)
+}
+
+/// What the program prints for these words where standard input is a folder,
+/// which cannot be read.
+pub fn output_without_text(program: &str, words: &[Vec<u8>]) -> Result<Vec<u8>, String> {
+    let folder = File::open("/").map_err(|error| error.to_string())?;
+    end(program, begin(program, words, Stdio::from(folder))?)
+}
+
+fn begin(program: &str, words: &[Vec<u8>], input: Stdio) -> Result<Child, String> {
+    Command::new(program)
+        .args(words.iter().map(|word| OsStr::from_bytes(word)))
+        .stdin(input)
+        .stdout(Stdio::piped())
+        .stderr(Stdio::piped())
+        .spawn()
+        .map_err(|error| format!("{program}: {error}"))
+}
+
+/// Nothing may be printed elsewhere than on standard output.
+fn end(program: &str, child: Child) -> Result<Vec<u8>, String> {
+    let output = child
+        .wait_with_output()
+        .map_err(|error| format!("{program}: {error}"))?;
+    if !output.status.success() {
+        return Err(format!("{program}: {}", output.status));
     }
+    if !output.stderr.is_empty() {
+        let said = String::from_utf8_lossy(&output.stderr);
+        return Err(format!("{program} on standard error: {said}"));
+    }
+    Ok(output.stdout)
 }
 
 pub fn any_sample(random: &mut Random, n: usize) -> Sample {

@@ -55,7 +55,7 @@ impl Survey {
         if text.len() > MAX_FILE {
             let usage = usage(Command::Import);
             return Err(format!(
-                "not taken: the file has more than {MAX_FILE} bytes; usage: {usage}"
+                "not taken: the file has more than {MAX_FILE} bytes (leave out comments); usage: {usage}"
             ));
         }
         Survey::read(&FILE, text)

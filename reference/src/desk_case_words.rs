@@ -33,6 +33,14 @@ const fn command(name: &'static str, nodes: usize, threshold: bool) -> Command {
     }
 }
 
+impl Command {
+    /// The fewest words that are understood.
+    pub fn few_words(&self) -> Vec<Vec<u8>> {
+        let nodes = vec![b"0".to_vec(); self.nodes];
+        [vec![self.name.as_bytes().to_vec()], nodes].concat()
+    }
+}
+
 const THRESHOLD: &[u8] = b"--threshold";
 
 /// Words that look like a number or like `--threshold`, or like neither. The
@@ -110,7 +118,7 @@ pub fn any_command(random: &mut Random) -> Command {
 /// Words for a survey of n nodes, mostly right ones.
 pub fn any_words(random: &mut Random, command: Command, n: usize) -> Vec<Vec<u8>> {
     let mut words = right_words(random, command, n);
-    if random.percent(if command.nodes > 0 { 30 } else { 15 }) {
+    if random.percent(if command.threshold { 30 } else { 15 }) {
         for _ in 0..1 + random.below(2) {
             spoil_words(random, &mut words, n);
         }
@@ -163,15 +171,16 @@ fn any_threshold(random: &mut Random, n: usize) -> Vec<u8> {
 
 /// One change that words are mostly not understood by.
 fn spoil_words(random: &mut Random, words: &mut Vec<Vec<u8>>, n: usize) {
-    // Mostly behind the command.
+    // Mostly after the command.
     let place = if random.percent(15) {
         0
     } else {
         1.min(words.len()) + random.below(words.len().max(1))
     };
-    match random.below(11) {
+    match random.below(13) {
         0 => words.insert(place, odd_word(random)),
         1 => words.insert(place, THRESHOLD.to_vec()),
+        10 | 11 => words.push(THRESHOLD.to_vec()),
         // Where there is one, it is the second.
         2 => words.extend([THRESHOLD.to_vec(), any_threshold(random, n)]),
         3 => words.truncate(place),

@@ -139,9 +139,9 @@ impl Stop {
     fn words(&self, source: &Source) -> String {
         let words = match self.refusal {
             1 if self.line == 1 => {
-                "the first line of a survey is S,n,m and a line feed, and nothing else"
+                "the first line of a survey is S,n,m and a line feed; no spaces, carriage returns or leading zeros"
             }
-            1 => "a link line is L,a,b and a line feed, and nothing else",
+            1 => "a link line is L,a,b and a line feed; no spaces, carriage returns or leading zeros",
             2 => source.node_limit,
             3 => source.link_limit,
             4 => return name_nodes(source.form.first_node, self.nodes),
@@ -150,7 +150,7 @@ impl Stop {
             7 => "as many links must follow line 1 as it says, and nothing else",
             13 => {
                 "a file is p edge n m, then m lines e a b, each with a line feed; \
-                 comments begin with c"
+                 no carriage returns or leading zeros; comments begin with c"
             }
             other => unreachable!("refusal {other} is none of a text"),
         };

@@ -100,7 +100,7 @@ pub fn understand(words: &[&[u8]]) -> Result<Question, String> {
 fn no_command() -> String {
     let names = COMMANDS.map(|entry| entry.name).join(" ");
     format!(
-        "not understood: the first word is no command; \
+        "not understood: the first word is not a command; \
          usage: puxerdau COMMAND [WORDS ..]{SURVEY}; commands: {names}"
     )
 }
@@ -122,7 +122,7 @@ impl Entry {
         format!("puxerdau {}{nodes}{threshold}{}", self.name, self.reads)
     }
 
-    /// Judges the words behind the command, which count from 1, from left to
+    /// Judges the words after the command, which count from 1, from left to
     /// right. The error is the first fault.
     fn take(&self, words: &[&[u8]]) -> Result<Question, String> {
         let missing = || String::from("a word is missing");
@@ -136,7 +136,7 @@ impl Entry {
             } else if nodes.len() < self.nodes {
                 nodes.push(take_number(place, word)?);
             } else {
-                return Err(format!("word {place} behind the command is one too many"));
+                return Err(format!("word {place} after the command is one too many"));
             }
         }
         if nodes.len() < self.nodes {
@@ -153,7 +153,7 @@ impl Entry {
 fn take_number(place: usize, word: &[u8]) -> Result<u64, String> {
     read_number(word).ok_or_else(|| {
         format!(
-            "word {place} behind the command is no number (one to ten digits, no zero in front)"
+            "word {place} after the command is not a number (one to ten digits, no leading zero)"
         )
     })
 }

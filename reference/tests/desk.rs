@@ -62,7 +62,7 @@ fn help_is_the_block_of_the_page() {
 
 #[test]
 fn no_command() {
-    let line = "not understood: the first word is no command; \
+    let line = "not understood: the first word is not a command; \
         usage: puxerdau COMMAND [WORDS ..] < survey.txt; \
         commands: pair walk test hubs reports check write export import help\n";
     for word in [
@@ -113,13 +113,13 @@ fn check_fault(words: &str, fault: &str) {
     check(words, "", &line);
 }
 
-/// Words behind the command count from 1.
+/// Words after the command count from 1.
 fn no_number(place: usize) -> String {
-    format!("word {place} behind the command is no number (one to ten digits, no zero in front)")
+    format!("word {place} after the command is not a number (one to ten digits, no leading zero)")
 }
 
 fn one_too_many(place: usize) -> String {
-    format!("word {place} behind the command is one too many")
+    format!("word {place} after the command is one too many")
 }
 
 #[test]
@@ -155,7 +155,7 @@ fn words_that_are_no_number() {
 #[test]
 fn what_is_a_number() {
     let line = "not understood: \
-        word 2 behind the command is no number (one to ten digits, no zero in front); \
+        word 2 after the command is not a number (one to ten digits, no leading zero); \
         usage: puxerdau pair A B [--threshold T] < survey.txt\n";
     let words: [&[u8]; 30] = [
         b"",
@@ -452,10 +452,10 @@ fn texts_and_files() {
 // Refusals
 
 const FIRST_LINE: &str = "refused 1 at line 1: \
-    the first line of a survey is S,n,m and a line feed, and nothing else\n";
+    the first line of a survey is S,n,m and a line feed; no spaces, carriage returns or leading zeros\n";
 
 fn link_line(line: usize) -> String {
-    format!("refused 1 at line {line}: a link line is L,a,b and a line feed, and nothing else\n")
+    format!("refused 1 at line {line}: a link line is L,a,b and a line feed; no spaces, carriage returns or leading zeros\n")
 }
 
 #[test]
@@ -615,7 +615,7 @@ fn order_of_refusals() {
 fn out_of_place(line: usize) -> String {
     format!(
         "refused 13 at line {line}: a file is p edge n m, then m lines e a b, \
-         each with a line feed; comments begin with c\n"
+         each with a line feed; no carriage returns or leading zeros; comments begin with c\n"
     )
 }
 
@@ -693,7 +693,7 @@ fn other_refusals_of_files() {
 }
 
 const NOT_TAKEN: &str =
-    "not taken: the file has more than 524287 bytes; usage: puxerdau import < edges.col\n";
+    "not taken: the file has more than 524287 bytes (leave out comments); usage: puxerdau import < edges.col\n";
 
 #[test]
 fn long_files() {

@@ -163,13 +163,18 @@ fn say_of(
         (saidOf command t a b size (now (starts .entry)) (now (neighbours .entry))) ⌝ }
 {
     let n = size.nodes;
-    let s = base_threshold::in_force(n, t);
     match command {
         Command::Pair => desk_tables::say_nodes(false, n, t, starts, neighbours, a, b, out),
         Command::Walk => desk_tables::say_nodes(true, n, t, starts, neighbours, a, b, out),
         Command::Test => desk_answers::say_test(n, t, starts, neighbours, out),
-        Command::Hubs => desk_answers::say_hubs(n, s, starts, neighbours, out),
-        Command::Reports => listing_writing::list_survey(n, s, starts, neighbours, out),
+        Command::Hubs => {
+            let s = base_threshold::in_force(n, t);
+            desk_answers::say_hubs(n, s, starts, neighbours, out)
+        }
+        Command::Reports => {
+            let s = base_threshold::in_force(n, t);
+            listing_writing::list_survey(n, s, starts, neighbours, out)
+        }
         Command::Check => desk_sentences::write_accepted(out, 0, n as u64, size.links as u64),
         Command::Write => survey_text(n, starts, neighbours, out),
         Command::Export => survey_file(n, starts, neighbours, out),

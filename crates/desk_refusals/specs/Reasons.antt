@@ -12,8 +12,8 @@ use Rattle.desk_refusals.specs.declared.Stop.{Stop}
 
 unfoldable pub formSaid : (line : ℕ) → List ℕ
 formSaid line =
-    if eqb line 1 then bytes "the first line of a survey is S,n,m and a line feed, and nothing else\n"
-    else bytes "a link line is L,a,b and a line feed, and nothing else\n"
+    if eqb line 1 then bytes "the first line of a survey is S,n,m and a line feed; no spaces, carriage returns or leading zeros\n"
+    else bytes "a link line is L,a,b and a line feed; no spaces, carriage returns or leading zeros\n"
 
 unfoldable pub nodesMost : Source → ℕ → List ℕ
 nodesMost Survey most = sentence (bytes "a survey has 1 to # nodes\n") (most ∷ [])
@@ -41,7 +41,7 @@ reason k x =
     else if eqb k 5 then bytes "a link joins two different nodes\n"
     else if eqb k 6 then bytes "the link was given before, either way round\n"
     else if eqb k 7 then bytes "as many links must follow line 1 as it says, and nothing else\n"
-    else if eqb k 13 then bytes "a file is p edge n m, then m lines e a b, each with a line feed; comments begin with c\n"
+    else if eqb k 13 then bytes "a file is p edge n m, then m lines e a b, each with a line feed; no carriage returns or leading zeros; comments begin with c\n"
     else unfit
 
 unfoldable pub textRefused : ℕ → Stop → List ℕ

@@ -27,21 +27,21 @@ pub struct Stop {
 
 // Writes the form of the lines that may stand at line `line` at a place, and returns the place after it.
 fn write_form(buf: &mut [u8], at: usize, line: usize) -> usize
-    requires { ⌜ at + 80 ≤ length (now buf) ⌝ }
+    requires { ⌜ at + 100 ≤ length (now buf) ⌝ }
     ensures { λ p. ⌜ Wrote (now (buf .entry)) (now (buf .exit)) at p (formSaid line) ⌝ }
-    ensures { λ p. ⌜ p ≤ at + 80 ⌝ }
+    ensures { λ p. ⌜ p ≤ at + 100 ⌝ }
 {
     if line == 1 {
         return write_text(
             buf,
             at,
-            b"the first line of a survey is S,n,m and a line feed, and nothing else\n",
+            b"the first line of a survey is S,n,m and a line feed; no spaces, carriage returns or leading zeros\n",
         );
     }
     write_text(
         buf,
         at,
-        b"a link line is L,a,b and a line feed, and nothing else\n",
+        b"a link line is L,a,b and a line feed; no spaces, carriage returns or leading zeros\n",
     )
 }
 
@@ -90,9 +90,9 @@ fn write_range(buf: &mut [u8], at: usize, first: u64, last: u64) -> usize
 
 // Writes why a text is refused at a place, and returns the place after it.
 fn write_reason(buf: &mut [u8], at: usize, refusal: Refusal, stop: Stop) -> usize
-    requires { ⌜ at + 100 ≤ length (now buf) ⌝ }
+    requires { ⌜ at + 130 ≤ length (now buf) ⌝ }
     ensures { λ p. ⌜ Wrote (now (buf .entry)) (now (buf .exit)) at p (reason (number refusal) stop) ⌝ }
-    ensures { λ p. ⌜ p ≤ at + 100 ⌝ }
+    ensures { λ p. ⌜ p ≤ at + 130 ⌝ }
 {
     let source = stop.source;
     match refusal {
@@ -112,7 +112,7 @@ fn write_reason(buf: &mut [u8], at: usize, refusal: Refusal, stop: Stop) -> usiz
         Refusal::FileForm => write_text(
             buf,
             at,
-            b"a file is p edge n m, then m lines e a b, each with a line feed; comments begin with c\n",
+            b"a file is p edge n m, then m lines e a b, each with a line feed; no carriage returns or leading zeros; comments begin with c\n",
         ),
         // a text that is read into the longest lists is refused with none of these
         Refusal::ShortList => write_unfit(buf, at),
@@ -126,9 +126,9 @@ fn write_reason(buf: &mut [u8], at: usize, refusal: Refusal, stop: Stop) -> usiz
 
 // Writes why a text is refused, and at which line, at a place, and returns the place after it.
 pub fn write_text_refused(buf: &mut [u8], at: usize, refusal: Refusal, stop: Stop) -> usize
-    requires { ⌜ at + 170 ≤ length (now buf) ⌝ }
+    requires { ⌜ at + 200 ≤ length (now buf) ⌝ }
     ensures { λ p. ⌜ Wrote (now (buf .entry)) (now (buf .exit)) at p (textRefused (number refusal) stop) ⌝ }
-    ensures { λ p. ⌜ p ≤ at + 170 ⌝ }
+    ensures { λ p. ⌜ p ≤ at + 200 ⌝ }
 {
     let number = base_refusals::refusal_number(refusal);
     let i = write_sentence(

@@ -9,10 +9,10 @@ use Rattle.desk_sentences.specs.Sentences.{sentence}
 use Rattle.desk_usage.specs.declared.Fault.{Fault}
 use Rattle.desk_usage.specs.declared.Fault.the-variants.{NoNumber, TooMany, Missing, TooLong}
 
--- where the first word is no command
+-- where the first word is not a command
 unfoldable pub noCommand : List ℕ
 noCommand =
-    bytes "not understood: the first word is no command; usage: puxerdau COMMAND [WORDS ..] < survey.txt; "
+    bytes "not understood: the first word is not a command; usage: puxerdau COMMAND [WORDS ..] < survey.txt; "
     ++ bytes "commands: pair walk test hubs reports check write export import help\n"
 
 unfoldable pub usage : Command → List ℕ
@@ -29,10 +29,10 @@ usage Help = bytes "help\n"
 
 unfoldable pub fault : Fault → List ℕ
 fault (NoNumber k) =
-    sentence (bytes "not understood: word # behind the command is no number (one to ten digits, no zero in front); usage: puxerdau ") (k ∷ [])
-fault (TooMany k) = sentence (bytes "not understood: word # behind the command is one too many; usage: puxerdau ") (k ∷ [])
+    sentence (bytes "not understood: word # after the command is not a number (one to ten digits, no leading zero); usage: puxerdau ") (k ∷ [])
+fault (TooMany k) = sentence (bytes "not understood: word # after the command is one too many; usage: puxerdau ") (k ∷ [])
 fault Missing = bytes "not understood: a word is missing; usage: puxerdau "
-fault TooLong = bytes "not taken: the file has more than 524287 bytes; usage: puxerdau "
+fault TooLong = bytes "not taken: the file has more than 524287 bytes (leave out comments); usage: puxerdau "
 
 unfoldable pub faultLine : Fault → Command → List ℕ
 faultLine f c = fault f ++ usage c
@@ -54,7 +54,7 @@ help =
     ++ bytes "import    an edge file as a survey        puxerdau import < edges.col > survey.txt\n"
     ++ bytes "help      this page                       puxerdau help\n"
     ++ bytes "\n"
-    ++ bytes "--threshold T behind pair, walk, test, hubs or reports: nodes with T or more\n"
+    ++ bytes "--threshold T after pair, walk, test, hubs or reports: nodes with T or more\n"
     ++ bytes "neighbours are high, as in: puxerdau test --threshold 3 < survey.txt\n"
     ++ bytes "Without it a stored table says how many neighbours that takes.\n"
     ++ bytes "A survey is a line S,n,m and then m lines L,a,b: n nodes, numbered from 0, and\n"

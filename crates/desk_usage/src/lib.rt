@@ -14,7 +14,7 @@ pub enum Fault {
     TooLong,
 }
 
-// Writes that the first word is no command at a place, and returns the place after it.
+// Writes that the first word is not a command at a place, and returns the place after it.
 pub fn write_no_command(buf: &mut [u8], at: usize) -> usize
     requires { ⌜ at + 170 ≤ length (now buf) ⌝ }
     ensures { λ p. ⌜ Wrote (now (buf .entry)) (now (buf .exit)) at p noCommand ⌝ }
@@ -22,7 +22,7 @@ pub fn write_no_command(buf: &mut [u8], at: usize) -> usize
     write_text(
         buf,
         at,
-        b"not understood: the first word is no command; usage: puxerdau COMMAND [WORDS ..] < survey.txt; commands: pair walk test hubs reports check write export import help\n",
+        b"not understood: the first word is not a command; usage: puxerdau COMMAND [WORDS ..] < survey.txt; commands: pair walk test hubs reports check write export import help\n",
     )
 }
 
@@ -56,13 +56,13 @@ fn write_wrong(buf: &mut [u8], at: usize, wrong: Fault) -> usize
         Fault::NoNumber(k) => desk_sentences::write_sentence(
             buf,
             at,
-            b"not understood: word # behind the command is no number (one to ten digits, no zero in front); usage: puxerdau ",
+            b"not understood: word # after the command is not a number (one to ten digits, no leading zero); usage: puxerdau ",
             &[k],
         ),
         Fault::TooMany(k) => desk_sentences::write_sentence(
             buf,
             at,
-            b"not understood: word # behind the command is one too many; usage: puxerdau ",
+            b"not understood: word # after the command is one too many; usage: puxerdau ",
             &[k],
         ),
         Fault::Missing => {
@@ -75,7 +75,7 @@ fn write_wrong(buf: &mut [u8], at: usize, wrong: Fault) -> usize
         Fault::TooLong => write_text(
             buf,
             at,
-            b"not taken: the file has more than 524287 bytes; usage: puxerdau ",
+            b"not taken: the file has more than 524287 bytes (leave out comments); usage: puxerdau ",
         ),
     }
 }
@@ -112,7 +112,7 @@ pub fn write_help(buf: &mut [u8], at: usize) -> usize
             import    an edge file as a survey        puxerdau import < edges.col > survey.txt\n\
             help      this page                       puxerdau help\n\
             \n\
-            --threshold T behind pair, walk, test, hubs or reports: nodes with T or more\n\
+            --threshold T after pair, walk, test, hubs or reports: nodes with T or more\n\
             neighbours are high, as in: puxerdau test --threshold 3 < survey.txt\n\
             Without it a stored table says how many neighbours that takes.\n\
             A survey is a line S,n,m and then m lines L,a,b: n nodes, numbered from 0, and\n\

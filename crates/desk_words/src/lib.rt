@@ -87,7 +87,7 @@ pub fn command_of(word: &[u8]) -> Named
     if_named(word, b"pair", Command::Pair, found)
 }
 
-// What a word behind the command says.
+// What a word after the command says.
 pub fn word_of(word: &[u8]) -> Word
     ensures { λ r. ⌜ r ≡ wordOf (now (word .entry)) ⌝ }
 {
@@ -139,7 +139,7 @@ fn splits(command: Command) -> bool
     }
 }
 
-// The question before the first word behind the command.
+// The question before the first word after the command.
 pub fn nothing_yet() -> Question
     ensures { λ r. ⌜ r ≡ nothingYet ⌝ }
 {
@@ -242,7 +242,7 @@ fn take_option(command: Command, q: Question) -> Taken
     take_other(command, q)
 }
 
-// What a word behind the command makes of a question.
+// What a word after the command makes of a question.
 pub fn take_word(command: Command, q: Question, word: Word) -> Taken
     ensures { λ r. ⌜ r ≡ wordTaken command q word ⌝ }
 {

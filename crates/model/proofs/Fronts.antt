@@ -31,7 +31,7 @@ pub data FrontLine (letter : ℕ) (text : List ℕ) (k : ℕ) : Type 0 where
 pub line-few : (letter x y : ℕ) → x < 10 ^ 10 → y < 10 ^ 10 → length (lineOf letter x y) ≤ 24
 line-few letter x y hx hy = omega (arith, length-line letter x y, length-le 9 x hx, length-le 9 y hy)
 
-line-front : (letter : ℕ) → 44 < letter → (text : List ℕ) (k : ℕ) → 24 ≤ k → FrontLine letter text k
+pub line-front : (letter : ℕ) → 44 < letter → (text : List ℕ) (k : ℕ) → 24 ≤ k → FrontLine letter text k
 unfolding lineOf
 line-front letter after text k h = at (line letter text) refl (line letter (take k text)) refl
   where
@@ -57,23 +57,23 @@ line-front letter after text k h = at (line letter text) refl (line letter (take
 -- ---- the link lines
 
 -- the tests of a line depend on its numbers only
-link-same : (n : ℕ) (given : ℕ → ℕ → Bool) (next : ℕ → ℕ → List ℕ → Outcome (List (ℕ × ℕ))) {x y : ℕ} {r r′ : List ℕ}
-    → next x y r ≡ next x y r′
-    → readOn next (linkOf n given (some (x, y, r))) ≡ readOn next (linkOf n given (some (x, y, r′)))
-unfolding linkOf readOn
-link-same n given next {x} {y} {r} {r′} e = at (leb n x || leb n y) (eqb x y) (given x y)
+pub link-same : {C : Type 0} (f : Outcome (ℕ × ℕ × List ℕ) → C) (n : ℕ) (given : ℕ → ℕ → Bool) {x y : ℕ} {r r′ : List ℕ}
+    → f (answered (x, y, r)) ≡ f (answered (x, y, r′))
+    → f (linkOf n given (some (x, y, r))) ≡ f (linkOf n given (some (x, y, r′)))
+unfolding linkOf
+link-same f n given {x} {y} {r} {r′} e = at (leb n x || leb n y) (eqb x y) (given x y)
   where
     at : (a b c : Bool)
-        → readOn next (if a then refused 4 else if b then refused 5 else if c then refused 6 else answered (x, y, r))
-        ≡ readOn next (if a then refused 4 else if b then refused 5 else if c then refused 6 else answered (x, y, r′))
+        → f (if a then refused 4 else if b then refused 5 else if c then refused 6 else answered (x, y, r))
+        ≡ f (if a then refused 4 else if b then refused 5 else if c then refused 6 else answered (x, y, r′))
     at true b c = refl
     at false true c = refl
     at false false true = refl
-    at false false false = ap (onLinks (x, y)) e
+    at false false false = e
 
 links-front : (n m : ℕ) (done : List (ℕ × ℕ)) (text : List ℕ) (k : ℕ) → 24 * m < k
     → readLinks n m done (take k text) ≡ readLinks n m done text
-unfolding readLinks
+unfolding readLinks readOn
 links-front n zero done text zero h = absurd (omega arith)
 links-front n zero done [] (suc k) h = refl
 links-front n zero done (c ∷ text) (suc k) h = refl
@@ -91,32 +91,33 @@ links-front n (suc m) done (c ∷ text) (suc k) h =
         → readOn next (linkOf n (named done) (line 76 (take (suc k) (c ∷ text)))) ≡ readOn next (linkOf n (named done) (line 76 (c ∷ text)))
     at (no-line e f) rec = rw (f, e)
     at (same-line x y rest j i e f) rec =
-        rw (f, e) (link-same n (named done) next (rec x y rest j (omega arith)))
+        rw (f, e) (link-same (readOn next) n (named done) (ap (onLinks (x, y)) (rec x y rest j (omega arith))))
 
 -- ---- the whole text
 
-counts-same : (N M p q x y : ℕ) (r r′ : List ℕ) → (y ≤ M → readLinks x y [] r ≡ readLinks x y [] r′)
-    → parseLinks (countsOf N M p q (some (x, y, r))) ≡ parseLinks (countsOf N M p q (some (x, y, r′)))
-unfolding countsOf limitsOf parseLinks
-counts-same N M p q x y r r′ e = at (outside N x) (ltb M y) refl (ltb p (x + 1) || ltb q (2 * y))
+pub counts-same : {C : Type 0} (f : Outcome (ℕ × ℕ × List ℕ) → C) (N M p q x y : ℕ) (r r′ : List ℕ)
+    → (y ≤ M → f (answered (x, y, r)) ≡ f (answered (x, y, r′)))
+    → f (countsOf N M p q (some (x, y, r))) ≡ f (countsOf N M p q (some (x, y, r′)))
+unfolding countsOf limitsOf
+counts-same f N M p q x y r r′ e = at (outside N x) (ltb M y) refl (ltb p (x + 1) || ltb q (2 * y))
   where
     at : (a b : Bool) → ltb M y ≡ b → (c : Bool)
-        → parseLinks (if a then refused 2 else if b then refused 3 else if c then refused 8 else answered (x, y, r))
-        ≡ parseLinks (if a then refused 2 else if b then refused 3 else if c then refused 8 else answered (x, y, r′))
+        → f (if a then refused 2 else if b then refused 3 else if c then refused 8 else answered (x, y, r))
+        ≡ f (if a then refused 2 else if b then refused 3 else if c then refused 8 else answered (x, y, r′))
     at true b m c = refl
     at false true m c = refl
     at false false m true = refl
-    at false false m false = ap (parsed x) (e (ltb-false _ _ m))
+    at false false m false = e (ltb-false _ _ m)
 
 -- within limits, a text says what its front says
 pub parse-front : (N M p q : ℕ) (text : List ℕ) (k : ℕ) → 24 * (M + 1) < k → parse N M p q (take k text) ≡ parse N M p q text
-unfolding parse
+unfolding parse parseLinks
 parse-front N M p q text k h = at (line-front _ (omega arith) _ _ (omega arith))
   where
     at : FrontLine 83 text k → parseLinks (countsOf N M p q (line 83 (take k text))) ≡ parseLinks (countsOf N M p q (line 83 text))
     at (no-line e f) = rw (f, e)
     at (same-line x y rest j i e f) =
-        rw (f, e) (counts-same N M p q x y _ _ (λ m. links-front x y [] _ j (omega arith)))
+        rw (f, e) (counts-same parseLinks N M p q x y _ _ (λ m. ap (parsed x) (links-front x y [] _ j (omega arith))))
 
 -- a text is read as its first 393,241 bytes are
 pub reading-front : (text : List ℕ) (p q k : ℕ) → 24 * (16384 + 1) < k → reading (take k text) p q ≡ reading text p q

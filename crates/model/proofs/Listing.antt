@@ -1,4 +1,4 @@
--- The listing of a survey has a line for each pair a < b, in order, with an allowed report.
+-- The listing of a survey has a line for each pair a < b, in order, with an allowed report, by any threshold.
 -- Assumes nothing.
 use mathlib.Core.Path.{_≡_, sym, ap, _∙_, subst}
 use mathlib.Core.Logic.{_↔_}
@@ -20,7 +20,7 @@ use Rattle.model.specs.Tables.{entryAt, fullTable, lowTable, reportTable
 use Rattle.model.specs.Pair.{withRoute, taken, pair}
 use Rattle.model.specs.Reading.{Parsed, parse, graphOf}
 use Rattle.model.specs.Listing.{pairLine, pairsBelow, pairLines, listingOf, listingText, listing}
-use Rattle.model.specs.Demand.{Allowed}
+use Rattle.model.specs.Demand.{RightListing}
 use Rattle.model.proofs.Lists.{has-keep, of-keep, has-upTo, of-upTo, gather-same, gather-gather, gather-map}
 use Rattle.model.proofs.Entries.{table-front}
 use Rattle.model.proofs.Allowance.{allowed, report-one}
@@ -55,27 +55,15 @@ unfoldable pub valueIn : Outcome Answer → Answer
 valueIn (refused k) = withRoute none NoRoute
 valueIn (answered x) = x
 
-module _ (text : List ℕ) (x : Parsed) (e : parse 128 2048 (128 + 1) (2 * 2048) text ≡ answered x) where
-  abbrev n : ℕ
-  n = x .nodes
-
-  abbrev G : Graph
-  G = graphOf (x .nodes) (x .links)
-
-  abbrev s : ℕ
-  s = inForce (x .nodes) 0
-
+-- by any threshold
+module _ {n : ℕ} {G : Graph} (g : IsGraph n G) (size : n ≤ 1024) (s : ℕ) where
   reply : ℕ → ℕ → Outcome Answer
   reply a b = pair n (fullTable n s G) (lowTable n s G) (reportTable n s G) a b
 
-  size : x .nodes ≤ 1024
-  size = omega (arith, parse-sound 128 2048 (128 + 1) (2 * 2048) text x e .within .size)
-
-  reply-is : (a b : ℕ) → a < x .nodes → b < x .nodes
+  reply-is : (a b : ℕ) → a < n → b < n
       → (reply a b ≡ answered (valueIn (reply a b))) × (valueIn (reply a b) .report ≡ entryAt n (reportTable n s G) a b)
   unfolding reply pair valueIn
   reply-is a b ha hb =
-      let g = links-graph _ _ in
       let own = rules-built n s G in
       let i = pair-built g size own ha hb (taken n (fullTable n s G) a b) (taken-right g size own ha hb) in (
         i .1 ∙ ap answered (sym (ap valueIn (i .1))),
@@ -83,30 +71,32 @@ module _ (text : List ℕ) (x : Parsed) (e : parse 128 2048 (128 + 1) (2 * 2048)
       )
 
   -- linked nodes that differ, and no others, have the report 1 by link
-  by-link : (a b : ℕ) → a < x .nodes → b < x .nodes → (a ≡ b → ⊥) → (valueIn (reply a b) ≡ withRoute 1 Link) ↔ T (linked n G a b)
+  by-link : (a b : ℕ) → a < n → b < n → (a ≡ b → ⊥) → (valueIn (reply a b) ≡ withRoute 1 Link) ↔ T (linked n G a b)
   unfolding reply pair valueIn
-  by-link a b ha hb d =
-      let g = links-graph _ _ in (
-        λ e. report-one s g ha hb (sym (reply-is a b ha hb .1) ∙ ap (λ (y : Answer). y .report) e),
-        λ t. ap valueIn (pair-linked g size (rules-built n s G) ha hb (taken n (fullTable n s G) a b) d t),
-      )
+  by-link a b ha hb d = (
+    λ e. report-one s g ha hb (sym (reply-is a b ha hb .1) ∙ ap (λ (y : Answer). y .report) e),
+    λ t. ap valueIn (pair-linked g size (rules-built n s G) ha hb (taken n (fullTable n s G) a b) d t),
+  )
 
-  -- the first line, then for each a < b in order a line with an allowed report and a route, by link where the two are linked
-  pub listing-lines : (f : ℕ → ℕ → Answer)
-      × (listing text ≡ lineOf 82 (x .nodes) (length (hubs (x .nodes) (inForce (x .nodes) 0) (graphOf (x .nodes) (x .links))))
-      ++ gather (λ p. pairLine p (answered (f (p .0) (p .1)))) (pairsBelow (x .nodes)))
-      × ((a b : ℕ) → a < x .nodes → b < x .nodes → Allowed (linked (x .nodes) (graphOf (x .nodes) (x .links))) a b (f a b .report))
-      × ((a b : ℕ) → a < x .nodes → b < x .nodes → (a ≡ b → ⊥)
-      → (f a b ≡ withRoute 1 Link) ↔ T (linked (x .nodes) (graphOf (x .nodes) (x .links)) a b))
-  unfolding listing listingText listingOf pairLines reply
-  listing-lines = (
-    λ a b. valueIn (reply a b),
-    ap listingText e ∙ ap (λ (l : List ℕ). lineOf 82 n (length (hubs n s G)) ++ l) (
+  pub listing-right : RightListing n (length (hubs n s G)) (linked n G) (listingOf n s G)
+  unfolding listingOf pairLines reply
+  listing-right = record {
+    value = λ a b. valueIn (reply a b);
+    lines = ap (λ (l : List ℕ). lineOf 82 n (length (hubs n s G)) ++ l) (
         by-pairs _ _
         ∙ gather-same _ _ _ (λ a ma. gather-same _ _ _ (λ b mb.
         ap (pairLine (a, b)) (reply-is _ _ (of-upTo _ _ ma) (of-upTo _ _ (of-keep _ _ _ mb .0)) .0)))
         ∙ sym (by-pairs _ _)
-        ),
-    λ a b ha hb. rw (reply-is _ _ ha hb .1) (allowed _ _ _ (links-graph _ _) size _ _ ha hb),
-    by-link,
-  )
+        );
+    allowed = λ a b ha hb. rw (reply-is _ _ ha hb .1) (allowed _ _ _ g size _ _ ha hb);
+    by-link = by-link;
+  }
+
+-- of a text that is read within the listing's limits
+pub listing-lines : (text : List ℕ) (x : Parsed) → parse 128 2048 (128 + 1) (2 * 2048) text ≡ answered x
+    → RightListing (x .nodes) (length (hubs (x .nodes) (inForce (x .nodes) 0) (graphOf (x .nodes) (x .links))))
+    (linked (x .nodes) (graphOf (x .nodes) (x .links))) (listing text)
+unfolding listing listingText
+listing-lines text x e =
+    let size : x .nodes ≤ 1024 = omega (arith, parse-sound 128 2048 (128 + 1) (2 * 2048) text x e .within .size) in
+    rw e (listing-right (links-graph _ _) size _)

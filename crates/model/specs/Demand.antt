@@ -2,7 +2,7 @@
 -- Assumes nothing.
 use mathlib.Core.Path.{_≡_}
 use mathlib.Core.Logic.{_⊎_, _↔_}
-use mathlib.Core.List.{List}
+use mathlib.Core.List.{List, _++_}
 use Prim.Native.Nat.{ℕ, _+_, _-_, _/_, _≤_, _<_}
 use lib.Dec.{T, leb}
 use lib.ListN.{length, getD, take, replicate}
@@ -12,10 +12,10 @@ use Rattle.model.specs.declared.TestResult.{TestResult}
 use Rattle.model.specs.declared.Verdict.{Verdict}
 use Rattle.model.specs.declared.Verdict.the-variants.{Parted, Long, Short}
 use Rattle.model.specs.Answers.{Outcome, answered}
-use Rattle.model.specs.Basics.{none, if_then_else_, over}
+use Rattle.model.specs.Basics.{none, if_then_else_, over, gather}
 use Rattle.model.specs.Graph.{Edges, linked, Chain, Unjoined, Fewest, WithinTwo, Walked}
 use Rattle.model.specs.declared.Size.{Size}
-use Rattle.model.specs.SurveyText.{surveyText}
+use Rattle.model.specs.SurveyText.{lineOf, surveyText}
 use Rattle.model.specs.Survey.{neighboursOf, Accepted}
 use Rattle.model.specs.Threshold.{inForce}
 use Rattle.model.specs.Hubs.{hubs}
@@ -26,6 +26,7 @@ use Rattle.model.specs.Writing.{AfterWriting}
 use Rattle.model.specs.Building.{AfterBuilding}
 use Rattle.model.specs.Asking.{asking}
 use Rattle.model.specs.Walking.{AfterWalking, walking}
+use Rattle.model.specs.Listing.{pairLine, pairsBelow}
 
 -- rules 8.1 and 9.3: a text that was read gives an accepted survey, whose links are exactly those that its lines name
 pub record IsRead (text : List ℕ) (x : Size) (starts neighbours : List ℕ) : Type 0 where
@@ -127,6 +128,14 @@ pub record RightVerdict (n : ℕ) (E : Edges) (o : Outcome TestResult) : Type 0 
 -- rule 9.6, for every accepted survey and every threshold t that is not refused
 abbrev pub TestRight : (n t : ℕ) (starts neighbours : List ℕ) → Outcome TestResult → Type 0
 TestRight n t starts neighbours o = Accepted n starts neighbours → t ≤ 1024 → RightVerdict n (linked n (neighboursOf starts neighbours)) o
+
+-- rules 9.4 and 11.1: a listing is its first line, with the counts of nodes and hubs, and for each two nodes in order a line with an allowed
+-- report, which is 1 by the link exactly where the two are linked
+pub record RightListing (n hubCount : ℕ) (E : Edges) (text : List ℕ) : Type 0 where
+  pub value : (a b : ℕ) → Answer
+  pub lines : text ≡ lineOf 82 n hubCount ++ gather (λ p. pairLine p (answered (value (p .0) (p .1)))) (pairsBelow n)
+  pub allowed : (a b : ℕ) → a < n → b < n → Allowed E a b (value a b .report)
+  pub by-link : (a b : ℕ) → a < n → b < n → (a ≡ b → ⊥) → (value a b ≡ withRoute 1 Link) ↔ T (E a b)
 
 -- ---- the whole way: a text is read into two lists, tables are built from these with a threshold, two nodes are asked, and their walk is
 -- written with the same threshold

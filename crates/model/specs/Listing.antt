@@ -31,7 +31,7 @@ routeText (Through h) = digits h
 routeText NoRoute = 45 ∷ []
 routeText Link = 108 ∷ 105 ∷ 110 ∷ 107 ∷ []
 
--- rule 11.1: a pair's line (no pair is refused: `listing-lines` of proofs/Listing.antt)
+-- rule 11.1: a pair's line (no pair is refused: `listing-right` of proofs/Listing.antt)
 unfoldable pub pairLine : ℕ × ℕ → Outcome Answer → List ℕ
 pairLine p (refused k) = []
 pairLine p (answered x) =

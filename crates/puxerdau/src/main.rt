@@ -12,7 +12,7 @@ ghost use lib.ListN.{length};
 // A longer word is neither a command nor an option nor a number; `os::arg` gives it as an empty one, which is none of these either.
 const WORD: usize = 16;
 
-// A survey's first 393,241 bytes decide (`reading-front` of crates/model/proofs/Fronts.antt); a longer file is not taken.
+// These bytes of a text decide what is said of it (`said-front` of crates/desk_commands/proofs/CommandFront.antt).
 const TEXT: usize = 524288;
 
 const STARTS: usize = 1025;
@@ -35,7 +35,7 @@ fn take_word(command: Command, q: Question, i: usize) -> Taken {
     desk_words::take_word(command, q, said)
 }
 
-// What the words behind the command ask. There are `count` words, the program's name among them.
+// What the words after the command ask. There are `count` words, the program's name among them.
 fn understand(command: Command, count: usize) -> Understood {
     let mut q = desk_words::nothing_yet();
     let mut i = 2;

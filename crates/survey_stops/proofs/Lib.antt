@@ -1,3 +1,4 @@
 pub mod StopLaws
 pub mod KeptLaws
 pub mod StopRight
+pub mod StopFront

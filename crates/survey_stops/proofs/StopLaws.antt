@@ -43,12 +43,12 @@ one-feed word c w d text {x} {y} {rest} e =
     ∙ ap length (keep-append (eqb 10) body (10 ∷ rest))
     ∙ rw none (omega arith)
 
-letter-feed : (letter : ℕ) → (letter ≡ 10 → ⊥) → (text : List ℕ) {x y : ℕ} {rest : List ℕ}
+pub letter-feed : (letter : ℕ) → (letter ≡ 10 → ⊥) → (text : List ℕ) {x y : ℕ} {rest : List ℕ}
     → line letter text ≡ some (x, y, rest) → lineFeeds text ≡ 1 + lineFeeds rest
 unfolding line
 letter-feed letter d text e = one-feed (letter ∷ []) 44 (λ t. d (sym (of-single 10 letter t))) (λ i. omega arith) text e
 
-link-feed : (n : ℕ) (E : Edges) (t : List ℕ) {a b : ℕ} {rest : List ℕ} → linkIn n E t ≡ answered (a, b, rest) → lineFeeds t ≡ 1 + lineFeeds rest
+pub link-feed : (n : ℕ) (E : Edges) (t : List ℕ) {a b : ℕ} {rest : List ℕ} → linkIn n E t ≡ answered (a, b, rest) → lineFeeds t ≡ 1 + lineFeeds rest
 unfolding linkIn
 link-feed n E [] e = never e
 link-feed n E (c ∷ t) {a} {b} {rest} e = letter-feed 76 (λ i. omega arith) _ (of-link-taken _ _ _ (a, b, rest) e .0)

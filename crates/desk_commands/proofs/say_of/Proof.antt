@@ -1,5 +1,6 @@
 -- `desk_commands::say_of` meets its contract: what each command says.
 -- Assumes nothing.
+use mathlib.Core.Path.{sym}
 use native.Mathlib.Omega.{arith}
 use borrow.Author.Needs.{needs}
 use Rattle.desk_commands.specs.Commands.{saidOf}
@@ -27,17 +28,23 @@ say-test-requires c κs = search needs
 enum-told-4 : tie.Need-enum-told-4
 enum-told-4 c = search needs
 
+in-force-requires : tie.Need-in-force-requires
+in-force-requires c κs = search needs
+
 say-hubs-requires : tie.Need-say-hubs-requires
 say-hubs-requires c κs = search needs
 
 enum-told-5 : tie.Need-enum-told-5
 enum-told-5 c = search needs
 
+in-force-requires-2 : tie.Need-in-force-requires-2
+in-force-requires-2 c κs = search needs
+
 list-survey-requires : tie.Need-list-survey-requires
 list-survey-requires c κs =
-    let told = c .before in
+    let told = c .before .before in
     let start = told .before .before .before .before .before in
-    (start .pre .0, rw (told .enum-told5 .given .1) at (start .pre .1), omega (arith, start .pre .2))
+    (start .pre .0, rw (told .enum-told5 .given .1) at (start .pre .1), omega (arith, start .pre .3))
 
 enum-told-6 : tie.Need-enum-told-6
 enum-told-6 c = search needs
@@ -103,7 +110,8 @@ returns-4 : tie.Need-returns-4
 unfolding saidOf
 returns-4 c =
     let said = c .before .before in
-    rw (said .before .before .enum-told4 .given .1) (said .say-hubs .ensures)
+    let split = said .before .before in
+    rw (split .before .enum-told4 .given .1, sym (split .in-force .ensures)) (said .say-hubs .ensures)
 
 same-length-5 : tie.Need-same-length-5
 same-length-5 c = search needs
@@ -112,7 +120,8 @@ returns-5 : tie.Need-returns-5
 unfolding saidOf
 returns-5 c =
     let said = c .before .before in
-    rw (said .before .before .enum-told5 .given .1) (said .list-survey .ensures)
+    let split = said .before .before in
+    rw (split .before .enum-told5 .given .1, sym (split .in-force2 .ensures)) (said .list-survey .ensures)
 
 same-length-6 : tie.Need-same-length-6
 same-length-6 c = search needs
@@ -170,8 +179,10 @@ say-of-spec =
     enum-told-3
     say-test-requires
     enum-told-4
+    in-force-requires
     say-hubs-requires
     enum-told-5
+    in-force-requires-2
     list-survey-requires
     enum-told-6
     write-accepted-requires

@@ -1,4 +1,4 @@
--- `desk_commands::say_survey` meets its contract: refused, or said by the threshold in force.
+-- `desk_commands::say_survey` meets its contract: the threshold is refused, or what the command says.
 -- Assumes nothing.
 use mathlib.Core.Path.{sym, _∙_}
 use borrow.Author.Needs.{needs}
@@ -22,11 +22,10 @@ returns c =
     rw (threshold-refused _ _ _ _ _ _ _ (sym (test .before .bad-threshold .ensures) ∙ test .if1 .taken))
     (wrote .write-threshold-refused .ensures .0)
 
-in-force-requires : tie.Need-in-force-requires
-in-force-requires c κs = search needs
-
 say-of-requires : tie.Need-say-of-requires
-say-of-requires c κs = search needs
+say-of-requires c κs =
+    let test = c .before in
+    (search needs, search needs, sym (test .before .bad-threshold .ensures) ∙ test .if1 .left, search needs)
 
 same-length-2 : tie.Need-same-length-2
 same-length-2 c = search needs
@@ -34,10 +33,8 @@ same-length-2 c = search needs
 returns-2 : tie.Need-returns-2
 returns-2 c =
     let said = c .before .before in
-    let force = said .before .before in
-    let test = force .before in
-    rw (threshold-taken _ _ _ _ _ _ _ (sym (test .before .bad-threshold .ensures) ∙ test .if1 .left), sym (force .in-force .ensures))
-    (said .say-of .ensures)
+    let test = said .before .before in
+    rw (threshold-taken _ _ _ _ _ _ _ (sym (test .before .bad-threshold .ensures) ∙ test .if1 .left)) (said .say-of .ensures)
 
 pub say-survey-spec : {M : Type 1} → statement M
 say-survey-spec =
@@ -47,7 +44,6 @@ say-survey-spec =
     write-threshold-refused-requires
     same-length
     returns
-    in-force-requires
     say-of-requires
     same-length-2
     returns-2)
