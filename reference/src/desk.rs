@@ -150,10 +150,12 @@ impl Survey {
 
     fn hubs(&self, question: &Question) -> Result<String, String> {
         let hubs = self.build(question)?.hubs;
-        let mut lines = format!("hubs {}", hubs.len());
-        if !hubs.is_empty() {
-            lines += &format!(" in order:{}", show_list(&hubs));
-        }
+        let mut lines = match hubs.len() {
+            0 => String::from("0 hubs"),
+            1 => String::from("1 hub:"),
+            count => format!("{count} hubs:"),
+        };
+        lines += &show_list(&hubs);
         let threshold = threshold_in_force(self.n, question.given_threshold())
             .expect("building has accepted it");
         let degrees = self.starts[..=self.n].windows(2);

@@ -11,6 +11,7 @@ use std::process::{Command, Stdio};
 const CHAIN: &str = "S,5,4\nL,0,1\nL,1,2\nL,2,3\nL,3,4\n";
 const LONG_CHAIN: &str = "S,8,7\nL,0,1\nL,1,2\nL,2,3\nL,3,4\nL,4,5\nL,5,6\nL,6,7\n";
 const NO_LINK: &str = "S,2,0\n";
+const TWO_HUBS: &str = "S,5,3\nL,0,1\nL,2,3\nL,3,4\n";
 
 /// What is printed for these words, parted by spaces.
 fn printed(words: &str, text: &str) -> String {
@@ -388,28 +389,28 @@ fn hubs() {
     check(
         "hubs",
         COURSE,
-        "hubs 1 in order: 0\nhigh nodes 1 of 6 with 5 or more neighbours\n",
+        "1 hub: 0\nhigh nodes 1 of 6 with 5 or more neighbours\n",
     );
     check(
         "hubs --threshold 2",
         COURSE,
-        "hubs 1 in order: 1\nhigh nodes 3 of 6 with 2 or more neighbours\n",
+        "1 hub: 1\nhigh nodes 3 of 6 with 2 or more neighbours\n",
     );
     check(
         "hubs --threshold 6",
         COURSE,
-        "hubs 0\nhigh nodes 0 of 6 with 6 or more neighbours\n",
+        "0 hubs\nhigh nodes 0 of 6 with 6 or more neighbours\n",
     );
     // Node 3 covers three nodes, and then 0 the other two.
     check(
         "hubs --threshold 1",
-        "S,5,3\nL,0,1\nL,2,3\nL,3,4\n",
-        "hubs 2 in order: 3 0\nhigh nodes 5 of 5 with 1 or more neighbours\n",
+        TWO_HUBS,
+        "2 hubs: 3 0\nhigh nodes 5 of 5 with 1 or more neighbours\n",
     );
     check(
         "hubs",
         "S,1,0\n",
-        "hubs 0\nhigh nodes 0 of 1 with 1 or more neighbours\n",
+        "0 hubs\nhigh nodes 0 of 1 with 1 or more neighbours\n",
     );
 }
 
@@ -802,6 +803,7 @@ fn lines_for_page() -> Vec<String> {
         ("test", NO_LINK),
         ("hubs", COURSE),
         ("hubs", NO_LINK),
+        ("hubs --threshold 1", TWO_HUBS),
         ("check", COURSE),
         ("check", ""),
         ("check", "S,6,6\nL,0,5\nL\n"),
@@ -845,7 +847,7 @@ fn every_line_of_the_page() {
             }
         }
     }
-    assert_eq!((lines, parts, ends), (28, 5, 4));
+    assert_eq!((lines, parts, ends), (28, 6, 4));
 }
 
 /// It stands outside the tables, on two lines of the page.

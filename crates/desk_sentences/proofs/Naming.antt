@@ -11,7 +11,7 @@ use Rattle.model.proofs.Numbers.{length-le}
 use Rattle.model.proofs.Loops.{drop-next}
 use Rattle.base_lists.specs.Written.{Wrote}
 use Rattle.base_lists.proofs.Written.{wrote-none, wrote-then, wrote-length}
-use Rattle.desk_sentences.specs.Sentences.{sentence, nodesEnd, hubsLine}
+use Rattle.desk_sentences.specs.Sentences.{counted, nodesEnd, hubsLine}
 
 module _ (vs : List ℕ) (i : ℕ) where
   node-next : i < length vs → nodesEnd (drop i vs) ≡ (32 ∷ digits (getD vs i 0)) ++ nodesEnd (drop (i + 1) vs)
@@ -80,12 +80,13 @@ module _ {vs buf₀ buf : List ℕ} {at pos i : ℕ} (s : Naming vs buf₀ buf a
 
 -- ---- the hubs: none, or some
 
-pub hubs-none : (vs : List ℕ) → length vs ≡ 0 → hubsLine vs ≡ bytes "hubs 0\n"
+pub hubs-none : (vs : List ℕ) → length vs ≡ 0 → hubsLine vs ≡ bytes "0 hubs\n"
 unfolding hubsLine
 hubs-none [] e = refl
 hubs-none (v ∷ vs) e = absurd (omega (arith, e))
 
-pub hubs-some : (vs : List ℕ) → (length vs ≡ 0 → ⊥) → hubsLine vs ≡ sentence (bytes "hubs # in order:") (length vs ∷ []) ++ nodesEnd vs
+pub hubs-some : (vs : List ℕ) → (length vs ≡ 0 → ⊥)
+    → hubsLine vs ≡ counted (length vs) (bytes "1 hub:") (bytes "# hubs:") ++ nodesEnd vs
 unfolding hubsLine
 hubs-some [] d = absurd (d refl)
 hubs-some (v ∷ vs) d = refl

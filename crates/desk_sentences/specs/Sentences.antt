@@ -20,6 +20,10 @@ sentence form [] = form
 sentence [] (x ∷ xs) = []
 sentence (c ∷ form) (x ∷ xs) = if eqb c 35 then digits x ++ sentence form xs else c ∷ sentence form (x ∷ xs)
 
+-- a count of one, or by the form for others
+unfoldable pub counted : (k : ℕ) (one others : List ℕ) → List ℕ
+counted k one others = if eqb k 1 then one else sentence others (k ∷ [])
+
 -- nodes, a space in front of each, and the line feed
 unfoldable pub nodesEnd : List ℕ → List ℕ
 nodesEnd vs = gather (λ v. 32 ∷ digits v) vs ++ bytes "\n"
@@ -53,8 +57,8 @@ verdictWord Parted = bytes "parted"
 verdictWord Long = bytes "long"
 verdictWord Short = bytes "short"
 
-unfoldable pub searchesEnd : ℕ → List ℕ
-searchesEnd k = if eqb k 1 then bytes " after 1 search\n" else sentence (bytes " after # searches\n") (k ∷ [])
+abbrev pub searchesEnd : ℕ → List ℕ
+searchesEnd k = counted k (bytes " after 1 search\n") (bytes " after # searches\n")
 
 unfoldable pub verdictSays : Verdict → List ℕ
 verdictSays Parted = bytes "some two nodes are joined by no chain of links\n"
@@ -67,8 +71,8 @@ verdictLines x = verdictWord (x .verdict) ++ (searchesEnd (x .searches) ++ verdi
 -- ---- the hubs in the order chosen, and how many of n nodes are high by threshold s
 
 unfoldable pub hubsLine : List ℕ → List ℕ
-hubsLine [] = bytes "hubs 0\n"
-hubsLine (h ∷ hs) = sentence (bytes "hubs # in order:") (length (h ∷ hs) ∷ []) ++ nodesEnd (h ∷ hs)
+hubsLine [] = bytes "0 hubs\n"
+hubsLine (h ∷ hs) = counted (length (h ∷ hs)) (bytes "1 hub:") (bytes "# hubs:") ++ nodesEnd (h ∷ hs)
 
 unfoldable pub highLine : (high n s : ℕ) → List ℕ
 highLine high n s = sentence (bytes "high nodes # of # with # or more neighbours\n") (high ∷ n ∷ s ∷ [])

@@ -9,8 +9,8 @@ ghost use Prim.Native.Nat.{_+_, _*_, _≤_};
 ghost use lib.ListN.{length};
 ghost use Rattle.base_lists.specs.Written.{Wrote};
 ghost use Rattle.model.specs.Demand.{leastNeeded};
-ghost use Rattle.desk_sentences.specs.Sentences.{sentence, nodesEnd, reportLine, neededLine, pairLines, walkLine};
-ghost use Rattle.desk_sentences.specs.Sentences.{verdictWord, searchesEnd, verdictSays, verdictLines, hubsLine, highLine};
+ghost use Rattle.desk_sentences.specs.Sentences.{sentence, counted, nodesEnd, reportLine, neededLine, pairLines, walkLine};
+ghost use Rattle.desk_sentences.specs.Sentences.{verdictWord, verdictSays, verdictLines, hubsLine, highLine};
 ghost use Rattle.desk_sentences.specs.Sentences.{acceptedLine};
 
 // Writes a sentence by its form at a place, and returns the place after it.
@@ -34,6 +34,18 @@ pub fn write_sentence(buf: &mut [u8], at: usize, form: &[u8], numbers: &[u64]) -
         i += 1;
     }
     pos
+}
+
+// Writes a count of one, or by the form for others, at a place, and returns the place after it.
+fn write_counted(buf: &mut [u8], at: usize, count: u64, one: &[u8], others: &[u8]) -> usize
+    requires { ⌜ (length (now one) ≤ 20) × (length (now others) ≤ 20) × (at + 40 ≤ length (now buf)) ⌝ }
+    ensures { λ r. ⌜ Wrote (now (buf .entry)) (now (buf .exit)) at r (counted count (now (one .entry)) (now (others .entry))) ⌝ }
+    ensures { λ r. ⌜ r ≤ at + 40 ⌝ }
+{
+    if count == 1 {
+        return text_writing::write_text(buf, at, one);
+    }
+    write_sentence(buf, at, others, &[count])
 }
 
 // Writes nodes at a place, a space in front of each, and the line feed, and returns the place after it.
@@ -148,18 +160,6 @@ fn write_word(buf: &mut [u8], at: usize, verdict: Verdict) -> usize
     }
 }
 
-// Writes the count of searches at a place, and returns the place after it.
-fn write_searches(buf: &mut [u8], at: usize, count: u64) -> usize
-    requires { ⌜ at + 40 ≤ length (now buf) ⌝ }
-    ensures { λ p. ⌜ Wrote (now (buf .entry)) (now (buf .exit)) at p (searchesEnd count) ⌝ }
-    ensures { λ p. ⌜ p ≤ at + 40 ⌝ }
-{
-    if count == 1 {
-        return text_writing::write_text(buf, at, b" after 1 search\n");
-    }
-    write_sentence(buf, at, b" after # searches\n", &[count])
-}
-
 // Writes what a verdict says at a place, and returns the place after it.
 fn write_says(buf: &mut [u8], at: usize, verdict: Verdict) -> usize
     requires { ⌜ at + 70 ≤ length (now buf) ⌝ }
@@ -193,20 +193,21 @@ pub fn write_verdict(buf: &mut [u8], at: usize, result: TestResult) -> usize
 {
     let verdict = result.verdict;
     let i = write_word(buf, at, verdict);
-    let i = write_searches(buf, i, result.searches as u64);
+    let count = result.searches as u64;
+    let i = write_counted(buf, i, count, b" after 1 search\n", b" after # searches\n");
     write_says(buf, i, verdict)
 }
 
 // Writes the hubs, in the order chosen, at a place, and returns the place after them.
 pub fn write_hubs(buf: &mut [u8], at: usize, hubs: &[u16]) -> usize
-    requires { ⌜ at + 6 * length (now hubs) + 40 ≤ length (now buf) ⌝ }
+    requires { ⌜ at + 6 * length (now hubs) + 41 ≤ length (now buf) ⌝ }
     ensures { λ p. ⌜ Wrote (now (buf .entry)) (now (buf .exit)) at p (hubsLine (now (hubs .entry))) ⌝ }
-    ensures { λ p. ⌜ p ≤ at + 6 * length (now (hubs .entry)) + 40 ⌝ }
+    ensures { λ p. ⌜ p ≤ at + 6 * length (now (hubs .entry)) + 41 ⌝ }
 {
     if hubs.len() == 0 {
-        return text_writing::write_text(buf, at, b"hubs 0\n");
+        return text_writing::write_text(buf, at, b"0 hubs\n");
     }
-    let i = write_sentence(buf, at, b"hubs # in order:", &[hubs.len() as u64]);
+    let i = write_counted(buf, at, hubs.len() as u64, b"1 hub:", b"# hubs:");
     write_nodes(buf, i, hubs)
 }
 

@@ -23,14 +23,14 @@ returns c =
     let wrote = c .before .before in
     let w = wrote .write-text .ensures in (rw (hubs-none _ (wrote .before .before .before .if1 .taken)) w, omega (arith, w .ends))
 
-slice-aggregate-write-sentence : tie.Need-slice-aggregate-write-sentence
-slice-aggregate-write-sentence c = search needs
+slice-aggregate-write-counted : tie.Need-slice-aggregate-write-counted
+slice-aggregate-write-counted c = search needs
 
-slice-aggregate-write-sentence-2 : tie.Need-slice-aggregate-write-sentence-2
-slice-aggregate-write-sentence-2 c = search needs
+slice-aggregate-write-counted-2 : tie.Need-slice-aggregate-write-counted-2
+slice-aggregate-write-counted-2 c = search needs
 
-write-sentence-requires : tie.Need-write-sentence-requires
-write-sentence-requires c κs = search needs
+write-counted-requires : tie.Need-write-counted-requires
+write-counted-requires c κs = search needs
 
 write-nodes-requires : tie.Need-write-nodes-requires
 write-nodes-requires c κs = search needs
@@ -44,7 +44,7 @@ returns-2 c =
     let nodes = c .before .before in
     let w = nodes .write-nodes .ensures in
     let count = nodes .before .before .before .before in
-    let v = count .write-sentence .ensures in
+    let v = count .write-counted .ensures in
     let test = count .before .before .before .before in (
       rw (hubs-some _ (test .if1 .left)) (wrote-then (omega (arith, w .0 .ends, w .1, v .0 .ends, v .1, test .before .before .before .pre))
           (v .0) (w .0)),
@@ -59,9 +59,9 @@ write-hubs-spec =
     write-text-requires
     same-length
     returns
-    slice-aggregate-write-sentence
-    slice-aggregate-write-sentence-2
-    write-sentence-requires
+    slice-aggregate-write-counted
+    slice-aggregate-write-counted-2
+    write-counted-requires
     write-nodes-requires
     same-length-2
     returns-2)

@@ -2,6 +2,7 @@
 -- Assumes nothing.
 use native.Mathlib.Omega.{arith}
 use borrow.Author.Needs.{needs}
+use Rattle.model.specs.Basics.{bytes}
 use Rattle.base_lists.proofs.Written.{wrote-then, wrote-length}
 use Rattle.desk_sentences.specs.Sentences.{verdictLines}
 use Rattle.desk_sentences.proofs.write_verdict.Statement.{statement}
@@ -10,8 +11,14 @@ use Rattle.desk_sentences.proofs.write_verdict.Tie as tie
 write-word-requires : tie.Need-write-word-requires
 write-word-requires c κs = search needs
 
-write-searches-requires : tie.Need-write-searches-requires
-write-searches-requires c κs = search needs
+slice-aggregate-write-counted : tie.Need-slice-aggregate-write-counted
+slice-aggregate-write-counted c = search needs
+
+slice-aggregate-write-counted-2 : tie.Need-slice-aggregate-write-counted-2
+slice-aggregate-write-counted-2 c = search needs
+
+write-counted-requires : tie.Need-write-counted-requires
+write-counted-requires c κs = search needs
 
 write-says-requires : tie.Need-write-says-requires
 write-says-requires c κs = search needs
@@ -20,13 +27,13 @@ same-length : tie.Need-same-length
 same-length c = search needs
 
 returns : tie.Need-returns
-unfolding verdictLines
+unfolding verdictLines bytes
 returns c =
     let says = c .before .before in
     let w = says .write-says .ensures in
     let searches = says .before .before .before .before in
-    let v = searches .write-searches .ensures in
-    let word = searches .before .before .before .before in
+    let v = searches .write-counted .ensures in
+    let word = searches .before .before .before .before .before .before in
     let u = word .write-word .ensures in
     let room = word .before .before .before .pre in
     let kept = wrote-length (omega (arith, room, u .0 .ends, u .1)) (u .0) in
@@ -38,4 +45,11 @@ returns c =
 pub write-verdict-spec : {M : Type 1} → statement M
 write-verdict-spec =
     tie.close
-    (tie.spec write-word-requires write-searches-requires write-says-requires same-length returns)
+    (tie.spec
+    write-word-requires
+    slice-aggregate-write-counted
+    slice-aggregate-write-counted-2
+    write-counted-requires
+    write-says-requires
+    same-length
+    returns)
