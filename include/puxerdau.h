@@ -32,7 +32,7 @@ extern "C" {
 #endif
 
 #define PUXERDAU_VERSION_MAJOR 3
-#define PUXERDAU_VERSION_MINOR 1
+#define PUXERDAU_VERSION_MINOR 0
 #define PUXERDAU_VERSION_PATCH 0
 #define PUXERDAU_QUOTED(x) #x
 #define PUXERDAU_DOTTED(a, b, c) PUXERDAU_QUOTED(a) "." PUXERDAU_QUOTED(b) "." PUXERDAU_QUOTED(c)
@@ -107,12 +107,11 @@ static inline unsigned puxerdau_route(uint64_t answer) { return (unsigned)(answe
 static inline unsigned puxerdau_hub(uint64_t answer) { return (unsigned)(answer >> 48); }              /* ask, walk */
 static inline unsigned puxerdau_verdict(uint64_t answer) { return (unsigned)(answer >> 16 & 65535); }  /* test */
 static inline unsigned puxerdau_searches(uint64_t answer) { return (unsigned)(answer >> 32 & 65535); } /* test */
-static inline unsigned puxerdau_figure(uint64_t answer) { return (unsigned)(answer >> 16 & 65535); }   /* estimate */
 
 /* The threshold splits nodes: it is the least degree of a high node, and all others are low. The calls that split nodes (puxerdau_build,
- * puxerdau_walk, puxerdau_test) take it since version 3; for puxerdau_estimate it is a count of nodes. 0 means the stored table's for n
- * nodes, which puxerdau_threshold answers and earlier versions always went by. 1 to PUXERDAU_MAX_THRESHOLD are taken as they are, also
- * above n: from n on no node is high and there are no hubs. A larger number is refused 14, straight after 2. */
+ * puxerdau_walk, puxerdau_test) take it since version 3. 0 means the stored table's for n nodes, which puxerdau_threshold answers and
+ * earlier versions always went by. 1 to PUXERDAU_MAX_THRESHOLD are taken as they are, also above n: from n on no node is high and there are
+ * no hubs. A larger number is refused 14, straight after 2. */
 
 /* The stored table's threshold for n nodes. Refused 2. */
 uint64_t puxerdau_threshold(size_t n);
@@ -166,13 +165,6 @@ uint64_t puxerdau_walk(size_t n, size_t threshold, const uint32_t *starts, size_
 /* The two-or-four test by a threshold. Refused, in this order, 2, 14, 8 or 9. Answers the verdict and the count of searches. */
 uint64_t puxerdau_test(size_t n, size_t threshold, const uint32_t *starts, size_t starts_length, const uint16_t *neighbours,
                        size_t neighbours_length);
-
-/* A figure for the farthest two nodes of a survey: an estimate of its diameter. It goes by as many nearest others of each node as the
- * threshold says, or by all others where there are fewer. Refused, in this order, 2, 14, 8 or 9. Answers the figure, which is PUXERDAU_NONE
- * where some two nodes are joined by no chain of links. Otherwise the farthest two nodes are at least `figure` and at most
- * (3 * figure + 1) / 2 links apart, rounded down. Since version 3.1. */
-uint64_t puxerdau_estimate(size_t n, size_t threshold, const uint32_t *starts, size_t starts_length, const uint16_t *neighbours,
-                           size_t neighbours_length);
 
 /* Writes the listing of a survey's text: the lines that the program `reports` prints. A text that is refused, 2 and 3 by the limits of a
  * listing, has the listing `X,` and the refusal's number. The call itself is refused only 12, and the buffer is as it was; else it is as
@@ -263,11 +255,6 @@ static inline uint64_t puxerdau_survey_walk(const struct puxerdau_survey *survey
 static inline uint64_t puxerdau_survey_test(const struct puxerdau_survey *survey, size_t threshold)
 {
     return puxerdau_test(survey->n, threshold, survey->starts, survey->starts_length, survey->neighbours, survey->neighbours_length);
-}
-
-static inline uint64_t puxerdau_survey_estimate(const struct puxerdau_survey *survey, size_t threshold)
-{
-    return puxerdau_estimate(survey->n, threshold, survey->starts, survey->starts_length, survey->neighbours, survey->neighbours_length);
 }
 
 #ifdef __cplusplus

@@ -10,7 +10,7 @@ use lib.ListN.{length, get_or}
 use Rattle.model.specs.declared.Verdict.{Verdict}
 use Rattle.model.specs.declared.TestResult.{TestResult}
 use Rattle.model.specs.Answers.{Outcome}
-use Rattle.model.specs.Basics.{none, up_to, first_of, greatest}
+use Rattle.model.specs.Basics.{none, up_to, first_of}
 use Rattle.model.specs.Graph.{fewest, linked}
 use Rattle.model.specs.Survey.{Graph}
 use Rattle.model.specs.Tables.{rows_of}
@@ -23,6 +23,7 @@ use Rattle.model.proofs.Outcomes.{promised}
 use Rattle.model.proofs.Lists.{First, found, nothing, first_of_lem, length_up_to}
 use Rattle.model.proofs.Entries.{get_d_up_to}
 use Rattle.model.proofs.Loops.{Searched, searched_found, searched_more, searched_all}
+use Rattle.search_depths.specs.Depth.{greatest}
 use Rattle.search_depths.proofs.Depths.{greatest_first}
 use Rattle.answer_two_or_four.specs.DepthVerdict.{of_depth, of_searches}
 use Rattle.answer_two_or_four.proofs.DepthVerdict.{verdict_is}

@@ -9,7 +9,7 @@ ghost use Rattle.model.specs.Testing.{testing};
 ghost use Rattle.model.specs.Demand.{TestRight};
 ghost use Rattle.answer_two_or_four.specs.DepthVerdict.{of_depth, of_searches};
 
-use model::{Accepting, NONE, TestResult, Testing, Verdict};
+use model::{NONE, Refusal, TestResult, Testing, Verdict};
 
 // The smallest low node, or none.
 fn smallest_low(n: usize, s: usize, starts: &[u32], neighbours: &[u16]) -> usize
@@ -86,11 +86,21 @@ pub fn test(n: usize, t: usize, starts: &[u32], neighbours: &[u16]) -> Testing
     ensures result_value { test_answer result ≡ testing n t starts.now neighbours.now }
     ensures test_right { TestRight n t starts.now neighbours.now (test_answer result) }
 {
-    match survey_acceptance::accept_by(n, t, starts, neighbours) {
-        Accepting::Refused(k) => Testing::Refused(k),
-        Accepting::Accepted => {
-            let s = base_threshold::in_force(n, t);
-            Testing::Answered(run_test(n, s, starts, neighbours))
-        }
+    if base_refusals::bad_size(n) {
+        return Testing::Refused(Refusal::NodeCount);
     }
+    // the tests of 14 and of 8, which are acted on in this order
+    let above = base_refusals::bad_threshold(t);
+    let short = base_refusals::short_starts(n, starts.len());
+    if above {
+        return Testing::Refused(Refusal::BadThreshold);
+    }
+    if short {
+        return Testing::Refused(Refusal::ShortList);
+    }
+    if !survey_acceptance::is_survey(n, starts, neighbours) {
+        return Testing::Refused(Refusal::NotSurvey);
+    }
+    let s = base_threshold::in_force(n, t);
+    Testing::Answered(run_test(n, s, starts, neighbours))
 }

@@ -2,39 +2,32 @@
 -- Assumes nothing.
 use mathlib.Core.Path.{◌≡◌, refl, subst}
 use mathlib.Core.List.{List, [], ◌∷◌}
-use Prim.Native.Nat.{ℕ, ◌*◌, ◌≤◌, ◌<◌}
+use Prim.Native.Nat.{ℕ, ◌*◌, ◌≤◌}
 use native.Mathlib.Nat.{le_trans, mul-le-mul}
 use native.Mathlib.Omega.{arith}
 use lib.Dec.{ltb}
 use lib.ListN.{length}
 use Rattle.model.specs.declared.Size.{Size}
 use Rattle.model.specs.declared.TestResult.{TestResult}
-use Rattle.model.specs.declared.Estimate.TheVariants.{Apart}
 use Rattle.model.specs.Answers.{Outcome, refused, answered, map_answer, ◌when◌}
-use Rattle.model.specs.Basics.{none}
-use Rattle.model.specs.Graph.{linked}
 use Rattle.model.specs.Survey.{Graph, neighbours_of, bad_size, accepting, Accepted}
 use Rattle.model.specs.Threshold.{threshold, in_force, threshold_answer, bit_length}
 use Rattle.model.specs.Hubs.{closed}
 use Rattle.model.specs.Reading.{Parsed, parse, reading_of, reading}
 use Rattle.model.specs.TwoOrFour.{sources, test_result}
-use Rattle.model.specs.Testing.{accepting_by, testing}
-use Rattle.model.specs.Diameter.{estimating}
+use Rattle.model.specs.Testing.{test_refusals, testing}
 use Rattle.model.specs.Demand.{IsBuilt}
 use Rattle.model.specs.Writing.{AfterWriting, text_of, writing_of, writing}
 use Rattle.model.specs.Dimacs.{uncommented, file_of, kept_once, importing, export_of, exporting}
 use Rattle.model.proofs.Tests.{picked}
-use Rattle.model.proofs.Outcomes.{never, judged_none, of_mapped}
+use Rattle.model.proofs.Outcomes.{never, judged_none}
 use Rattle.model.proofs.Verdicts.{Sources, round, covers, source_cases}
 use Rattle.model.proofs.Links.{parse_sound}
 use Rattle.model.proofs.Dimacs.{file_exactly, once_few}
 use Rattle.model.proofs.Sizes.{most_text, most_file, text_few, file_few}
-use Rattle.model.proofs.Acceptance.{size_bounds, accepting_facts, few_neighbours, linked_ends}
+use Rattle.model.proofs.Acceptance.{size_bounds, tests_facts, accepting_facts, few_neighbours}
 use Rattle.model.proofs.Covering.{hubs_length}
 use Rattle.model.proofs.Threshold.{bit_length_is, threshold_is}
-use Rattle.model.proofs.Chains.{fewest_small}
-use Rattle.model.proofs.Diameter.{figure_right}
-use Rattle.model.proofs.Demand.{accepted_by}
 
 -- reading and importing: n and m, within the limits of what the text says
 size_fits : (p q : ℕ) (o : Outcome Parsed) {x : Size} → ((y : Parsed) → o ≡ answered y → (y.nodes ≤ 1024) × (length y.links ≤ 16384))
@@ -127,16 +120,8 @@ sources_few n starts neighbours s acc = at (source_cases n s G acc.lists.graph a
 pub searches_fit : (n t : ℕ) (starts neighbours : List ℕ) {r : TestResult} → testing n t starts neighbours ≡ answered r → r.searches ≤ 1024
 unfolding testing test_result
 searches_fit n t starts neighbours {r} e =
-    let p = of_mapped _ (accepting_by n t starts neighbours) e in
-    subst (λ (y : TestResult). y.searches ≤ 1024) p.2 (sources_few n starts neighbours (in_force n t) (accepted_by n t starts neighbours p.1))
-
--- estimating: the figure
-pub figure_fits : (n t : ℕ) (starts neighbours : List ℕ) {d : ℕ} → estimating n t starts neighbours ≡ answered (Apart d) → d < none
-unfolding estimating
-figure_fits n t starts neighbours {d} e =
-    let p = of_mapped _ (accepting_by n t starts neighbours) e in
-    let acc = accepted_by n t starts neighbours p.1 in
-    let G = neighbours_of starts neighbours in
-    let far = (figure_right acc (in_force n t)).apart d p.2 in
-    let two = far.1.two in
-    omega (arith, acc.size, far.2, fewest_small (linked n G) n two.0 (linked_ends n G) two.2 two.1 far.0 two.4)
+    let p = judged_none (test_refusals n t starts neighbours) _ e in
+    let lists = p.0.1.1 in
+    let j : ◌≡◌ {A = TestResult} (test_result n (in_force n t) (neighbours_of starts neighbours)) r = cc p.1 in
+    subst (λ (y : TestResult). y.searches ≤ 1024) j
+    (sources_few n starts neighbours (in_force n t) (tests_facts n starts neighbours p.0.0 lists.0 lists.1.0))

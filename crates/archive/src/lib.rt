@@ -11,18 +11,15 @@ ghost use Rattle.model.specs.Building.{building};
 ghost use Rattle.model.specs.Asking.{asking};
 ghost use Rattle.model.specs.Walking.{walking};
 ghost use Rattle.model.specs.Testing.{testing};
-ghost use Rattle.model.specs.Diameter.{estimating, EstimateRight};
 ghost use Rattle.model.specs.Listing.{listing, writing_listing};
 ghost use Rattle.model.specs.Demand.{ReadRight, WriteRight, BuildRight, AskRight, WalkSound, WalkRight, TestRight};
 ghost use Rattle.model.specs.Dimacs.{importing, exporting, ImportRight, ExportRight};
 ghost use Rattle.listing_writing.specs.Length.{most_listing};
-ghost use Rattle.base_answer_codes.specs.Code.{no_field, count_field, size_field, answer_field, test_field, figure_field};
-ghost use Rattle.base_answer_codes.specs.Code.{decoded, no_value, count_in, size_in, answer_in, test_in, figure_in, IsCode};
+ghost use Rattle.base_answer_codes.specs.Code.{no_field, count_field, size_field, answer_field, test_field};
+ghost use Rattle.base_answer_codes.specs.Code.{decoded, no_value, count_in, size_in, answer_in, test_in, IsCode};
 ghost use Rattle.base_answer_codes.specs.Code.{read_decoded, write_decoded, build_decoded, walk_decoded};
 
-use base_answer_codes::{
-    accepting_code, asking_code, counting_code, estimating_code, reading_code, testing_code,
-};
+use base_answer_codes::{accepting_code, asking_code, counting_code, reading_code, testing_code};
 
 // The stored threshold of n nodes.
 #[unsafe(no_mangle)]
@@ -174,16 +171,6 @@ pub extern "C" fn puxerdau_test(n: usize, t: usize, starts: &[u32], neighbours: 
     ensures test_right { TestRight n t starts.now neighbours.now (decoded test_in result) }
 {
     testing_code(answer_two_or_four::test(n, t, starts, neighbours))
-}
-
-// A figure for the farthest two nodes of a survey, by as many nearest others of each node as the threshold t says, or the stored one
-// where t is 0.
-#[unsafe(no_mangle)]
-pub extern "C" fn puxerdau_estimate(n: usize, t: usize, starts: &[u32], neighbours: &[u16]) -> u64
-    ensures code { IsCode figure_field figure_in (estimating n t starts.now neighbours.now) result }
-    ensures estimate_right { EstimateRight n t starts.now neighbours.now (decoded figure_in result) }
-{
-    estimating_code(answer_diameter::estimate(n, t, starts, neighbours))
 }
 
 // Writes the listing of a text into a buffer.

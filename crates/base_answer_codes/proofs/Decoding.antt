@@ -13,14 +13,11 @@ use Rattle.model.specs.declared.Answer.{Answer}
 use Rattle.model.specs.declared.Verdict.{Verdict}
 use Rattle.model.specs.declared.Verdict.TheVariants.{Parted, Long, Short}
 use Rattle.model.specs.declared.TestResult.{TestResult}
-use Rattle.model.specs.declared.Estimate.{Estimate}
-use Rattle.model.specs.declared.Estimate.TheVariants as estimate
 use Rattle.model.specs.Answers.{Outcome, refused, answered, number}
-use Rattle.model.specs.Basics.{none}
 use Rattle.model.proofs.Outcomes.{never, number_bounds}
-use Rattle.base_answer_codes.specs.Code.{no_field, count_field, size_field, answer_field, test_field, figure_field}
+use Rattle.base_answer_codes.specs.Code.{no_field, count_field, size_field, answer_field, test_field}
 use Rattle.base_answer_codes.specs.Code.{route_number, hub_number, verdict_number, field, decoded}
-use Rattle.base_answer_codes.specs.Code.{no_value, count_in, size_in, route_in, answer_in, verdict_in, test_in, figure_in, IsCode}
+use Rattle.base_answer_codes.specs.Code.{no_value, count_in, size_in, route_in, answer_in, verdict_in, test_in, IsCode}
 
 -- a mask is a remainder
 masked : (k x y : ℕ) → x / 2 ^ k % 65536 ≡ y → field k x ≡ y
@@ -109,14 +106,6 @@ test_back x h =
       verdict = (ap verdict_in (masked 16 n (verdict_number x.verdict) (omega arith)) ∙ verdict_back x.verdict) i;
       searches = masked 32 n x.searches (omega arith) i;
     }
-
-pub figure_back : (x : Estimate) → ((d : ℕ) → x ≡ estimate.Apart d → d < none) → figure_in (65536 * figure_field x) ≡ x
-unfolding figure_in
-figure_back estimate.Parted h = rw (masked 16 (65536 * none) none (omega arith)) refl
-figure_back (estimate.Apart d) h =
-    let few = h d refl in
-    let ne : d ≡ none → ⊥ = λ e. omega arith in
-    rw (masked 16 (65536 * d) d (omega arith), ne_eqb d none ne) refl
 
 -- ---- a call for C passes on what the call below it promises
 

@@ -9,10 +9,8 @@ use Rattle.model.specs.declared.Answer.{Answer}
 use Rattle.model.specs.declared.Verdict.{Verdict}
 use Rattle.model.specs.declared.Verdict.TheVariants.{Parted, Long, Short}
 use Rattle.model.specs.declared.TestResult.{TestResult}
-use Rattle.model.specs.declared.Estimate.{Estimate}
-use Rattle.model.specs.declared.Estimate.TheVariants as estimate
 use Rattle.model.specs.Answers.{Outcome, refused, answered}
-use Rattle.model.specs.Basics.{none, if◌then◌else◌}
+use Rattle.model.specs.Basics.{if◌then◌else◌}
 use Rattle.model.specs.Reading.{AfterReading}
 use Rattle.model.specs.Writing.{AfterWriting}
 use Rattle.model.specs.Building.{AfterBuilding}
@@ -65,11 +63,6 @@ verdict_number Short = 2
 abbrev pub test_field : TestResult → ℕ
 test_field x = verdict_number x.verdict + 65536 * x.searches
 
--- one field of 16 bits: the figure, or none where the survey is parted
-abbrev pub figure_field : Estimate → ℕ
-figure_field estimate.Parted = none
-figure_field (estimate.Apart d) = d
-
 -- ---- and back, by the shifts and masks of include/puxerdau.h
 
 -- `x >> k & 65535`
@@ -102,9 +95,6 @@ verdict_in k = if eqb k 0 then Parted else if eqb k 1 then Long else Short
 
 unfoldable pub test_in : ℕ → TestResult
 test_in x = record { verdict = verdict_in (field 16 x); searches = field 32 x }
-
-unfoldable pub figure_in : ℕ → Estimate
-figure_in x = if eqb (field 16 x) none then estimate.Parted else estimate.Apart (field 16 x)
 
 -- x is the number of the outcome o; o is what is read back from x; and all fields above a refusal's number are 0
 pub record IsCode {A : Type 0} (values : A → ℕ) (value : ℕ → A) (o : Outcome A) (x : ℕ) : Type 0 where

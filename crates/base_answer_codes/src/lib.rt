@@ -1,17 +1,11 @@
 // What the open calls answer, each as one number of 64 bits: specs/Code.antt says where a refusal's number and the values stand, and how
 // they are read back.
 ghost use Rattle.std.specs.Prelude.{◌≡◌, ℕ, ◌<◌, ◌^◌};
-ghost use Rattle.model.specs.Answers.{answered, accept_answer, read_answer, count_answer, pair_answer, test_answer, estimate_answer};
-ghost use Rattle.model.specs.Basics.{none};
-ghost use Rattle.model.specs.declared.Estimate.TheVariants.{Apart};
-ghost use Rattle.base_answer_codes.specs.Code.{no_field, count_field, size_field, answer_field, test_field, figure_field};
-ghost use Rattle.base_answer_codes.specs.Code.{route_number, hub_number, verdict_number};
-ghost use Rattle.base_answer_codes.specs.Code.{no_value, count_in, size_in, answer_in, test_in, figure_in, IsCode};
+ghost use Rattle.model.specs.Answers.{answered, accept_answer, read_answer, count_answer, pair_answer, test_answer};
+ghost use Rattle.base_answer_codes.specs.Code.{no_field, count_field, size_field, answer_field, test_field};
+ghost use Rattle.base_answer_codes.specs.Code.{route_number, hub_number, verdict_number, no_value, count_in, size_in, answer_in, test_in, IsCode};
 
-use model::{
-    Accepting, Asking, Counting, Estimate, Estimating, NONE, Reading, Route, Size, TestResult,
-    Testing, Verdict,
-};
+use model::{Accepting, Asking, Counting, Reading, Route, Size, TestResult, Testing, Verdict};
 
 pub fn accepting_code(x: Accepting) -> u64
     ensures { IsCode no_field no_value (accept_answer x) result }
@@ -103,26 +97,5 @@ pub fn testing_code(x: Testing) -> u64
             let verdict = t.verdict;
             65536 * (verdict_number(verdict) + 65536 * (t.searches as u64))
         }
-    }
-}
-
-// The figure, or none where the survey is parted.
-pub fn figure_number(x: Estimate) -> u64
-    ensures value { result ≡ figure_field x }
-    ensures bounded { result < 65536 }
-{
-    match x {
-        Estimate::Parted => NONE as u64,
-        Estimate::Apart(d) => d as u64,
-    }
-}
-
-pub fn estimating_code(x: Estimating) -> u64
-    requires { (d : ℕ) → estimate_answer x ≡ answered (Apart d) → d < none }
-    ensures { IsCode figure_field figure_in (estimate_answer x) result }
-{
-    match x {
-        Estimating::Refused(k) => base_refusals::refusal_number(k) as u64,
-        Estimating::Answered(e) => 65536 * figure_number(e),
     }
 }

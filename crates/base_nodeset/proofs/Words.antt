@@ -1,14 +1,14 @@
--- Loops over the words of sets: counting, removing, joining, finding the smallest member, filling.
+-- Loops over the words of sets: counting, removing, finding the smallest member, filling.
 -- Assumes nothing.
 use mathlib.Core.Path.{◌≡◌, refl, sym, ap, ◌∙◌, fun_ext}
 use mathlib.Core.Logic.{⊎_elim}
-use mathlib.Core.Bool.{Bool, true, false, ◌||◌, and-false, or_comm}
+use mathlib.Core.Bool.{Bool, true, false}
 use mathlib.Core.List.{List, [], ◌∷◌, ◌++◌}
 use Prim.Native.Nat.{ℕ, zero, suc, ◌+◌, ◌-◌, ◌*◌, ◌/◌, ◌%◌, ◌^◌, ◌≤◌, ◌<◌}
 use native.Mathlib.Nat.{pow-suc}
 use native.Mathlib.Omega.{arith}
 use borrow.Author.Tests.{lt-ltb, le-ltb, eq-eqb}
-use lib.Bits.{bit_and, bit_or}
+use lib.Bits.{bit_and}
 use lib.Count.{ones, count_trailing_zeros}
 use lib.Dec.{T, ltb}
 use lib.ListN.{length, get_or, set, length-set, length-append, replicate, get_or-eq_default}
@@ -18,8 +18,7 @@ use Rattle.model.specs.Basics.{if◌then◌else◌, from, up_to, keep, first_of}
 use Rattle.model.proofs.Tests.{ltb_same, lt_or, eq_or}
 use Rattle.model.proofs.Lists.{First, found, nothing, first_of_lem, keep_append, keep_length, length_up_to, up_to_add}
 use Rattle.base_nodeset.specs.NodeSet.{Nodes, bit, member, empty_set, intersection, difference, members_from}
-use Rattle.base_nodeset.specs.Matrix.{edges_in}
-use Rattle.base_nodeset.proofs.Bits.{bit-bit_and, bit-bit_or, bit_not, bit_zero, bit_suc, bit_of_zero, shifted}
+use Rattle.base_nodeset.proofs.Bits.{bit-bit_and, bit_not, bit_zero, bit_suc, bit_of_zero, shifted}
 use Rattle.base_nodeset.proofs.Bits.{word_bit, empty_words, word_changed, word_kept, set_word}
 use Rattle.base_nodeset.proofs.Members.{Lowest, lowest, bits_none, ones_members, row_word}
 
@@ -123,42 +122,6 @@ module _ {b a₀ a : List ℕ} {i : ℕ} (r : Removed b a₀ a i) where
   pub removed_all : length a ≤ i → member a ≡ difference (member a₀) (member b)
   unfolding difference
   removed_all h = made_all r.made (omega (arith, r.made.same)) (λ x l. rw (member_past a₀ x l))
-
--- a set and row v of a matrix: word i and those after it are as they were
-pub record Joined (rows : List ℕ) (v : ℕ) (a₀ a : List ℕ) (i : ℕ) : Type 0 where
-  pub made : Made (λ x. edges_in rows v x || member a₀ x) 16 a i
-  pub rest : (j : ℕ) → i ≤ j → get_or a j 0 ≡ get_or a₀ j 0
-
-pub joined_none : {rows : List ℕ} {v : ℕ} {a₀ : List ℕ} → length a₀ ≡ 16 → Joined rows v a₀ a₀ 0
-joined_none e = record { made = made_none e; rest = λ j h. refl }
-
--- bit k of word i of row v is the link to node 64 * i + k
-row_bit : (rows : List ℕ) (v x : ℕ) → x < 1024 → edges_in rows v x ≡ bit (get_or rows (16 * v + x / 64) 0) (x % 64)
-unfolding edges_in member
-row_bit rows v x h =
-    let word : (1024 * v + x) / 64 ≡ 16 * v + x / 64 = omega arith in
-    let place : (1024 * v + x) % 64 ≡ x % 64 = omega arith in
-    rw (lt-ltb x 1024 h, word, place) refl
-
-module _ {rows : List ℕ} {v : ℕ} {a₀ a : List ℕ} {i : ℕ} (r : Joined rows v a₀ a i) where
-  pub joined_more : i < 16 → Joined rows v a₀ (set a i (bit_or (get_or a i 0) (get_or rows (16 * v + i) 0))) (i + 1)
-  unfolding member
-  joined_more h =
-      let w = bit_or (get_or a i 0) (get_or rows (16 * v + i) 0) in
-      record {
-        made = made_more r.made h w
-            (λ x e. rw (row_bit rows v x (omega arith), e, ← r.rest i (omega arith), bit-bit_or) (or_comm (bit (get_or a i 0) (x % 64)) _));
-        rest = λ j q. get_or-set_other a i j w 0 (omega arith) ∙ r.rest j (omega arith);
-      }
-
-  pub joined_all : length a₀ ≡ 16 → 16 ≤ i → member a ≡ (λ x. edges_in rows v x || member a₀ x)
-  unfolding edges_in
-  joined_all long h = made_all r.made h (λ x l. rw (member_past a₀ x (omega arith), le-ltb x 1024 (omega arith)) refl)
-
--- a matrix that ends before row v
-pub joined_past : (rows : List ℕ) (v : ℕ) (a : List ℕ) → length rows ≤ 16 * v → member a ≡ (λ x. edges_in rows v x || member a x)
-unfolding edges_in
-joined_past rows v a h = fun_ext (λ x. sym (rw (member_past rows (1024 * v + x) (omega arith), and-false (ltb x 1024)) refl))
 
 -- ---- the smallest member
 

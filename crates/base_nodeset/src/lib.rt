@@ -1,8 +1,7 @@
 // Sets of nodes as 64-bit words: node v is bit v % 64 of word v / 64.
-ghost use Rattle.std.specs.Prelude.{◌≡◌, ◌||◌, ℕ, ◌*◌, ◌/◌, ◌%◌, ◌^◌, ◌<◌, ◌≤◌, T, ltb, length, get_or, replicate};
+ghost use Rattle.std.specs.Prelude.{◌≡◌, ℕ, ◌*◌, ◌/◌, ◌^◌, ◌<◌, ◌≤◌, T, ltb, length, get_or, replicate};
 ghost use Rattle.model.specs.Basics.{if◌then◌else◌, up_to, has, keep, first_of};
 ghost use Rattle.base_nodeset.specs.NodeSet.{member, inserted, intersection, difference, members_from};
-ghost use Rattle.base_nodeset.specs.Matrix.{edges_in};
 
 pub fn insert(words: &mut [u64], v: usize)
     requires { v / 64 < length words.old }
@@ -56,22 +55,6 @@ pub fn subtract(a: &mut [u64], b: &[u64])
     let mut i = 0;
     while i < a.len() {
         a[i] = a[i] & !b[i];
-        i += 1;
-    }
-}
-
-// Puts the nodes that a matrix links to node v into a set: row v, of 16 words. A matrix that ends before it has no links there.
-pub fn insert_row(rows: &[u64], v: usize, set: &mut [u64])
-    requires { (length rows.now % 16 ≡ 0) × (v < 1024) × (length set.old ≡ 16) }
-    ensures { member set.new ≡ (λ x. edges_in rows.now v x || member set.old x) }
-{
-    let at = 16 * v;
-    if rows.len() <= at {
-        return;
-    }
-    let mut i = 0;
-    while i < 16 {
-        set[i] = set[i] | rows[at + i];
         i += 1;
     }
 }

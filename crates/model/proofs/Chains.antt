@@ -1,11 +1,11 @@
 -- Chains, by their count of links and as lists of nodes. `fewest` is the least number of links in a chain, for any graph whose links
 -- lead from nodes below n to nodes below n.
 -- Assumes nothing.
-use mathlib.Core.Path.{◌≡◌, refl, ap, ◌∙◌}
+use mathlib.Core.Path.{◌≡◌, refl, ap}
 use mathlib.Core.Logic.{◌⊎◌, inl, inr, ⊎_elim}
 use mathlib.Core.List.{List, [], ◌∷◌}
 use Prim.Native.Nat.{ℕ, zero, suc, ◌+◌, ◌≤◌, ◌<◌, suc-le-suc, zero-le}
-use native.Mathlib.Nat.{zero-add, suc-add, le_step, le_refl, le_antisymm, le_of_suc-le-suc, not-suc-le-zero}
+use native.Mathlib.Nat.{zero-add, suc-add, le_step, le_refl, le_antisymm}
 use native.Mathlib.Omega.{arith}
 use lib.Dec.{T}
 use lib.ListN.{length}
@@ -43,14 +43,6 @@ module _ {E : Edges} where
   pub append : {j k a b c : ℕ} → Chain E j a b → Chain E k b c → Chain E (j + k) a c
   append here q = rw (zero-add _) q
   append (link t p) q = rw (suc-add _ _) (link t (append p q))
-
-  -- a chain of i links or more, parted behind the first i
-  pub cut : {m a c : ℕ} → Chain E m a c → (i : ℕ) → i ≤ m → (x : ℕ) × (k : ℕ) × (i + k ≡ m) × Chain E i a x × Chain E k x c
-  cut {m} {a} c zero h = (a, m, zero-add m, here, c)
-  cut here (suc i) h = absurd (not-suc-le-zero h)
-  cut (link t r) (suc i) h =
-      let q = cut r i (le_of_suc-le-suc h) in
-      (q.0, q.1, suc-add i q.1 ∙ ap suc q.2, link t q.3, q.4)
 
   pub turn : ((u v : ℕ) → T (E u v) → T (E v u)) → {k a b : ℕ} → Chain E k a b → Chain E k b a
   turn f here = here
@@ -195,7 +187,3 @@ module _ (E : Edges) (n a : ℕ) (ends : (u v : ℕ) → u < n → T (E u v) →
 
   pub fewest_missing : (b : ℕ) → Unjoined E a b → fewest E n a b ≡ none
   fewest_missing b f = ⊎_elim (λ s. absurd (f (fewest E n a b) s.1.0)) (λ s. s.0) (fewest_cases _ _ _ ends start _)
-
-  -- the shortest chain has fewer than n links
-  pub fewest_small : (b d : ℕ) → Fewest E a b d → d < n
-  fewest_small b d f = ⊎_elim (λ s. omega (arith, fewest_of b d f)) (λ s. absurd (s.1 d f.0)) (fewest_cases E n _ ends start b)

@@ -1,24 +1,43 @@
 -- The greedy hub list: each hub is the best node, the list covers every high node, and its turns never run out.
 -- Assumes nothing.
-use mathlib.Core.Path.{◌≡◌, refl, sym, ap, ap₂, ◌∙◌, subst, fun_ext}
+use mathlib.Core.Path.{◌≡◌, refl, sym, ap, subst}
 use mathlib.Core.Logic.{◌⊎◌, inl, inr, ⊎_elim}
 use mathlib.Core.Bool.{Bool, not}
 use mathlib.Core.List.{List, [], ◌∷◌}
 use Prim.Native.Nat.{ℕ, zero, suc, ◌≤◌, ◌<◌, zero-le, suc-le-suc}
-use native.Mathlib.Nat.{le_refl, le_trans, not-suc-le-zero}
+use native.Mathlib.Nat.{le_refl, le_trans, not-suc-le-zero, le_step}
 use native.Mathlib.Omega.{arith}
-use lib.Dec.{T, leb→le, not_T, T_not}
+use lib.Dec.{T, leb, leb→le, le→leb, not_T, T_not}
 use lib.ListN.{length}
-use Rattle.model.specs.Basics.{up_to, has, keep}
+use Rattle.model.specs.Basics.{none, up_to, has, all, keep}
 use Rattle.model.specs.Survey.{Graph, neighbours_of, ascending, IsGraph, Accepted}
 use Rattle.model.specs.Graph.{linked}
-use Rattle.model.specs.Hubs.{is_high, closed, gain, best, greedy, cover, hubs}
-use Rattle.model.proofs.Tests.{passes}
-use Rattle.model.proofs.Lists.{has_head, has_tail, of_cons, has_keep, of_keep, has_up_to, of_up_to}
-use Rattle.model.proofs.Lists.{keep_split, keep_length, keep_none, length_up_to, length_pos}
-use Rattle.model.proofs.Foremost.{Foremost, foremost_is, foremost_of}
+use Rattle.model.specs.Hubs.{is_high, closed, gain, best, greedy, hubs}
+use Rattle.model.proofs.Tests.{passes, lt_or}
+use Rattle.model.proofs.Lists.{has_head, has_tail, of_cons, all_of, of_all, has_keep, of_keep, has_up_to, of_up_to, First}
+use Rattle.model.proofs.Lists.{found, nothing, first_below, first_is, keep_split, keep_length, keep_none, length_up_to, length_pos}
+use Rattle.model.proofs.Loops.{below_next}
 use Rattle.model.proofs.Ascending.{ascending_tail, ascending_above}
 use Rattle.model.proofs.Acceptance.{linked_of, linked_sym, few_neighbours}
+
+-- some node below n has the greatest value
+greatest : (f : ℕ → ℕ) (n : ℕ) → 0 < n → (v : ℕ) × (v < n) × ((w : ℕ) → w < n → f w ≤ f v)
+greatest f zero h = absurd (not-suc-le-zero h)
+greatest f (suc zero) h = (0, h, λ w b. rw (only w b) (le_refl _))
+  where
+    only : (w : ℕ) → w < 1 → w ≡ 0
+    only w b = omega arith
+greatest f (suc (suc n)) h =
+    let i = greatest f (suc n) (suc-le-suc zero-le) in
+    ⊎_elim
+    (λ l. (
+      suc n,
+      le_refl (suc (suc n)),
+      λ w b.
+          below_next (λ x. f x ≤ f (suc n)) (suc n) (λ u c. omega (arith, i.2 u c)) (le_refl (f (suc n))) w (omega arith),
+    ))
+    (λ l. (i.0, le_step i.1, λ w b. below_next (λ x. f x ≤ f i.0) (suc n) i.2 l w (omega arith)))
+    (lt_or (f i.0) (f (suc n)))
 
 abbrev pub distinct : List ℕ → Type 0
 distinct [] = Unit {0}
@@ -30,16 +49,46 @@ ascending_distinct (x ∷ xs) t = (λ m. omega (arith, ascending_above x xs t x 
 
 module _ (n : ℕ) (G : Graph) where
   -- v is the best node: no other holds more of U, and each smaller one holds less
-  abbrev pub Best : List ℕ → ℕ → Type 0
-  Best U v = Foremost (gain G U) n v
+  pub record Best (U : List ℕ) (v : ℕ) : Type 0 where
+    pub below : v < n
+    pub most : (w : ℕ) → w < n → gain G U w ≤ gain G U v
+    pub ties : (w : ℕ) → w < v → gain G U w < gain G U v
+
+  top : List ℕ → ℕ → Bool
+  top U v = all (λ w. leb (gain G U w) (gain G U v)) (up_to n)
+
+  top→most : (U : List ℕ) (v : ℕ) → T (top U v) → (w : ℕ) → w < n → gain G U w ≤ gain G U v
+  unfolding top
+  top→most U v t w b = leb→le _ _ (of_all _ _ t _ (has_up_to _ _ b))
+
+  most→top : (U : List ℕ) (v : ℕ) → ((w : ℕ) → w < n → gain G U w ≤ gain G U v) → T (top U v)
+  unfolding top
+  most→top U v f = all_of _ _ (λ w b. le→leb _ _ (f w (of_up_to _ _ b)))
 
   pub best_is : (U : List ℕ) → 0 < n → Best U (best n G U)
-  unfolding best
-  best_is U h = foremost_is (gain G U) n h
+  unfolding best top
+  best_is U h = at (first_below (top U) none n)
+    where
+      at : {r : ℕ} → First (top U) none 0 n r → Best U r
+      at {r} (found lo hi t least) = record {
+        below = omega arith;
+        most = top→most _ _ t;
+        ties = λ w b. less w b (λ e. least w zero-le b (most→top _ _ (λ x c. le_trans (top→most _ _ t _ c) e)));
+      }
+        where
+          less : (w : ℕ) → w < r → (gain G U r ≤ gain G U w → ⊥) → gain G U w < gain G U r
+          less w b g = omega arith
+      at (nothing e miss) =
+          let g = greatest _ _ h in
+          absurd (miss g.0 zero-le (omega arith) (most→top U g.0 g.2))
 
   pub best_of : (U : List ℕ) (v : ℕ) → Best U v → best n G U ≡ v
-  unfolding best
-  best_of U v b = foremost_of (gain G U) n v b
+  unfolding best top
+  best_of U v b =
+      first_is _ _ _ _ b.below (most→top _ _ b.most) (λ y h t. clash y (b.ties y h) (top→most _ _ t _ b.below))
+    where
+      clash : (y : ℕ) → gain G U y < gain G U v → gain G U v ≤ gain G U y → ⊥
+      clash y p q = omega arith
 
   -- the best node holds at least one of a list that is not empty
   pub best_gains : (u : ℕ) (U : List ℕ) → u < n → 0 < gain G (u ∷ U) (best n G (u ∷ U))
@@ -98,34 +147,24 @@ module _ (n : ℕ) (G : Graph) where
       (greedy_below turns (rest (x ∷ U)) (λ v s. b v (of_rest _ _ s).0) _)
       (of_cons _ _ (greedy n G turns (rest (x ∷ U))) m)
 
-  -- ---- a cover of U: every node of U is one of its hubs or a neighbour of one, and it has no more hubs than U nodes
-
-  pub cover_below : (U : List ℕ) → AllBelow U → AllBelow (cover n G U)
-  cover_below U b = greedy_below _ _ b
-
-  pub cover_covers : (U : List ℕ) → AllBelow U → (u : ℕ) → T (has u U) → (h : ℕ) × (h < n) × T (has h (cover n G U)) × T (has u (closed G h))
-  cover_covers U b = greedy_covers _ _ (le_refl _) b
-
-  pub cover_length : (U : List ℕ) → length (cover n G U) ≤ length U
-  cover_length U = greedy_length _ _
-
   high_below : (s : ℕ) → AllBelow (keep (is_high s G) (up_to n))
   high_below s u m = of_up_to _ _ (of_keep _ _ _ m).0
 
   pub hubs_below : (s : ℕ) → AllBelow (hubs n s G)
   unfolding hubs
-  hubs_below s = cover_below _ (high_below s)
+  hubs_below s = greedy_below _ _ (high_below s)
 
   -- every high node is a hub or a hub's neighbour
   pub hubs_cover : (s v : ℕ) → v < n → T (is_high s G v) → (h : ℕ) × (h < n) × T (has h (hubs n s G)) × T (has v (closed G h))
   unfolding hubs
-  hubs_cover s v b t = cover_covers _ (high_below s) v (has_keep _ _ _ (has_up_to _ _ b) t)
+  hubs_cover s v b t = greedy_covers _ _ (le_refl _) (high_below s) v (has_keep _ _ _ (has_up_to _ _ b) t)
 
   -- there are at most n hubs
   pub hubs_length : (s : ℕ) → length (hubs n s G) ≤ n
   unfolding hubs
   hubs_length s =
-      omega (arith, cover_length (keep (is_high s G) (up_to n)), keep_length (is_high s G) (up_to n), length_up_to n)
+      let U = keep (is_high s G) (up_to n) in
+      omega (arith, greedy_length (length U) U, keep_length (is_high s G) (up_to n), length_up_to n)
 
   -- where all nodes are low there is none
   pub no_hubs : (s : ℕ) → ((v : ℕ) → v < n → length (G v) < s) → hubs n s G ≡ []
@@ -171,40 +210,6 @@ module _ (n : ℕ) (G : Graph) where
   pub hubs_distinct : (s : ℕ) → distinct (hubs n s G)
   unfolding hubs
   hubs_distinct s = greedy_distinct _ _ (high_below s)
-
--- the hubs depend on the closed neighbourhoods alone
-module _ (n : ℕ) (G H : Graph) (same : (v x : ℕ) → v < n → has x (closed G v) ≡ has x (closed H v)) where
-  near_same : (v : ℕ) → v < n → ◌≡◌ {A = ℕ → Bool} (λ x. has x (closed G v)) (λ x. has x (closed H v))
-  near_same v h = fun_ext (λ x. same v x h)
-
-  gain_same : (U : List ℕ) (v : ℕ) → v < n → gain G U v ≡ gain H U v
-  unfolding gain
-  gain_same U v h = ap (λ (p : ℕ → Bool). length (keep p U)) (near_same v h)
-
-  best_same : (U : List ℕ) → 0 < n → best n G U ≡ best n H U
-  best_same U h =
-      let b = best_is n G U h in
-      sym (best_of n H U (best n G U) (record {
-        below = b.below;
-        most = λ w l. omega (arith, b.most w l, gain_same U w l, gain_same U (best n G U) b.below);
-        ties = λ w l. omega (arith, b.ties w l, b.below, gain_same U w (omega (arith, b.below)), gain_same U (best n G U) b.below);
-      }))
-
-  greedy_same : (turns : ℕ) (U : List ℕ) → AllBelow n G U → greedy n G turns U ≡ greedy n H turns U
-  unfolding greedy
-  greedy_same zero U b = refl
-  greedy_same (suc turns) [] b = refl
-  greedy_same (suc turns) (x ∷ U) b =
-      let some : 0 < n = omega (arith, b x (has_head x U)) in
-      let hub = best_same (x ∷ U) some in
-      let left : rest n G (x ∷ U) ≡ rest n H (x ∷ U) =
-      ap (λ (p : ℕ → Bool). keep (λ v. not (p v)) (x ∷ U)) (near_same (best n G (x ∷ U)) (best_is n G (x ∷ U) some).below)
-      ∙ ap (λ (h : ℕ). keep (λ v. not (has v (closed H h))) (x ∷ U)) hub in
-      ap₂ (λ (h : ℕ) (l : List ℕ). h ∷ l) hub
-      (greedy_same turns (rest n G (x ∷ U)) (λ v s. b v (of_rest n G (x ∷ U) v s).0) ∙ ap (greedy n H turns) left)
-
-  pub cover_same : (U : List ℕ) → ((u : ℕ) → T (has u U) → u < n) → cover n G U ≡ cover n H U
-  cover_same U b = greedy_same (length U) U b
 
 -- in a graph, every high node is a hub or linked to one
 pub high_linked : (n s : ℕ) (G : Graph) → IsGraph n G → (v : ℕ) → v < n → T (is_high s G v)

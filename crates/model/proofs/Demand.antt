@@ -14,7 +14,7 @@ use lib.ListN.{length, replicate, take, length-append, length-replicate}
 use lib.Seq.{take_at}
 use Rattle.model.specs.declared.Route.TheVariants.{NoRoute, Link}
 use Rattle.model.specs.declared.Answer.{Answer}
-use Rattle.model.specs.Answers.{Outcome, refused, answered, map_answer}
+use Rattle.model.specs.Answers.{Outcome, refused, answered}
 use Rattle.model.specs.Basics.{none, over}
 use Rattle.model.specs.Graph.{Edges, Chain, Fewest, linked}
 use Rattle.model.specs.Survey.{Graph, neighbours_of, Accepted}
@@ -27,8 +27,7 @@ use Rattle.model.specs.TwoOrFour.{test_result}
 use Rattle.model.specs.Building.{AfterBuilding, built, build_refusals, refuse_build, building}
 use Rattle.model.specs.Asking.{ask_refusals, asking}
 use Rattle.model.specs.Walking.{AfterWalking, refuse_walk, fit, walk_of, walk_refusals, walking}
-use Rattle.model.specs.Testing.{test_refusals, accepting_by, testing}
-use Rattle.model.specs.Diameter.{figure, estimating, EstimateRight}
+use Rattle.model.specs.Testing.{test_refusals, testing}
 use Rattle.model.specs.Demand.{AllowedAnswer, AskRight, WalkSound, WalkAnswers, WalkRight, RightVerdict, TestRight, BuildRight}
 use Rattle.model.proofs.Outcomes.{never, number_in, judged_done, of_judged, judged_none}
 use Rattle.model.proofs.Tests.{or-false, of_or_false, lt_or}
@@ -41,7 +40,6 @@ use Rattle.model.proofs.Allowance.{allowed, report_one, report_least, report_exa
 use Rattle.model.proofs.Walks.{Chosen, chosen, Given-out, refusal, no_way, walked, fit_short, fit_long, found_longer, walk_given_out}
 use Rattle.model.proofs.BuiltWalks.{report_at, pair_linked, pair_built, walk_built, taken_right}
 use Rattle.model.proofs.Verdicts.{verdict_right}
-use Rattle.model.proofs.Diameter.{figure_right}
 
 -- ---- lists that tables were built into have room for them
 
@@ -119,13 +117,6 @@ asking_passed n full low report a b e =
     let h = of_or_false _ _ p.0.1.1.0 in
     (r.0, r.1, r.2, leb-false n a h.0, leb-false n b h.1, p.1)
 
-pub accepted_by : (n t : ℕ) (starts neighbours : List ℕ) {x : Unit {0}} → accepting_by n t starts neighbours ≡ answered x → Accepted n starts neighbours
-unfolding accepting_by
-accepted_by n t starts neighbours e =
-    let p = (judged_none (test_refusals n t starts neighbours) _ e).0 in
-    let lists = p.1.1 in
-    tests_facts n starts neighbours p.0 lists.0 lists.1.0
-
 short_fit : (w : ℕ) (x : Answer) (l : List ℕ) → ((fit w x (some l)).answer ≡ refused 8) ↔ (w < length l)
 unfolding refuse_walk
 short_fit w x l = (
@@ -139,17 +130,12 @@ module _ {n : ℕ} {starts neighbours : List ℕ} (acc : Accepted n starts neigh
   abbrev pub G : Graph
   G = neighbours_of starts neighbours
 
-  -- a threshold that is not refused is accepted with the survey
-  accepting_by_lem : {t : ℕ} → t ≤ 1024 → accepting_by n t starts neighbours ≡ answered tt
-  unfolding accepting_by
-  accepting_by_lem {t} small =
+  -- the test is not refused, and its verdict is right, with every threshold that is not refused
+  pub testing_answers : {t : ℕ} → t ≤ 1024 → testing n t starts neighbours ≡ answered (test_result n (in_force n t) G)
+  unfolding testing
+  testing_answers {t} small =
       judged_done refused (test_refusals n t starts neighbours) _
       (sized _ _ _ acc, (good_threshold t small, (starts_long _ _ _ acc, (is_survey_lem _ _ _ acc, tt))))
-
-  -- so there is a verdict, and it is right
-  testing_answers : {t : ℕ} → t ≤ 1024 → testing n t starts neighbours ≡ answered (test_result n (in_force n t) G)
-  unfolding testing
-  testing_answers {t} small = ap (map_answer (λ _. test_result n (in_force n t) G)) (accepting_by_lem small)
 
   testing_verdict : {t : ℕ} → t ≤ 1024 → RightVerdict n (linked n G) (testing n t starts neighbours)
   testing_verdict {t} small = record {
@@ -157,11 +143,6 @@ module _ {n : ℕ} {starts neighbours : List ℕ} (acc : Accepted n starts neigh
     given = testing_answers small;
     right = verdict_right _ _ _ acc.lists.graph acc.size;
   }
-
-  -- and there is an estimate of the diameter, which is right too
-  estimating_answers : {t : ℕ} → t ≤ 1024 → estimating n t starts neighbours ≡ answered (figure n (in_force n t) G)
-  unfolding estimating
-  estimating_answers {t} small = ap (map_answer (λ _. figure n (in_force n t) G)) (accepting_by_lem small)
 
   -- with tables that are long enough and two nodes below n, no refusal of asking and walking applies, up to 10
   module _ (full low report : List ℕ) (hf : n * n ≤ length full) (hl : n * n ≤ length low) (hr : n * n ≤ length report) {a b : ℕ}
@@ -285,13 +266,6 @@ walking_right n t starts neighbours full low report a b w acc small own ha hb = 
 
 pub testing_right : (n t : ℕ) (starts neighbours : List ℕ) → TestRight n t starts neighbours (testing n t starts neighbours)
 testing_right n t starts neighbours acc small = testing_verdict acc small
-
-pub estimating_right : (n t : ℕ) (starts neighbours : List ℕ) → EstimateRight n t starts neighbours (estimating n t starts neighbours)
-estimating_right n t starts neighbours acc small = record {
-  value = figure n (in_force n t) (neighbours_of starts neighbours);
-  given = estimating_answers acc small;
-  right = figure_right acc _;
-}
 
 pub building_right : (n t : ℕ) (starts neighbours full low report list : List ℕ)
     → BuildRight n t starts neighbours (building n t starts neighbours full low report list)

@@ -2,10 +2,7 @@
 pub mod Tests
 pub mod Lists
 pub mod Ascending
-pub mod Sums
 pub mod Loops
-pub mod Foremost
-pub mod Greatest
 pub mod Outcomes
 pub mod Chains
 pub mod Threshold
@@ -17,8 +14,6 @@ pub mod Allowance
 pub mod Walks
 pub mod BuiltWalks
 pub mod Verdicts
-pub mod Nearest
-pub mod Diameter
 pub mod Demand
 pub mod Numbers
 pub mod Lines
@@ -34,4 +29,3 @@ pub mod Fronts
 pub mod Listing
 pub mod Starred
 pub mod FileCases
-pub mod FigureCases

@@ -8,7 +8,7 @@ use Prim.Native.Nat.{ℕ, zero, suc, ◌+◌, ◌-◌, ◌≤◌, ◌<◌, suc-l
 use native.Mathlib.Nat.{le_step, le_refl, add-zero, add-suc, suc-add, zero-add}
 use native.Mathlib.Omega.{arith}
 use lib.Dec.{T, eqb, eqb→eq, eqb_refl}
-use lib.ListN.{length, take}
+use lib.ListN.{length}
 use Rattle.model.specs.Basics.{if◌then◌else◌, from, up_to, has, any, all, keep, first_of, gather, same}
 use Rattle.model.proofs.Tests.{and_l, and_r, and_i, or_l, or_r, or_e, eq_or}
 
@@ -366,11 +366,6 @@ has_append x (y ∷ k) l h = ⊎_elim
     (λ r. or_r (eqb x y) _ (has_append x k l r))
     (or_e (eqb x y) _ h)
 
-pub has_both : (x : ℕ) (k l : List ℕ) → has x (k ++ l) ≡ (has x k || has x l)
-unfolding has
-has_both x [] l = refl
-has_both x (y ∷ k) l = ap (λ (b : Bool). eqb x y || b) (has_both x k l) ∙ sym (or_assoc (eqb x y) (has x k) (has x l))
-
 pub all_append : (p : ℕ → Bool) (k l : List ℕ) → T (all p k) → T (all p l) → T (all p (k ++ l))
 unfolding all
 all_append p [] l h m = m
@@ -418,40 +413,6 @@ gather_map f g (x ∷ l) = rw (gather_map f g l)
 pub has_later : (x : ℕ) (k l : List ℕ) → T (has x l) → T (has x (k ++ l))
 has_later x [] l h = h
 has_later x (y ∷ k) l h = has_tail _ _ _ (has_later x k l h)
-
--- ---- membership in values, in lists gathered, and in the front of a list
-
-pub has_map : (f : ℕ → ℕ) (l : List ℕ) (x : ℕ) → T (has x l) → T (has (f x) (map f l))
-has_map f [] x m = absurd (none_in x m)
-has_map f (y ∷ l) x m = ⊎_elim (λ e. rw e (has_head _ _)) (λ r. has_tail _ _ _ (has_map f l x r)) (of_cons x y l m)
-
-pub of_map : (f : ℕ → ℕ) (l : List ℕ) (y : ℕ) → T (has y (map f l)) → (x : ℕ) × T (has x l) × (y ≡ f x)
-of_map f [] y m = absurd (none_in y m)
-of_map f (x ∷ l) y m = ⊎_elim
-    (λ e. (x, has_head _ _, e))
-    (λ r. let i = of_map f l y r in (i.0, has_tail _ _ _ i.1, i.2))
-    (of_cons y (f x) (map f l) m)
-
-pub has_gather : (f : ℕ → List ℕ) (l : List ℕ) (v x : ℕ) → T (has v l) → T (has x (f v)) → T (has x (gather f l))
-unfolding gather
-has_gather f [] v x m h = absurd (none_in v m)
-has_gather f (y ∷ l) v x m h = ⊎_elim
-    (λ e. has_append x (f y) _ (subst (λ (w : ℕ). T (has x (f w))) e h))
-    (λ r. has_later x (f y) _ (has_gather f l v x r h))
-    (of_cons v y l m)
-
-pub of_gather : (f : ℕ → List ℕ) (l : List ℕ) (x : ℕ) → T (has x (gather f l)) → (v : ℕ) × T (has v l) × T (has x (f v))
-unfolding gather
-of_gather f [] x m = absurd (none_in x m)
-of_gather f (y ∷ l) x m = ⊎_elim
-    (λ h. (y, has_head _ _, h))
-    (λ h. let i = of_gather f l x h in (i.0, has_tail _ _ _ i.1, i.2))
-    (of_append x (f y) _ m)
-
-pub of_take : (i : ℕ) (l : List ℕ) (x : ℕ) → T (has x (take i l)) → T (has x l)
-of_take zero l x m = absurd (none_in x m)
-of_take (suc i) [] x m = absurd (none_in x m)
-of_take (suc i) (y ∷ l) x m = ⊎_elim (λ e. rw e (has_head _ _)) (λ r. has_tail _ _ _ (of_take i l x r)) (of_cons x y (take i l) m)
 
 -- a test that always passes keeps all
 pub keep_all : (p : ℕ → Bool) (l : List ℕ) → ((x : ℕ) → T (has x l) → T (p x)) → keep p l ≡ l

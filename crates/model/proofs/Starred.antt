@@ -31,7 +31,7 @@ use Rattle.model.specs.Reading.{graph_of, starts_of, neighbours_from, AfterReadi
 use Rattle.model.specs.Building.{AfterBuilding, built, building}
 use Rattle.model.specs.Asking.{asking}
 use Rattle.model.specs.Walking.{AfterWalking, refuse_walk, fit, walk_of, walking}
-use Rattle.model.specs.Testing.{accepting_by, testing}
+use Rattle.model.specs.Testing.{testing}
 use Rattle.model.specs.Listing.{report_text, route_text, pair_line, pairs_below, pair_lines, listing_of, listing_text, listing}
 
 course : String
@@ -163,6 +163,6 @@ unfolding starred reply tables graph size nodes_in lists bytes triangle chain si
     low_links low_table sum via report_table
     taken attaining choose pair_by pair before next steps by_low to_hub join by_link walk_nodes sources verdict_of test_result
     named on_links link_of read_on read_links parsed limits_of counts_of parse_links parse graph_of starts_of neighbours_from reading_of reading
-    built building asking refuse_walk fit walk_of walking accepting_by testing
+    built building asking refuse_walk fit walk_of walking testing
     digits_within digits line_of ordered report_text route_text pair_line pairs_below pair_lines listing_of listing_text listing
 starred_cases = refl

@@ -82,14 +82,6 @@ of_or_false false b e = (refl, e)
 pub or_turned : (a b c : Bool) → (a || (b || c)) ≡ ((b || a) || c)
 or_turned a b c = sym (or_assoc a b c) ∙ rw (or_comm a b)
 
-pub or_rotated : (a b c : Bool) → (a || (b || c)) ≡ (b || (c || a))
-or_rotated true true c = refl
-or_rotated true false true = refl
-or_rotated true false false = refl
-or_rotated false true c = refl
-or_rotated false false true = refl
-or_rotated false false false = refl
-
 pub not_and : (a b : Bool) → not (a && b) ≡ (not a || not b)
 not_and true b = refl
 not_and false b = refl

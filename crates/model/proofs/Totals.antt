@@ -1,20 +1,78 @@
 -- All nodes together have two neighbours for each link.
 -- Assumes nothing.
-use mathlib.Core.Path.{◌≡◌, refl, sym, ap, ap₂, ◌∙◌, subst}
+use mathlib.Core.Path.{◌≡◌, refl, sym, ap, ap₂, ◌∙◌, subst, fun_ext}
 use mathlib.Core.Logic.{◌⊎◌, inl, inr, ⊎_elim}
 use mathlib.Core.Bool.{Bool, true, false, ◌&&◌, ◌||◌, and_comm, or_comm, or-false}
 use mathlib.Core.List.{List, [], ◌∷◌}
-use Prim.Native.Nat.{ℕ, ◌+◌, ◌*◌, ◌<◌}
+use Prim.Native.Nat.{ℕ, zero, suc, ◌+◌, ◌*◌, ◌≤◌, ◌<◌, zero-le}
 use native.Mathlib.Nat.{zero-add}
 use native.Mathlib.Omega.{arith}
+use borrow.Author.Tests.{eqb-true, eqb-false}
 use lib.Dec.{T, eqb, eqb→eq}
-use lib.ListN.{length}
-use Rattle.model.specs.Basics.{up_to}
+use lib.ListN.{length, length-append}
+use Rattle.model.specs.Basics.{if◌then◌else◌, from, up_to, keep, gather}
 use Rattle.model.specs.Reading.{named, graph_of}
 use Rattle.model.proofs.Tests.{and_l, and_r, or_e, false_no, or_turned}
-use Rattle.model.proofs.Sums.{bit, sum_over, gather_sum, keep_sum, sum_same, sum_add, sum_zero, once}
 use Rattle.model.proofs.Links.{Fresh, AllFresh}
 use Rattle.model.proofs.SurveyLists.{total}
+
+-- ---- sums over a list
+
+bit : Bool → ℕ
+bit true = 1
+bit false = 0
+
+sum_over : (ℕ → ℕ) → List ℕ → ℕ
+sum_over f [] = 0
+sum_over f (x ∷ xs) = f x + sum_over f xs
+
+gather_sum : (f : ℕ → List ℕ) (l : List ℕ) → length (gather f l) ≡ sum_over (λ x. length (f x)) l
+unfolding gather sum_over
+gather_sum f [] = refl
+gather_sum f (x ∷ l) = length-append (f x) _ ∙ rw (gather_sum f l)
+
+keep_sum : (p : ℕ → Bool) (l : List ℕ) → length (keep p l) ≡ sum_over (λ x. bit (p x)) l
+unfolding keep sum_over bit
+keep_sum p [] = refl
+keep_sum p (x ∷ l) = at (p x) (keep_sum p l)
+  where
+    at : (b : Bool) → length (keep p l) ≡ sum_over (λ x. bit (p x)) l
+        → length (if b then x ∷ keep p l else keep p l) ≡ bit b + sum_over (λ x. bit (p x)) l
+    at true e = omega (arith, e)
+    at false e = omega (arith, e)
+
+sum_same : (f g : ℕ → ℕ) (l : List ℕ) → ((x : ℕ) → f x ≡ g x) → sum_over f l ≡ sum_over g l
+sum_same f g l e = rw (fun_ext e)
+
+sum_add : (f g : ℕ → ℕ) (l : List ℕ) → sum_over (λ x. f x + g x) l ≡ sum_over f l + sum_over g l
+unfolding sum_over
+sum_add f g [] = refl
+sum_add f g (x ∷ l) = omega (arith, sum_add f g l)
+
+sum_zero : (l : List ℕ) → sum_over (λ x. 0) l ≡ 0
+unfolding sum_over
+sum_zero [] = refl
+sum_zero (x ∷ l) = omega (arith, sum_zero l)
+
+-- a number stands once among k, .., k + m - 1, or not at all
+once_from : (a k m : ℕ)
+    → ((a < k) → sum_over (λ x. bit (eqb a x)) (from k m) ≡ 0) × (k ≤ a → a < k + m → sum_over (λ x. bit (eqb a x)) (from k m) ≡ 1)
+unfolding sum_over from bit
+once_from a k zero = (λ h. refl, λ h l. absurd (omega arith))
+once_from a k (suc m) = at (once_from a (suc k) m) (eqb a k) refl
+  where
+    R : ℕ
+    R = sum_over (λ x. bit (eqb a x)) (from (suc k) m)
+
+    at : ((a < suc k) → R ≡ 0) × (suc k ≤ a → a < suc k + m → R ≡ 1) → (b : Bool) → eqb a k ≡ b
+        → ((a < k) → bit b + R ≡ 0) × (k ≤ a → a < k + suc m → bit b + R ≡ 1)
+    at i true e = (λ h. let q = eqb-true _ k e in absurd (omega arith), λ h l. let q = eqb-true a k e in omega (arith, i.0 (omega arith)))
+    at i false e =
+        (λ h. omega (arith, i.0 (omega arith)), λ h l. let q = eqb-false _ k e in omega (arith, i.1 (omega arith) (omega arith)))
+
+once : (a n : ℕ) → a < n → sum_over (λ x. bit (eqb a x)) (up_to n) ≡ 1
+unfolding up_to
+once a n h = (once_from _ _ _).1 zero-le (omega arith)
 
 -- ---- how many ordered pairs of nodes below n are linked
 

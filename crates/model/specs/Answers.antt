@@ -8,7 +8,6 @@ use Rattle.model.specs.declared.Refusal.TheVariants.{ShortList, NotSurvey, NoNod
 use Rattle.model.specs.declared.Size.{Size}
 use Rattle.model.specs.declared.Answer.{Answer}
 use Rattle.model.specs.declared.TestResult.{TestResult}
-use Rattle.model.specs.declared.Estimate.{Estimate}
 use Rattle.model.specs.declared.Accepting.{Accepting}
 use Rattle.model.specs.declared.Accepting.TheVariants as accepting
 use Rattle.model.specs.declared.Reading.{Reading}
@@ -19,8 +18,6 @@ use Rattle.model.specs.declared.Asking.{Asking}
 use Rattle.model.specs.declared.Asking.TheVariants as asking
 use Rattle.model.specs.declared.Testing.{Testing}
 use Rattle.model.specs.declared.Testing.TheVariants as testing
-use Rattle.model.specs.declared.Estimating.{Estimating}
-use Rattle.model.specs.declared.Estimating.TheVariants as estimating
 use Rattle.model.specs.Basics.{if◌then◌else◌}
 
 -- a refusal with its number, or the answer's value (rule 10.1)
@@ -98,8 +95,3 @@ pair_answer (asking.Answered x) = answered x
 abbrev pub test_answer : Testing → Outcome TestResult
 test_answer (testing.Refused r) = refused (number r)
 test_answer (testing.Answered x) = answered x
-
--- of estimating the diameter, rule 14.6
-abbrev pub estimate_answer : Estimating → Outcome Estimate
-estimate_answer (estimating.Refused r) = refused (number r)
-estimate_answer (estimating.Answered x) = answered x

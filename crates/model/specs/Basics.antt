@@ -1,7 +1,6 @@
 -- Small functions on tests and lists, of which the definitions are made. Only `none` and `over` state a rule.
 -- Assumes nothing.
-use Rattle.std.specs.Prelude.{Bool, true, false, ◌&&◌, ◌||◌, ℕ, zero, suc, max, eqb, length, drop}
-use mathlib.Core.List.{List, [], ◌∷◌, ◌++◌, foldr}
+use Rattle.std.specs.Prelude.{Bool, true, false, ◌&&◌, ◌||◌, List, [], ◌∷◌, ◌++◌, ℕ, zero, suc, eqb, length, drop}
 use Prim.Native.Char.{code}
 use Prim.Native.String.{String}
 
@@ -50,10 +49,6 @@ first_of p d (x ∷ xs) = let r = first_of p d xs in if p x then x else r
 unfoldable pub gather : {A B : Type 0} → (A → List B) → List A → List B
 gather f [] = []
 gather f (x ∷ xs) = f x ++ gather f xs
-
--- the greatest number of a list, 0 where there is none
-unfoldable pub greatest : List ℕ → ℕ
-greatest l = foldr max 0 l
 
 -- two lists are the same
 unfoldable pub same : List ℕ → List ℕ → Bool

@@ -50,7 +50,3 @@ reach E n a (suc k) = let r = reach E n a k in keep (λ v. has v r || any (λ u.
 -- rule 8.3: the least k with which b is reached; none (rule 5.1) where no chain reaches it
 unfoldable pub fewest : Edges → ℕ → ℕ → ℕ → ℕ
 fewest E n a b = first_of (λ k. has b (reach E n a k)) none (up_to n)
-
--- rule 8.3: the fewest links between two nodes of a survey, or none
-abbrev pub distance : ℕ → Graph → ℕ → ℕ → ℕ
-distance n G = fewest (linked n G) n

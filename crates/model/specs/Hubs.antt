@@ -33,10 +33,6 @@ greedy n G (suc turns) (u ∷ U) =
     let h = best n G (u ∷ U) in
     h ∷ greedy n G turns (keep (λ x. not (has x (closed G h))) (u ∷ U))
 
--- rule 4.6: hubs that cover the nodes of U, in the order chosen: a dominating set of them
-abbrev pub cover : ℕ → Graph → List ℕ → List ℕ
-cover n G U = greedy n G (length U) U
-
--- rule 4.6: the hubs, which cover the high nodes
+-- rule 4.6: the hubs in the order chosen, a dominating set of the high nodes
 unfoldable pub hubs : ℕ → ℕ → Graph → List ℕ
-hubs n s G = cover n G (keep (is_high s G) (up_to n))
+hubs n s G = let U = keep (is_high s G) (up_to n) in greedy n G (length U) U

@@ -33,5 +33,3 @@ pub mod Listing
 pub mod Demand
 -- section 13: DIMACS edge files
 pub mod Dimacs
--- section 14: the farthest two nodes
-pub mod Diameter

@@ -74,13 +74,9 @@ report_of n G full low hs = table n (report_entry n G full low hs)
 unfoldable pub report_table : ℕ → ℕ → Graph → List ℕ
 report_table n s G = report_of n G (full_table n s G) (low_table n s G) (hubs n s G)
 
--- rule 4.7: hubs in the order chosen, then none
-abbrev pub padded : ℕ → (hs : List ℕ) → List ℕ
-padded n hs = hs ++ replicate (n - length hs) none
-
--- rule 4.7, with the hubs of rule 4.6
+-- rule 4.7: the hubs in the order chosen, then none
 unfoldable pub hub_list : ℕ → ℕ → Graph → List ℕ
-hub_list n s G = padded n (hubs n s G)
+hub_list n s G = let hs = hubs n s G in hs ++ replicate (n - length hs) none
 
 -- rule 5.6: the first n × n entries are those of rules 5.2 to 5.5
 pub record AreBuilt (n s : ℕ) (G : Graph) (full low report : List ℕ) : Type 0 where

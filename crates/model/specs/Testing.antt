@@ -2,7 +2,7 @@
 -- Assumes nothing.
 use Rattle.std.specs.Prelude.{not, List, [], ◌∷◌, ℕ, length}
 use Rattle.model.specs.declared.TestResult.{TestResult}
-use Rattle.model.specs.Answers.{Outcome, refused, answered, map_answer, Refusals, ◌when◌, judged}
+use Rattle.model.specs.Answers.{Outcome, refused, answered, Refusals, ◌when◌, judged}
 use Rattle.model.specs.Survey.{neighbours_of, bad_size, short_starts, is_survey}
 use Rattle.model.specs.Threshold.{in_force, bad_threshold}
 use Rattle.model.specs.TwoOrFour.{test_result}
@@ -16,10 +16,7 @@ test_refusals n t starts neighbours =
     ∷ (9 when not (is_survey n starts neighbours))
     ∷ []
 
--- rule 10.10: acceptance of a threshold and of a survey
-unfoldable pub accepting_by : (n t : ℕ) (starts neighbours : List ℕ) → Outcome (Unit {0})
-accepting_by n t starts neighbours = judged refused (test_refusals n t starts neighbours) (answered tt)
-
 -- rule 10.10: refused, or the test with the threshold in force where the caller gives t
 unfoldable pub testing : (n t : ℕ) (starts neighbours : List ℕ) → Outcome TestResult
-testing n t starts neighbours = map_answer (λ _. test_result n (in_force n t) (neighbours_of starts neighbours)) (accepting_by n t starts neighbours)
+testing n t starts neighbours =
+    judged refused (test_refusals n t starts neighbours) (answered (test_result n (in_force n t) (neighbours_of starts neighbours)))

@@ -1,11 +1,11 @@
 -- The two-or-four test (Algorithm 2-vs-4), with its count of searches.
 -- Assumes nothing.
-use Rattle.std.specs.Prelude.{Bool, List, ℕ, eqb, ltb, length}
+use Rattle.std.specs.Prelude.{List, ℕ, eqb, ltb, length}
 use Rattle.model.specs.declared.Verdict.{Verdict}
 use Rattle.model.specs.declared.Verdict.TheVariants.{Parted, Long, Short}
 use Rattle.model.specs.declared.TestResult.{TestResult}
 use Rattle.model.specs.Basics.{none, if◌then◌else◌, up_to, any, first_of}
-use Rattle.model.specs.Graph.{distance}
+use Rattle.model.specs.Graph.{fewest, linked}
 use Rattle.model.specs.Survey.{Graph}
 use Rattle.model.specs.Hubs.{is_low, closed, hubs}
 
@@ -13,16 +13,13 @@ use Rattle.model.specs.Hubs.{is_low, closed, hubs}
 unfoldable pub sources : ℕ → ℕ → Graph → List ℕ
 sources n s G = let v = first_of (is_low s G) none (up_to n) in if eqb v none then hubs n s G else closed G v
 
--- a search from a node of the list misses a node (rule 7.2)
-abbrev pub missed : ℕ → Graph → List ℕ → Bool
-missed n G list = any (λ a. any (λ b. eqb (distance n G a b) none) (up_to n)) list
-
 -- rule 7.2: parted if a search misses a node, else long if one goes deeper than 2, else short. A search goes as deep as the greatest
 -- distance from its source
 unfoldable pub verdict_of : ℕ → Graph → List ℕ → Verdict
 verdict_of n G list =
-    if missed n G list then Parted
-    else if any (λ a. any (λ b. ltb 2 (distance n G a b)) (up_to n)) list then Long
+    let distance : ℕ → ℕ → ℕ = fewest (linked n G) n in
+    if any (λ a. any (λ b. eqb (distance a b) none) (up_to n)) list then Parted
+    else if any (λ a. any (λ b. ltb 2 (distance a b)) (up_to n)) list then Long
     else Short
 
 -- rules 7.2 and 7.3: the verdict, with the count of searches

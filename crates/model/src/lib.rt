@@ -77,13 +77,6 @@ pub struct TestResult {
     pub searches: usize,
 }
 
-// An estimate of the diameter: some two nodes are not joined, or so many links are some two nodes apart.
-#[derive(Drop)]
-pub enum Estimate {
-    Parted,
-    Apart(u16),
-}
-
 // What acceptance of lent lists answers (whether they are a valid survey). A lent list is a slice argument.
 #[derive(Drop)]
 pub enum Accepting {
@@ -118,11 +111,4 @@ pub enum Asking {
 pub enum Testing {
     Refused(Refusal),
     Answered(TestResult),
-}
-
-// What estimating the diameter answers.
-#[derive(Drop)]
-pub enum Estimating {
-    Refused(Refusal),
-    Answered(Estimate),
 }

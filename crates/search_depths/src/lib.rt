@@ -1,9 +1,10 @@
 // How deep searches from some nodes go.
 ghost use Rattle.std.specs.Prelude.{◌≡◌, map, ℕ, ◌<◌, max, T};
-ghost use Rattle.model.specs.Basics.{up_to, has, greatest};
+ghost use Rattle.model.specs.Basics.{up_to, has};
 ghost use Rattle.model.specs.Graph.{fewest, linked};
 ghost use Rattle.model.specs.Survey.{neighbours_of, Accepted};
 ghost use Rattle.model.specs.Tables.{rows_of};
+ghost use Rattle.search_depths.specs.Depth.{greatest};
 
 use model::NONE;
 

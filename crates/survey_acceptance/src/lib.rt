@@ -3,7 +3,6 @@ ghost use Rattle.std.specs.Prelude.{true, ◌&&◌, ◌≡◌, ℕ, ◌+◌, ◌
 ghost use Rattle.model.specs.Basics.{all, up_to};
 ghost use Rattle.model.specs.Answers.{accept_answer};
 ghost use Rattle.model.specs.Survey.{is_survey, accepting};
-ghost use Rattle.model.specs.Testing.{accepting_by};
 ghost use Rattle.survey_neighbours.specs.Rows.{Rows};
 ghost use Rattle.survey_acceptance.specs.Matching.{row_fits, Moved};
 
@@ -129,31 +128,18 @@ pub fn is_survey(n: usize, starts: &[u32], neighbours: &[u16]) -> bool
     matched(n, starts, neighbours)
 }
 
-// Acceptance of a threshold and of a survey: refused 2, 14, 8 for `starts`, or 9.
-pub fn accept_by(n: usize, t: usize, starts: &[u32], neighbours: &[u16]) -> Accepting
-    ensures { accept_answer result ≡ accepting_by n t starts.now neighbours.now }
+// Acceptance of a survey: refused 2, 8 for `starts`, or 9.
+pub fn accept(n: usize, starts: &[u32], neighbours: &[u16]) -> Accepting
+    ensures { accept_answer result ≡ accepting n starts.now neighbours.now }
 {
     if base_refusals::bad_size(n) {
         return Accepting::Refused(Refusal::NodeCount);
     }
-    // the tests of 14 and of 8, which are acted on in this order
-    let above = base_refusals::bad_threshold(t);
-    let short = base_refusals::short_starts(n, starts.len());
-    if above {
-        return Accepting::Refused(Refusal::BadThreshold);
-    }
-    if short {
+    if base_refusals::short_starts(n, starts.len()) {
         return Accepting::Refused(Refusal::ShortList);
     }
     if !is_survey(n, starts, neighbours) {
         return Accepting::Refused(Refusal::NotSurvey);
     }
     Accepting::Accepted
-}
-
-// Acceptance of a survey: refused 2, 8 for `starts`, or 9. The threshold 0 is never refused.
-pub fn accept(n: usize, starts: &[u32], neighbours: &[u16]) -> Accepting
-    ensures { accept_answer result ≡ accepting n starts.now neighbours.now }
-{
-    accept_by(n, 0, starts, neighbours)
 }

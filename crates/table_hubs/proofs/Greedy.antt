@@ -15,16 +15,15 @@ use Rattle.base_lists.specs.Written.{Wrote}
 use Rattle.base_lists.proofs.Written.{wrote_one, wrote_then, wrote_over, wrote_part, Left, left_all, left_length, left_more, left_none}
 use Rattle.model.specs.Basics.{none, up_to, has, keep, over, first_of}
 use Rattle.model.specs.Survey.{Graph}
-use Rattle.model.specs.Hubs.{is_high, closed, gain, best, greedy, cover, hubs}
-use Rattle.model.specs.Tables.{padded, hub_list}
-use Rattle.model.proofs.Covering.{best_is, best_of, best_gains, cover_length}
-use Rattle.model.proofs.Lists.{has_head, of_keep, of_up_to, keep_split, keep_keep, keep_mono, keep_length, length_up_to, length_pos}
+use Rattle.model.specs.Hubs.{is_high, closed, gain, best, greedy, hubs}
+use Rattle.model.specs.Tables.{hub_list}
+use Rattle.model.proofs.Covering.{best_is, best_of, best_gains, hubs_length}
+use Rattle.model.proofs.Lists.{has_head, of_keep, of_up_to, keep_split, keep_keep, keep_mono, length_pos}
 use Rattle.model.proofs.Loops.{below_next}
 use Rattle.model.proofs.Tests.{eq_or, and_r}
 use Rattle.base_nodeset.specs.NodeSet.{Nodes, member, difference}
-use Rattle.table_hubs.specs.AddedLinks.{with_added}
 use Rattle.table_hubs.specs.Bounds.{Bounded}
-use Rattle.table_hubs.proofs.Sets.{uncovered, none_added, gain_few, some_left, none_left, high_kept, covered_kept}
+use Rattle.table_hubs.proofs.Sets.{uncovered, gain_few, some_left, none_left, high_kept, covered_kept}
 
 -- ---- the best node
 
@@ -157,34 +156,33 @@ module _ (n : ℕ) (G : Graph) where
   fewer (u ∷ U) p b =
       omega (arith, keep_split (λ x. has x (closed G (best n G (u ∷ U)))) (u ∷ U), best_gains n G u U (b u (has_head _ _)))
 
--- the hubs chosen so far to cover U are written, and the greedy choice for the uncovered nodes gives the others
-pub record Choosing (n : ℕ) (G : Graph) (U list₀ list us : List ℕ) (count : ℕ) : Type 0 where
-  pub few : length U ≤ n
+-- the hubs chosen so far are written, and the greedy choice for the uncovered nodes gives the others
+pub record Choosing (n s : ℕ) (G : Graph) (list₀ list us : List ℕ) (count : ℕ) : Type 0 where
   pub size : n ≤ 1024
   pub entries : n ≤ length list₀
   pub long : length us ≡ 16
   pub turns : ℕ
   pub enough : length (uncovered n us) ≤ turns
-  pub written : Left list₀ list 0 count (cover n G U) (greedy n G turns (uncovered n us))
+  pub written : Left list₀ list 0 count (hubs n s G) (greedy n G turns (uncovered n us))
 
-pub choosing_none : {n : ℕ} {G : Graph} {list us : List ℕ} → n ≤ 1024 → n ≤ length list → length us ≡ 16
-    → Choosing n G (uncovered n us) list list us 0
-choosing_none {n} {G} {list} {us} size entries long =
-    let U = uncovered n us in
-    let few : length U ≤ n = omega (arith, keep_length (member us) (up_to n), length_up_to n) in
+pub choosing_none : {n s : ℕ} {G : Graph} {list us : List ℕ} → n ≤ 1024 → n ≤ length list → length us ≡ 16
+    → member us ≡ (λ x. ltb x n && is_high s G x) → Choosing n s G list list us 0
+unfolding hubs
+choosing_none {n} {s} {G} {list} {us} size entries long e =
+    let U = keep (is_high s G) (up_to n) in
+    let high : uncovered n us ≡ U = high_kept n s G e in
     record {
-      few = few;
       size = size;
       entries = entries;
       long = long;
       turns = length U;
-      enough = le_refl _;
-      written = left_all (omega (arith, cover_length n G U));
+      enough = omega (arith, ap length high);
+      written = rw high (left_all (omega (arith, hubs_length n G s)));
     }
 
-module _ {n : ℕ} {G : Graph} {U list₀ list us : List ℕ} {count : ℕ} (c : Choosing n G U list₀ list us count) where
+module _ {n s : ℕ} {G : Graph} {list₀ list us : List ℕ} {count : ℕ} (c : Choosing n s G list₀ list us count) where
   abbrev hs : List ℕ
-  hs = cover n G U
+  hs = hubs n s G
 
   abbrev W : List ℕ
   W = uncovered n us
@@ -193,7 +191,7 @@ module _ {n : ℕ} {G : Graph} {U list₀ list us : List ℕ} {count : ℕ} (c :
   counted : count + length (greedy n G c.turns W) ≤ n
   counted =
       let w = c.written in
-      omega (arith, w.wrote.ends, simp length-append at (ap length w.all), cover_length n G U, c.few)
+      omega (arith, w.wrote.ends, simp length-append at (ap length w.all), hubs_length n G s)
 
   choosing_long : length list ≡ length list₀
   choosing_long = left_length c.written
@@ -222,7 +220,7 @@ module _ {n : ℕ} {G : Graph} {U list₀ list us : List ℕ} {count : ℕ} (c :
     choosing_node q = omega (arith, q, (best_is n G W (omega (arith, choosing_room.0))).below)
 
     chosen : (us' : List ℕ) → length us' ≡ length us → member us' ≡ difference (member us) (λ x. has x (closed G (best n G W)))
-        → Choosing n G U list₀ (set list count (best n G W)) us' (count + 1)
+        → Choosing n s G list₀ (set list count (best n G W)) us' (count + 1)
     chosen us' l m =
         let hub = best n G W in
         let k : uncovered n us' ≡ left n G W = covered_kept n (member us) (λ x. has x (closed G hub)) m in
@@ -230,7 +228,6 @@ module _ {n : ℕ} {G : Graph} {U list₀ list us : List ℕ} {count : ℕ} (c :
         let rest = greedy n G (c.turns - 1) (uncovered n us') in
         let others : greedy n G c.turns W ≡ hub ∷ rest = next ∙ ap (λ (U : List ℕ). hub ∷ greedy n G (c.turns - 1) U) (sym k) in
         record {
-          few = c.few;
           size = c.size;
           entries = c.entries;
           long = l ∙ c.long;
@@ -241,9 +238,9 @@ module _ {n : ℕ} {G : Graph} {U list₀ list us : List ℕ} {count : ℕ} (c :
         }
 
     pub choosing_more : {hub : ℕ} {us' : List ℕ} → hub ≡ best n G (uncovered n us) → length us' ≡ length us
-        → member us' ≡ difference (member us) (λ x. has x (closed G hub)) → Choosing n G U list₀ (set list count hub) us' (count + 1)
+        → member us' ≡ difference (member us) (λ x. has x (closed G hub)) → Choosing n s G list₀ (set list count hub) us' (count + 1)
     choosing_more {us' = us'} q l m =
-        subst (λ (v : ℕ). Choosing n G U list₀ (set list count v) us' (count + 1)) (sym q)
+        subst (λ (v : ℕ). Choosing n s G list₀ (set list count v) us' (count + 1)) (sym q)
         (chosen us' l (m ∙ ap (λ (v : ℕ). difference (member us) (λ x. has x (closed G v))) q))
 
   -- where it is not, the hubs are written, and none behind them
@@ -255,7 +252,8 @@ module _ {n : ℕ} {G : Graph} {U list₀ list us : List ℕ} {count : ℕ} (c :
         left_none (subst (Left list₀ list 0 count hs) no_more c.written)
 
     pub choosing_all : {t : List ℕ} → t ≡ replicate (length (mid_of count (n - count) list)) none
-        → (count ≡ length (cover n G U)) × (put_mid count (n - count) list t ≡ over (padded n (cover n G U)) list₀)
+        → (count ≡ length (hubs n s G)) × (put_mid count (n - count) list t ≡ over (hub_list n s G) list₀)
+    unfolding hub_list
     choosing_all {t} q =
         let k : count ≡ length hs = (wrote_over _ whole).1 in
         let f : length (mid_of count (n - count) list) ≡ n - count = mid_len _ _ _ choosing_part.1 in
@@ -267,26 +265,12 @@ module _ {n : ℕ} {G : Graph} {U list₀ list us : List ℕ} {count : ℕ} (c :
               ∙ ap (λ (b : List ℕ). over (hs ++ b) list₀) (nones ∙ ap (λ (j : ℕ). replicate (n - j) none) k),
         )
 
--- the hubs stand in front of a hub list
-pub cover_front : (n : ℕ) (hs list list' : List ℕ) (count : ℕ) → count ≡ length hs → list' ≡ over (padded n hs) list → take count list' ≡ hs
-unfolding over
-cover_front n hs list list' count c e =
+-- the hubs stand in front of the hub list
+pub hubs_front : (n s : ℕ) (G : Graph) (list list' : List ℕ) (count : ℕ) → count ≡ length (hubs n s G) → list' ≡ over (hub_list n s G) list
+    → take count list' ≡ hubs n s G
+unfolding over hub_list
+hubs_front n s G list list' count c e =
+    let hs : List ℕ = hubs n s G in
     let more : List ℕ = replicate (n - length hs) none in
     ap₂ (λ (k : ℕ) (l : List ℕ). take k l) c (e ∙ append_assoc hs more (drop (length (hs ++ more)) list))
     ∙ take_at hs (more ++ drop (length (hs ++ more)) list) _ refl
-
-pub hubs_front : (n s : ℕ) (G : Graph) (list list' : List ℕ) (count : ℕ) → count ≡ length (hubs n s G) → list' ≡ over (hub_list n s G) list
-    → take count list' ≡ hubs n s G
-unfolding hub_list
-hubs_front n s G list list' count c e = cover_front n (hubs n s G) list list' count c e
-
--- without added links the nodes of the set of high nodes are covered by the hubs
-pub hubs_chosen : (n s : ℕ) (G : Graph) (us list : List ℕ) {count : ℕ} → member us ≡ (λ x. ltb x n && is_high s G x)
-    → {list' : List ℕ} → count ≡ length (cover n (with_added [] G) (uncovered n us))
-    → list' ≡ over (padded n (cover n (with_added [] G) (uncovered n us))) list
-    → (count ≡ length (hubs n s G)) × (list' ≡ over (hub_list n s G) list)
-unfolding hubs hub_list
-hubs_chosen n s G us list high c e =
-    let same : cover n (with_added [] G) (uncovered n us) ≡ cover n G (keep (is_high s G) (up_to n)) =
-    ap₂ (λ (H : Graph) (U : List ℕ). cover n H U) (none_added G) (high_kept n s G high) in
-    (c ∙ ap length same, e ∙ ap (λ (hs : List ℕ). over (padded n hs) list) same)

@@ -3,71 +3,62 @@
 use mathlib.Core.Path.{◌≡◌, refl, sym, ap, ap₂, ◌∙◌, subst, fun_ext}
 use mathlib.Core.Logic.{⊎_elim}
 use mathlib.Core.Bool.{Bool, true, false, not, ◌&&◌, ◌||◌, and_comm, or_comm, or-false}
-use mathlib.Core.List.{List, [], ◌∷◌, ◌++◌, append-nil}
+use mathlib.Core.List.{List, []}
 use Prim.Native.Nat.{ℕ, ◌+◌, ◌*◌, ◌≤◌, ◌<◌}
 use native.Mathlib.Omega.{arith}
 use borrow.Author.Tests.{lt-ltb}
-use lib.Dec.{T, eqb, ltb, ltb→lt}
-use lib.ListN.{length, replicate}
+use lib.Dec.{T, eqb, ltb}
+use lib.ListN.{length, get_or, drop, replicate, drop_of_length-le}
 use Rattle.model.specs.Basics.{up_to, has, keep, first_of}
-use Rattle.model.specs.Survey.{Graph, Accepted, neighbours_of}
+use Rattle.model.specs.Survey.{Graph, IsGraph, Accepted, neighbours_of}
 use Rattle.model.specs.Hubs.{is_high, closed, gain}
-use Rattle.model.proofs.Tests.{and_l, and_r, or_rotated, false_no, same_test}
-use Rattle.model.proofs.Lists.{of_cons, of_append, has_both, has_keep, of_keep, has_up_to, of_up_to, keep_same, keep_keep, keep_none, keep_below, keep_length, length_up_to}
+use Rattle.model.proofs.Tests.{and_r, or_turned}
+use Rattle.model.proofs.Lists.{of_cons, has_keep, has_up_to, of_up_to, keep_same, keep_keep, keep_none, keep_below, keep_length, length_up_to}
 use Rattle.model.proofs.Lists.{First, found, nothing, first_of_lem}
+use Rattle.model.proofs.Loops.{drop_next}
 use Rattle.base_nodeset.specs.NodeSet.{Nodes, member, empty_set, inserted, intersection, difference}
-use Rattle.base_nodeset.specs.Matrix.{edges_in}
 use Rattle.base_nodeset.proofs.Bits.{empty_words}
-use Rattle.base_nodeset.proofs.Words.{past_smallest, member_past}
-use Rattle.table_hubs.specs.AddedLinks.{with_added, links_of, IsAdded}
+use Rattle.base_nodeset.proofs.Words.{past_smallest}
 
--- ---- the closed neighbourhood of a node, with added links
+-- ---- a list of nodes, one more at a time
 
-module _ (rows : List ℕ) (v : ℕ) where
-  added_is : (x : ℕ) → has x (keep (edges_in rows v) (up_to 1024)) ≡ edges_in rows v x
-  unfolding edges_in
-  added_is x = same_test _ _
-      (λ t. (of_keep (edges_in rows v) (up_to 1024) x t).1)
-      (λ t. has_keep (edges_in rows v) (up_to 1024) x (has_up_to 1024 x (ltb→lt x 1024 (and_l (ltb x 1024) _ t))) t)
+-- what is in the set and what is still to be put into it
+pub record Inserted (list w₀ ws : List ℕ) (i : ℕ) : Type 0 where
+  pub same : length ws ≡ length w₀
+  pub says : (x : ℕ) → (has x (drop i list) || member ws x) ≡ (has x list || member w₀ x)
 
-  -- the node is put into the empty set w₀, which gives p, then its own neighbours, which gives q, and then those that are added
-  pub closed_set : (G : Graph) {w₀ own : List ℕ} {p q r : Nodes} → w₀ ≡ replicate 16 0 → p ≡ inserted (member w₀) v
-      → own ≡ G v → q ≡ (λ x. has x own || p x) → r ≡ (λ x. edges_in rows v x || q x) → r ≡ (λ x. has x (closed (with_added rows G) v))
-  unfolding closed with_added has inserted empty_set
-  closed_set G {p = p} empty node own all added =
-      let alone : p ≡ inserted empty_set v = node ∙ ap (λ (m : Nodes). inserted m v) (ap member empty ∙ empty_words 16) in
-      added ∙ fun_ext (λ x.
-      let first : (eqb x v || false) ≡ eqb x v = or-false _ in
-      rw (all, own, alone, first, has_both x (G v) (keep (edges_in rows v) (up_to 1024)), added_is x)
-      (or_rotated (edges_in rows v x) (has x (G v)) (eqb x v) ∙ or_rotated (has x (G v)) (eqb x v) (edges_in rows v x) ∙ ap (λ (b : Bool). eqb x v || b) (or_comm (edges_in rows v x) (has x (G v)))))
+module _ {list w₀ ws : List ℕ} {i : ℕ} (h : Inserted list w₀ ws i) where
+  pub inserted_more : {ws' : List ℕ} → i < length list → length ws' ≡ length ws → member ws' ≡ inserted (member ws) (get_or list i 0)
+      → Inserted list w₀ ws' (i + 1)
+  unfolding has inserted
+  inserted_more l k e = record {
+    same = k ∙ h.same;
+    says = λ x.
+        ap (λ (p : Nodes). has x (drop (i + 1) list) || p x) e
+        ∙ or_turned (has x (drop (i + 1) list)) (eqb x (get_or list i 0)) _
+        ∙ ap (λ (r : List ℕ). has x r || member ws x) (sym (drop_next list i l)) ∙ h.says x;
+  }
 
-  -- the node itself, its own neighbours, and those that are added
-  pub closed_added : (G : Graph) (x : ℕ) → has x (closed (with_added rows G) v) ≡ (eqb x v || (has x (G v) || edges_in rows v x))
-  unfolding closed with_added has
-  closed_added G x = rw (has_both x (G v) (keep (edges_in rows v) (up_to 1024)), added_is x) refl
+  pub inserted_all : length list ≤ i → member ws ≡ (λ x. has x list || member w₀ x)
+  unfolding has
+  inserted_all l = fun_ext (λ x. ap (λ (r : List ℕ). has x r || member ws x) (sym (drop_of_length-le list l)) ∙ h.says x)
 
--- without a matrix there are the survey's links alone
-pub none_added : (G : Graph) → with_added [] G ≡ G
-unfolding with_added edges_in
-none_added G = fun_ext (λ v.
-    ap (λ (l : List ℕ). G v ++ l) (keep_none _ _ (λ x m t. false_no _ (member_past [] (1024 * v + x) (omega arith)) (and_r (ltb x 1024) _ t)))
-    ∙ append-nil _)
+-- ---- the closed neighbourhood of a node
 
-pub is_none_added : (n : ℕ) → IsAdded n []
-unfolding edges_in
-is_none_added n = record {
-  whole = refl;
-  below = λ a b t. absurd (false_no _ (member_past [] (1024 * a + b) (omega arith)) (and_r (ltb b 1024) _ t));
-}
+-- the node is put into the empty set w₀, which gives p, and then its neighbours, which gives q
+pub closed_set : (G : Graph) {v : ℕ} {w₀ row : List ℕ} {p q : Nodes} → w₀ ≡ replicate 16 0 → p ≡ inserted (member w₀) v
+    → row ≡ G v → q ≡ (λ x. has x row || p x) → q ≡ (λ x. has x (closed G v))
+unfolding closed has inserted empty_set
+closed_set G {v} {p = p} empty node own all =
+    let alone : p ≡ inserted empty_set v = node ∙ ap (λ (m : Nodes). inserted m v) (ap member empty ∙ empty_words 16) in
+    all ∙ fun_ext (λ x.
+    ap₂ (λ (l : List ℕ) (m : Nodes). has x l || m x) own alone
+    ∙ ap (λ (b : Bool). has x (G v) || b) (or-false _)
+    ∙ or_comm (has x (G v)) (eqb x v))
 
-closed_below : {n : ℕ} {starts neighbours rows : List ℕ} → Accepted n starts neighbours → IsAdded n rows → (v : ℕ) → v < n
-    → (x : ℕ) → T (has x (closed (links_of starts neighbours rows) v)) → x < n
-unfolding closed with_added
-closed_below {starts = starts} {neighbours = neighbours} {rows = rows} a d v h x t = ⊎_elim
-    (λ e. omega arith)
-    (λ r. ⊎_elim (a.lists.graph.below v x h) (λ m. d.below v x (of_keep (edges_in rows v) (up_to 1024) x m).1)
-    (of_append x (neighbours_of starts neighbours v) _ r))
-    (of_cons x v _ t)
+closed_below : {n : ℕ} {G : Graph} → IsGraph n G → (v : ℕ) → v < n → (x : ℕ) → T (has x (closed G v)) → x < n
+unfolding closed
+closed_below {G = G} g v h x t = ⊎_elim (λ e. omega arith) (λ r. g.below v x h r) (of_cons x v (G v) t)
 
 -- ---- the uncovered nodes
 
@@ -76,19 +67,18 @@ abbrev pub uncovered : ℕ → List ℕ → List ℕ
 uncovered n us = keep (member us) (up_to n)
 
 -- the newly covered nodes are as many as the node gains
-pub gain_words : {n : ℕ} {starts neighbours rows : List ℕ} → Accepted n starts neighbours → IsAdded n rows → (v : ℕ) → v < n
-    → (ns us : List ℕ) → length ns ≡ 16
-    → member ns ≡ intersection (λ x. has x (closed (links_of starts neighbours rows) v)) (member us)
-    → length (keep (member ns) (up_to (64 * length ns))) ≡ gain (links_of starts neighbours rows) (uncovered n us) v
+pub gain_words : {n : ℕ} {starts neighbours : List ℕ} → Accepted n starts neighbours → (v : ℕ) → v < n → (ns us : List ℕ) → length ns ≡ 16
+    → member ns ≡ intersection (λ x. has x (closed (neighbours_of starts neighbours) v)) (member us)
+    → length (keep (member ns) (up_to (64 * length ns))) ≡ gain (neighbours_of starts neighbours) (uncovered n us) v
 unfolding gain intersection
-gain_words {n} {starts} {neighbours} {rows} a d v h ns us l e =
-    let near : Nodes = λ x. has x (closed (links_of starts neighbours rows) v) in
+gain_words {n} {starts} {neighbours} a v h ns us l e =
+    let near : Nodes = λ x. has x (closed (neighbours_of starts neighbours) v) in
     let both : Nodes = λ x. member us x && near x in
     let swapped : member ns ≡ both = e ∙ fun_ext (λ x. and_comm (near x) (member us x)) in
     let k : 64 * length ns ≡ 1024 = omega arith in
     ap₂ (λ (p : Nodes) (m : ℕ). length (keep p (up_to m))) swapped k
     ∙ ap length (
-    keep_below _ _ _ a.size (λ x t. closed_below a d _ h _ (and_r (member us x) (near _) t))
+    keep_below _ _ _ a.size (λ x t. closed_below a.lists.graph _ h _ (and_r (member us x) (near _) t))
     ∙ sym (keep_keep _ _ _))
 
 pub gain_few : (n : ℕ) (G : Graph) (us : List ℕ) (v : ℕ) → gain G (uncovered n us) v ≤ n

@@ -1,2 +1,1 @@
-pub mod AddedLinks
 pub mod Bounds

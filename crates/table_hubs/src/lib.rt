@@ -1,32 +1,34 @@
-// The hubs: a dominating set of the high nodes, or of any others, chosen greedily. Sets of nodes are 64-bit words. Beside the survey's links
-// there may be added ones, which stand in a matrix.
-ghost use Rattle.std.specs.Prelude.{◌≡◌, ◌<◌, ◌≤◌, length, replicate};
+// The hubs: a dominating set of the high nodes, chosen greedily. Sets of nodes are 64-bit words.
+ghost use Rattle.std.specs.Prelude.{◌≡◌, ◌||◌, ℕ, ◌/◌, ◌<◌, ◌≤◌, T, length, replicate};
 ghost use Rattle.model.specs.Basics.{up_to, has, keep, over};
 ghost use Rattle.model.specs.Survey.{neighbours_of, Accepted};
-ghost use Rattle.model.specs.Hubs.{closed, gain, best, cover, hubs};
-ghost use Rattle.model.specs.Tables.{padded, hub_list};
+ghost use Rattle.model.specs.Hubs.{closed, gain, best, hubs};
+ghost use Rattle.model.specs.Tables.{hub_list};
 ghost use Rattle.base_nodeset.specs.NodeSet.{member, intersection, difference};
-ghost use Rattle.table_hubs.specs.AddedLinks.{links_of, IsAdded};
 ghost use Rattle.table_hubs.specs.Bounds.{Bounded};
 
 use model::NONE;
 
+// Puts the nodes of a list into the set.
+fn insert_list(list: &[u16], set: &mut [u64])
+    requires { (x : ℕ) → T (has x list.now) → x / 64 < length set.old }
+    ensures { member set.new ≡ (λ x. has x list.now || member set.old x) }
+{
+    let mut i = 0;
+    while i < list.len() {
+        base_nodeset::insert(set, list[i] as usize);
+        i += 1;
+    }
+}
+
 // The closed neighbourhood of a node, put into the empty set.
-fn insert_closed(
-    n: usize,
-    starts: &[u32],
-    neighbours: &[u16],
-    added: &[u64],
-    v: usize,
-    set: &mut [u64],
-)
-    requires { Accepted n starts.now neighbours.now × IsAdded n added.now × (v < n) × (set.old ≡ replicate 16 0) }
-    ensures { member set.new ≡ (λ x. has x (closed (links_of starts.now neighbours.now added.now) v)) }
+fn insert_closed(n: usize, starts: &[u32], neighbours: &[u16], v: usize, set: &mut [u64])
+    requires { Accepted n starts.now neighbours.now × (v < n) × (set.old ≡ replicate 16 0) }
+    ensures { member set.new ≡ (λ x. has x (closed (neighbours_of starts.now neighbours.now) v)) }
 {
     base_nodeset::insert(set, v);
-    let own = survey_neighbours::own(n, starts, neighbours, v);
-    base_set_lists::insert_list(own, set);
-    base_nodeset::insert_row(added, v, set);
+    let row = survey_neighbours::own(n, starts, neighbours, v);
+    insert_list(row, set);
 }
 
 // The nodes that are newly covered if v becomes a hub: the words of its closed neighbourhood masked with those of the uncovered nodes.
@@ -34,35 +36,27 @@ fn write_newly_covered(
     n: usize,
     starts: &[u32],
     neighbours: &[u16],
-    added: &[u64],
     v: usize,
     uncovered: &[u64],
     newly: &mut [u64],
 )
-    requires { Accepted n starts.now neighbours.now × IsAdded n added.now × (v < n) × (length uncovered.now ≡ 16) × (length newly.old ≡ 16) }
+    requires { Accepted n starts.now neighbours.now × (v < n) × (length uncovered.now ≡ 16) × (length newly.old ≡ 16) }
     ensures { member newly.new
-        ≡ intersection (λ x. has x (closed (links_of starts.now neighbours.now added.now) v)) (member uncovered.now) }
+        ≡ intersection (λ x. has x (closed (neighbours_of starts.now neighbours.now) v)) (member uncovered.now) }
 {
     let mut near = [0u64; 16];
-    insert_closed(n, starts, neighbours, added, v, &mut near);
+    insert_closed(n, starts, neighbours, v, &mut near);
     base_nodeset::write_intersection(&near, uncovered, newly);
 }
 
 // How many nodes are newly covered if v becomes a hub: the ones of that set are counted.
-fn gain_of(
-    n: usize,
-    starts: &[u32],
-    neighbours: &[u16],
-    added: &[u64],
-    v: usize,
-    uncovered: &[u64],
-) -> u16
-    requires { Accepted n starts.now neighbours.now × IsAdded n added.now × (v < n) × (length uncovered.now ≡ 16) }
-    ensures { result ≡ gain (links_of starts.now neighbours.now added.now)
+fn gain_of(n: usize, starts: &[u32], neighbours: &[u16], v: usize, uncovered: &[u64]) -> u16
+    requires { Accepted n starts.now neighbours.now × (v < n) × (length uncovered.now ≡ 16) }
+    ensures { result ≡ gain (neighbours_of starts.now neighbours.now)
         (keep (member uncovered.now) (up_to n)) v }
 {
     let mut newly = [0u64; 16];
-    write_newly_covered(n, starts, neighbours, added, v, uncovered, &mut newly);
+    write_newly_covered(n, starts, neighbours, v, uncovered, &mut newly);
     base_nodeset::count(&newly) as u16
 }
 
@@ -72,15 +66,14 @@ fn best_node(
     n: usize,
     starts: &[u32],
     neighbours: &[u16],
-    added: &[u64],
     uncovered: &[u64],
     bounds: &mut [u16],
 ) -> usize
-    requires accepted { Accepted n starts.now neighbours.now × IsAdded n added.now × (length uncovered.now ≡ 16) × (n ≤ length bounds.old) }
-    requires bounded { Bounded n (links_of starts.now neighbours.now added.now) (keep (member uncovered.now) (up_to n)) bounds.old }
-    ensures value { result ≡ best n (links_of starts.now neighbours.now added.now)
+    requires accepted { Accepted n starts.now neighbours.now × (length uncovered.now ≡ 16) × (n ≤ length bounds.old) }
+    requires bounded { Bounded n (neighbours_of starts.now neighbours.now) (keep (member uncovered.now) (up_to n)) bounds.old }
+    ensures value { result ≡ best n (neighbours_of starts.now neighbours.now)
         (keep (member uncovered.now) (up_to n)) }
-    ensures bounded_2 { Bounded n (links_of starts.now neighbours.now added.now)
+    ensures bounded_2 { Bounded n (neighbours_of starts.now neighbours.now)
         (keep (member uncovered.now) (up_to n)) bounds.new }
 {
     let mut node = 0;
@@ -88,7 +81,7 @@ fn best_node(
     let mut v = 0;
     while v < n {
         if most < bounds[v] {
-            let g = gain_of(n, starts, neighbours, added, v, uncovered);
+            let g = gain_of(n, starts, neighbours, v, uncovered);
             bounds[v] = g;
             if most < g {
                 node = v;
@@ -101,57 +94,15 @@ fn best_node(
 }
 
 // Takes the nodes that v newly covers out of the uncovered nodes.
-fn cover(
-    n: usize,
-    starts: &[u32],
-    neighbours: &[u16],
-    added: &[u64],
-    v: usize,
-    uncovered: &mut [u64],
-)
-    requires { Accepted n starts.now neighbours.now × IsAdded n added.now × (v < n) × (length uncovered.old ≡ 16) }
+fn cover(n: usize, starts: &[u32], neighbours: &[u16], v: usize, uncovered: &mut [u64])
+    requires { Accepted n starts.now neighbours.now × (v < n) × (length uncovered.old ≡ 16) }
     ensures { member uncovered.new
         ≡ difference (member uncovered.old)
-        (λ x. has x (closed (links_of starts.now neighbours.now added.now) v)) }
+        (λ x. has x (closed (neighbours_of starts.now neighbours.now) v)) }
 {
     let mut newly = [0u64; 16];
-    write_newly_covered(n, starts, neighbours, added, v, uncovered, &mut newly);
+    write_newly_covered(n, starts, neighbours, v, uncovered, &mut newly);
     base_nodeset::subtract(uncovered, &newly);
-}
-
-// Writes hubs that cover the nodes of a set, in the order chosen, and then none into the first n entries of the list; returns their count.
-pub fn choose_cover(
-    n: usize,
-    starts: &[u32],
-    neighbours: &[u16],
-    added: &[u64],
-    nodes: [u64; 16],
-    list: &mut [u16],
-) -> usize
-    requires { Accepted n starts.now neighbours.now × IsAdded n added.now × (n ≤ length list.old) }
-    ensures value { result ≡ length (cover n (links_of starts.now neighbours.now added.now)
-        (keep (member nodes) (up_to n))) }
-    ensures list_after { list.new
-        ≡ over (padded n (cover n (links_of starts.now neighbours.now added.now)
-        (keep (member nodes) (up_to n)))) list.old }
-{
-    let mut uncovered = nodes;
-    // bounds on what the nodes gain: as uncovered nodes become fewer, no node gains more than before
-    let mut bounds = [1024u16; 1024];
-    let mut count = 0;
-    loop {
-        // the smallest uncovered node; where it is not below n, every node is covered
-        let first = base_nodeset::smallest(&uncovered);
-        if n <= first {
-            break;
-        }
-        let hub = best_node(n, starts, neighbours, added, &uncovered, &mut bounds);
-        list[count] = hub as u16;
-        count += 1;
-        cover(n, starts, neighbours, added, hub, &mut uncovered);
-    }
-    base_lists::fill16(&mut list[count..n], NONE);
-    count
 }
 
 // Writes the hubs for threshold s, in the order chosen, and then none into the first n entries of the list; returns the count of hubs.
@@ -167,8 +118,22 @@ pub fn choose_hubs(
     ensures list_after { list.new
         ≡ over (hub_list n s (neighbours_of starts.now neighbours.now)) list.old }
 {
-    let mut high = [0u64; 16];
-    table_degree_split::high_nodes(n, s, starts, neighbours, &mut high);
-    let none = [0u64; 0];
-    choose_cover(n, starts, neighbours, &none, high, list)
+    let mut uncovered = [0u64; 16];
+    table_degree_split::high_nodes(n, s, starts, neighbours, &mut uncovered);
+    // bounds on what the nodes gain: as uncovered nodes become fewer, no node gains more than before
+    let mut bounds = [1024u16; 1024];
+    let mut count = 0;
+    loop {
+        // the smallest uncovered node; where it is not below n, every high node is covered
+        let first = base_nodeset::smallest(&uncovered);
+        if n <= first {
+            break;
+        }
+        let hub = best_node(n, starts, neighbours, &uncovered, &mut bounds);
+        list[count] = hub as u16;
+        count += 1;
+        cover(n, starts, neighbours, hub, &mut uncovered);
+    }
+    base_lists::fill16(&mut list[count..n], NONE);
+    count
 }

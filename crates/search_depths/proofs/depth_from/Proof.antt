@@ -6,12 +6,13 @@ use Prim.Native.Nat.{ℕ, ◌≤◌}
 use native.Mathlib.Omega.{arith}
 use lib.ListN.{length, take, drop, replicate, length-append, length-replicate}
 use lib.Seq.{take_at}
-use Rattle.model.specs.Basics.{none, up_to, greatest}
+use Rattle.model.specs.Basics.{none, up_to}
 use Rattle.model.specs.Graph.{fewest, linked}
 use Rattle.model.specs.Survey.{neighbours_of}
 use Rattle.model.proofs.Tests.{true_T}
 use Rattle.model.proofs.Entries.{length_row}
 use Rattle.search_one_source.proofs.AllowedNodes.{all_open, all_counted, search_all}
+use Rattle.search_depths.specs.Depth.{greatest}
 use Rattle.search_depths.proofs.Depths.{front_none}
 use borrow.Author.Rules.{rules}
 use Rattle.search_depths.proofs.depth_from.Statement.{statement}

@@ -3,7 +3,7 @@
 use mathlib.Core.Path.{refl}
 use mathlib.Core.Logic.{⊎_elim}
 use Prim.Native.Nat.{◌-◌}
-use Rattle.table_hubs.specs.AddedLinks.{links_of}
+use Rattle.model.specs.Survey.{neighbours_of}
 use Rattle.table_hubs.proofs.Sets.{uncovered}
 use Rattle.table_hubs.proofs.Greedy.{Seeking, seeking_room, seeking_taken, seeking_left, seeking_passed, leading_best}
 use borrow.Author.Rules.{rules}
@@ -11,14 +11,13 @@ use Rattle.table_hubs.proofs.best_node.Statement.{statement}
 use Rattle.table_hubs.proofs.best_node.Tie as tie
 
 abbrev invariant-loop : tie.invariant-loop
-invariant-loop n starts neighbours added us bounds₀ node₀ most₀ v₀ bounds node most v = Seeking n (links_of starts neighbours added) (uncovered n us) bounds₀ bounds node most v
+invariant-loop n starts neighbours us bounds₀ node₀ most₀ v₀ bounds node most v = Seeking n (neighbours_of starts neighbours) (uncovered n us) bounds₀ bounds node most v
 
 abbrev decreases-loop : tie.decreases-loop
-decreases-loop n starts neighbours added us bounds₀ node₀ most₀ v₀ bounds node most v = n - v
+decreases-loop n starts neighbours us bounds₀ node₀ most₀ v₀ bounds node most v = n - v
 
 loop-holds : tie.Need-loop-init invariant-loop decreases-loop
-loop-holds c = let pre = c.before.before.before.before.before.requires in record
-    { room = pre.0.3; same = refl; leading = search rules; bounded = pre.1 }
+loop-holds c = let pre = c.before.before.before.before.requires in record { room = pre.0.2; same = refl; leading = search rules; bounded = pre.1 }
 
 mul-if1 : tie.Need-overflow-mul-if1 invariant-loop decreases-loop
 mul-if1 c = search rules

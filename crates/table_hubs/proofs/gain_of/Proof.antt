@@ -3,7 +3,7 @@
 use mathlib.Core.Path.{◌≡◌, ◌∙◌}
 use native.Mathlib.Omega.{arith}
 use Rattle.model.specs.Hubs.{gain}
-use Rattle.table_hubs.specs.AddedLinks.{links_of}
+use Rattle.model.specs.Survey.{neighbours_of}
 use Rattle.table_hubs.proofs.Sets.{uncovered, gain_words, gain_few}
 use borrow.Author.Rules.{rules}
 use Rattle.table_hubs.proofs.gain_of.Statement.{statement}
@@ -21,18 +21,17 @@ slice-aggregate-count c = search rules
 count-requires : tie.Need-count-requires
 count-requires c κs = search rules
 
-counted : (c : tie.After-count) → (let args = c.before.before.before.before.before.before.before.before.before.args in
-    c.count.result ≡ gain (links_of args.starts.now args.neighbours.now args.added.now) (uncovered args.n args.uncovered.now) args.v)
+counted : (c : tie.After-count) → (let args = c.before.before.before.before.before.before.before.before.args in
+    c.count.result ≡ gain (neighbours_of args.starts.now args.neighbours.now) (uncovered args.n args.uncovered.now) args.v)
 counted c =
-    let start = c.before.before.before.before.before.before.before.before.before in
     let newly = c.before.before.before.write-newly-covered in
-    let pre = start.requires in
-    c.count.ensures ∙ gain_words pre.0 pre.1 _ pre.2 _ _ (search rules) newly.ensures
+    let pre = c.before.before.before.before.before.before.before.before.requires in
+    c.count.ensures ∙ gain_words pre.0 _ pre.1 _ _ (search rules) newly.ensures
 
 cast-result : tie.Need-overflow-cast-result
 cast-result c =
-    let start = c.before.before.before.before.before.before.before.before.before in
-    let graph = links_of start.args.starts.now start.args.neighbours.now start.args.added.now in
+    let start = c.before.before.before.before.before.before.before.before in
+    let graph = neighbours_of start.args.starts.now start.args.neighbours.now in
     omega (arith, counted c, gain_few start.args.n graph start.args.uncovered.now start.args.v, start.requires.0.size)
 
 returns : tie.Need-returns

@@ -1,4 +1,4 @@
--- `table_hubs::insert_closed` meets its contract: the node, then its own neighbours, then those that are added.
+-- `table_hubs::insert_closed` meets its contract: the node, then its neighbours.
 -- Assumes nothing.
 use mathlib.Core.Path.{◌≡◌, ap}
 use native.Mathlib.Omega.{arith}
@@ -9,56 +9,36 @@ use Rattle.table_hubs.proofs.insert_closed.Statement.{statement}
 use Rattle.table_hubs.proofs.insert_closed.Tie as tie
 
 words : (c : tie.Start) → length c.args.set.now ≡ 16
-words c = ap length c.requires.3
+words c = ap length c.requires.2
+
+-- the place where the node was put in, and the function's entry
+module _ (c : tie.After-own) where
+  abbrev inserted : tie.After-insert
+  inserted = c.before.before.before
+
+  abbrev start : tie.Start
+  start = inserted.before.before.before.before.before
 
 insert-requires : tie.Need-insert-requires
-insert-requires c κs = omega (
-  arith,
-  words c.before.before.before.before.before,
-  c.before.before.before.before.before.requires.0.size,
-)
+insert-requires c κs = omega (arith, words c.before.before.before.before)
 
 own-requires : tie.Need-own-requires
 own-requires c κs = search rules
 
 insert-list-requires : tie.Need-insert-list-requires
 insert-list-requires c κs =
-    let entry = c.before.before.before.before.before.before.before.before.before.before in
-    λ x t. omega (
-      arith,
-      words entry,
-      entry.requires.0.size,
-      entry.requires.0.lists.graph.below _ x entry.requires.2
-          (rw c.before.own.ensures at t),
-    )
-
-insert-row-requires : tie.Need-insert-row-requires
-insert-row-requires c κs =
-    let at-insert = c.before.before.before.before.before.before.before.before in
-    let entry = c.before.before.before.before.before.before.before.before.before.before.before.before.before.before in (
-      entry.requires.1.whole,
-      omega (arith, entry.requires.0.size),
-      omega
-          (arith, words entry, at-insert.insert.auto.0, c.before.before.before.insert-list.auto.1.0),
-    )
+    let entry = start c.before in
+    λ x t. omega (arith, words entry, entry.pre.0.lists.graph.below _ x entry.pre.1 (rw c.before.own.ensures at t))
 
 same_length : tie.Need-same-length
 same_length c = search rules
 
 returns : tie.Need-returns
 returns c =
-    let at-insert = c.before.before.before.before.before.before.before.before.before.before.before in
-    let at_own = c.before.before.before.before.before.before.before.before in
-    let at-insert-list = c.before.before.before.before.before.before in
-    closed_set _ _ _ c.before.before.before.before.before.before.before.before.before.before.before.before.before.before.before.before.before.requires.3 at-insert.insert.ensures at_own.own.ensures at-insert-list.insert-list.ensures c.before.before.insert-row.ensures
+    let listed = c.before.before in
+    let read = listed.before.before in
+    closed_set _ (start read).requires.2 (inserted read).insert.ensures read.own.ensures listed.insert-list.ensures
 
 pub insert-closed-spec : {M : Type 1} → statement M
 insert-closed-spec =
-    tie.close
-    (tie.spec
-    insert-requires
-    own-requires
-    insert-list-requires
-    insert-row-requires
-    same_length
-    returns)
+    tie.close (tie.spec insert-requires own-requires insert-list-requires same_length returns)

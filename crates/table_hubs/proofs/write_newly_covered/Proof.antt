@@ -25,7 +25,7 @@ returns : tie.Need-returns
 returns c =
     let masked = c.before.before in
     let near = masked.before.before.before.before in
-    let uncovered = near.before.before.before.before.before.before.before.args.uncovered.now in
+    let uncovered = near.before.before.before.before.before.before.args.uncovered.now in
     masked.write-intersection.ensures ∙ ap (λ (p : Nodes). intersection p (member uncovered)) near.insert-closed.ensures
 
 pub write-newly-covered-spec : {M : Type 1} → statement M

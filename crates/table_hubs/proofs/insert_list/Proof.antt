@@ -1,13 +1,13 @@
--- `base_set_lists::insert_list` meets its contract: the first i nodes of the list are in the set.
+-- `table_hubs::insert_list` meets its contract: the first i nodes of the list are in the set.
 -- Assumes nothing.
 use Prim.Native.Nat.{◌-◌, ◌≤◌}
 use native.Mathlib.Omega.{arith}
 use lib.ListN.{length}
 use Rattle.model.proofs.Ascending.{get_d_has}
-use Rattle.base_set_lists.proofs.SetLists.{Inserted, inserted_more, inserted_all}
+use Rattle.table_hubs.proofs.Sets.{Inserted, inserted_more, inserted_all}
 use borrow.Author.Rules.{rules}
-use Rattle.base_set_lists.proofs.insert_list.Statement.{statement}
-use Rattle.base_set_lists.proofs.insert_list.Tie as tie
+use Rattle.table_hubs.proofs.insert_list.Statement.{statement}
+use Rattle.table_hubs.proofs.insert_list.Tie as tie
 
 abbrev invariant-loop : tie.invariant-loop
 invariant-loop list set₀ i₀ set i = (i ≤ length list) × Inserted list set₀ set i

@@ -1,2 +1,0 @@
-pub mod Linking
-pub mod Widening
