@@ -1,6 +1,7 @@
 // The open calls for programs in C and other languages: numbers and slices go in, one number of 64 bits comes back. A slice is a
 // pointer and then a count of entries. `IsCode` (crate `base_answer_codes`, specs/Code.antt) says where a refusal's number and an
 // answer's values stand in that number, and that they are read back from it (`decoded`) as include/puxerdau.h does.
+#![tactic(auto)]
 ghost use Rattle.std.specs.Prelude.{◌≡◌, ◌≤◌, length};
 ghost use Rattle.model.specs.Survey.{neighbours_of, accepting};
 ghost use Rattle.model.specs.Graph.{linked};

@@ -1,4 +1,5 @@
 // Lists that are filled or copied.
+#![tactic(auto)]
 ghost use Rattle.std.specs.Prelude.{◌≡◌, reverse, ◌+◌, ◌≤◌, length, replicate};
 ghost use Rattle.base_lists.specs.Written.{Wrote};
 

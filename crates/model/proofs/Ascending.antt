@@ -1,6 +1,6 @@
 -- Laws of ascending lists. An ascending list of numbers below n is what the test of membership in it keeps of all numbers below n.
 -- Assumes nothing.
-use mathlib.Core.Path.{◌≡◌, refl, sym, ap, ◌∙◌}
+use mathlib.Core.Path.{◌≡◌, refl, sym, ap, ◌∙◌, subst}
 use mathlib.Core.Logic.{◌⊎◌, inl, inr, ⊎_elim}
 use mathlib.Core.Bool.{Bool, true, false}
 use mathlib.Core.List.{List, [], ◌∷◌, ◌++◌}
@@ -66,7 +66,7 @@ member_keep (y ∷ ys) k (suc m) t f =
     rest = keep (λ x. has x (y ∷ ys)) (from (suc k) m)
 
     front : k ≡ y → T (has k (y ∷ ys))
-    front e = rw e (has_head y ys)
+    front e = subst (λ z. T (has z (y ∷ ys))) (sym e) (has_head y ys)
 
     above : (k ≡ y → ⊥) → (x : ℕ) → T (has x (y ∷ ys)) → (suc k ≤ x) × (x < suc k + m)
     above d x h =

@@ -1,5 +1,6 @@
 // The rules as definitions (specs/), the theorems about them (proofs/), and the types that the open calls share. What each call answers and
 // leaves is one definition of specs/.
+#![tactic(auto)]
 
 // The entry that means none: an infinite distance, or no node.
 pub const NONE: u16 = 65535;

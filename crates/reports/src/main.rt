@@ -1,4 +1,5 @@
 // Prints the listing of the survey text on standard input, or why it is refused.
+#![tactic(auto)]
 use model::Counting;
 
 // Reads a text, writes its listing into a buffer, and prints what was written.

@@ -1,4 +1,5 @@
 // Numbers and lines as text, written into a buffer.
+#![tactic(auto)]
 ghost use Rattle.std.specs.Prelude.{◌≡◌, ℕ, ◌+◌, ◌*◌, ◌^◌, ◌≤◌, ◌<◌, [], ◌∷◌, map, length};
 ghost use Rattle.model.specs.Numbers.{digits};
 ghost use Rattle.model.specs.Lines.{fields_text, number_line_of};
