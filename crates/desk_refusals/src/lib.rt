@@ -10,7 +10,7 @@ use model::Refusal;
 use text_writing::write_text;
 
 // What is read: a survey, a survey for its listing, or an edge file.
-#[derive(Drop)]
+#[derive(Clone, Copy)]
 pub enum Source {
     Survey,
     Listing,
@@ -18,7 +18,7 @@ pub enum Source {
 }
 
 // Where reading stopped: what was read, the line, the first and the last node that a line may name, and the most nodes and lines.
-#[derive(Drop)]
+#[derive(Clone, Copy)]
 pub struct Stop {
     pub source: Source,
     pub line: usize,

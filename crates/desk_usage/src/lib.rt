@@ -8,7 +8,7 @@ use desk_words::Command;
 use text_writing::write_text;
 
 // What is wrong: word k is no number, or one too many; a word is missing; or the file is too long.
-#[derive(Drop)]
+#[derive(Clone, Copy)]
 pub enum Fault {
     NoNumber(u64),
     TooMany(u64),

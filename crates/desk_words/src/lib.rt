@@ -8,7 +8,7 @@ ghost use Rattle.desk_words.specs.Words.{number_taken, other_taken, option_taken
 
 use text_reading::Number;
 
-#[derive(Drop)]
+#[derive(Clone, Copy)]
 pub enum Command {
     Pair,
     Walk,
@@ -23,14 +23,14 @@ pub enum Command {
 }
 
 // What the first word says.
-#[derive(Drop)]
+#[derive(Clone, Copy)]
 pub enum Named {
     Is(Command),
     Unknown,
 }
 
 // What a word behind the first says: the option `--threshold`, a number, or neither.
-#[derive(Drop)]
+#[derive(Clone, Copy)]
 pub enum Word {
     Option,
     Number(u64),
@@ -39,7 +39,7 @@ pub enum Word {
 
 // What the words up to one of them ask: how many nodes, which, and the threshold, 0 where there is none; whether a threshold was named,
 // and whether its number comes next.
-#[derive(Drop)]
+#[derive(Clone, Copy)]
 pub struct Question {
     pub nodes: usize,
     pub a: u64,
@@ -50,7 +50,7 @@ pub struct Question {
 }
 
 // What a further word makes of a question, or what is wrong with it.
-#[derive(Drop)]
+#[derive(Clone, Copy)]
 pub enum Taken {
     Asks(Question),
     NoNumber,

@@ -6,7 +6,7 @@
 pub const NONE: u16 = 65535;
 
 // Why a call refuses. `number` of specs/Answers.antt gives each its number.
-#[derive(Drop)]
+#[derive(Clone, Copy)]
 pub enum Refusal {
     // The text is not in the stated form.
     Form,
@@ -39,7 +39,7 @@ pub enum Refusal {
 }
 
 // The counts of nodes and links of a survey.
-#[derive(Drop)]
+#[derive(Clone, Copy)]
 pub struct Size {
     pub nodes: usize,
     pub links: usize,
@@ -47,7 +47,7 @@ pub struct Size {
 
 // How a report is attained: the two nodes are one; by low nodes only; through a hub; not at all, since no chain joins them; or by the link
 // between the two.
-#[derive(Drop)]
+#[derive(Clone, Copy)]
 pub enum Route {
     Itself,
     Low,
@@ -57,14 +57,14 @@ pub enum Route {
 }
 
 // The answer to a pair.
-#[derive(Drop)]
+#[derive(Clone, Copy)]
 pub struct Answer {
     pub report: u16,
     pub route: Route,
 }
 
 // What the two-or-four test finds.
-#[derive(Drop)]
+#[derive(Clone, Copy)]
 pub enum Verdict {
     Parted,
     Long,
@@ -72,21 +72,21 @@ pub enum Verdict {
 }
 
 // The verdict and the count of searches.
-#[derive(Drop)]
+#[derive(Clone, Copy)]
 pub struct TestResult {
     pub verdict: Verdict,
     pub searches: usize,
 }
 
 // What acceptance of lent lists answers (whether they are a valid survey). A lent list is a slice argument.
-#[derive(Drop)]
+#[derive(Clone, Copy)]
 pub enum Accepting {
     Refused(Refusal),
     Accepted,
 }
 
 // What reading answers.
-#[derive(Drop)]
+#[derive(Clone, Copy)]
 pub enum Reading {
     Refused(Refusal),
     Read(Size),
@@ -94,21 +94,21 @@ pub enum Reading {
 
 // What a call answers whose value is one number: the count of hubs (building), the text's length (writing back and the listing), or the
 // threshold.
-#[derive(Drop)]
+#[derive(Clone, Copy)]
 pub enum Counting {
     Refused(Refusal),
     Count(usize),
 }
 
 // What asking a pair and writing a walk answer.
-#[derive(Drop)]
+#[derive(Clone, Copy)]
 pub enum Asking {
     Refused(Refusal),
     Answered(Answer),
 }
 
 // What testing answers.
-#[derive(Drop)]
+#[derive(Clone, Copy)]
 pub enum Testing {
     Refused(Refusal),
     Answered(TestResult),

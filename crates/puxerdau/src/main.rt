@@ -19,7 +19,7 @@ const NEIGHBOURS: usize = 32768;
 const OUT: usize = 200000;
 
 // What the words ask, or what is wrong with them.
-#[derive(Drop)]
+#[derive(Clone, Copy)]
 enum Understood {
     Asks(Question),
     Wrong(Fault),

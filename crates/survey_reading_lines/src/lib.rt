@@ -10,21 +10,21 @@ use model::Refusal;
 use text_reading::Line;
 
 // What a line of a survey text says: its two numbers and the place after it.
-#[derive(Drop)]
+#[derive(Clone, Copy)]
 pub enum LineSays {
     Pair(usize, usize, usize),
     Refused(Refusal),
 }
 
 // What the link lines say: all were taken, and the matrix has so many links; or not.
-#[derive(Drop)]
+#[derive(Clone, Copy)]
 pub enum Links {
     Taken(usize),
     Refused(Refusal),
 }
 
 // The most nodes and links that a text may have, and the lengths of the lists that it is read into.
-#[derive(Drop)]
+#[derive(Clone, Copy)]
 pub struct Limits {
     pub nodes: usize,
     pub links: usize,

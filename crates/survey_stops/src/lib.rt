@@ -10,7 +10,7 @@ ghost use Rattle.survey_stops.specs.Stops.{head_says, edges_stop, kept_line, fil
 use survey_reading_lines::{Limits, LineSays};
 
 // Where a text stops: the line, counted from 1, and the count of nodes that its first line gives, 0 where that line is refused.
-#[derive(Drop)]
+#[derive(Clone, Copy)]
 pub struct Place {
     pub line: usize,
     pub nodes: usize,

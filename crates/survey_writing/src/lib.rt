@@ -12,7 +12,7 @@ ghost use Rattle.survey_writing.specs.LinkLines.{first_line, lines_of, text_as};
 use model::{Accepting, Counting, Refusal};
 
 // The forms of text: a survey text, and a DIMACS edge file.
-#[derive(Drop)]
+#[derive(Clone, Copy)]
 enum Form {
     Survey,
     File,

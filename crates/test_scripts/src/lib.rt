@@ -13,7 +13,7 @@ use model::{Asking, Counting, Reading, Testing};
 use text_reading::Line;
 
 // A line of the script: its letter, its numbers and the place after it.
-#[derive(Drop)]
+#[derive(Clone, Copy)]
 pub struct Command {
     pub letter: u8,
     pub x: u64,

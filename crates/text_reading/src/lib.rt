@@ -7,28 +7,28 @@ ghost use Rattle.text_reading.specs.Scan.{run, number_at, has_byte, LineEnd, beg
 ghost use Rattle.text_reading.specs.Scan.{found_number, found_numbers, found};
 
 // A number and the place after it.
-#[derive(Drop)]
+#[derive(Clone, Copy)]
 pub enum Number {
     Value(u64, usize),
     Malformed,
 }
 
 // The value of some digits, and their count.
-#[derive(Drop)]
+#[derive(Clone, Copy)]
 struct Digits {
     value: u64,
     count: usize,
 }
 
 // The last three of some numbers, and the place after them. Where there are fewer, the first places say nothing.
-#[derive(Drop)]
+#[derive(Clone, Copy)]
 pub enum Numbers {
     Last(u64, u64, u64, usize),
     Malformed,
 }
 
 // The two numbers of a line and the place after its line feed.
-#[derive(Drop)]
+#[derive(Clone, Copy)]
 pub enum Line {
     Pair(u64, u64, usize),
     Malformed,

@@ -9,7 +9,7 @@ ghost use Rattle.walk_parts.specs.Parts.{left_in, leads_on, steps_in, Inside, is
 
 // What is the same at each step of a part: the count of nodes, the node where it ends, and how far from each other the table's entries for
 // node x and node x + 1 stand (1 in a row, n in a column).
-#[derive(Drop)]
+#[derive(Clone, Copy)]
 struct Part {
     n: usize,
     goal: usize,
