@@ -27,8 +27,7 @@ loop-head-init c =
     let few : c.args.count ≤ 1024 = omega (arith, few_open c.args.row.now, c.requires.source_lt_n.2, c.requires.accepted.1, c.requires.accepted.0.size) in
     let source-open : get_or c.args.row.now c.args.source 0 ≡ none = eqb→eq _ none c.requires.source_lt_n.1 in
     let again : c.args.row.now ≡ set (set c.args.row.now c.args.source 0) c.args.source none = set_back c.args.row.now c.args.source 0 source-open in
-    let Search : (row₀ : List ℕ) (p : Progress) (head : ℕ) → Type 0 = λ row₀ p head. Searching c.args.n graph c.args.source row₀ c.args.count p head in
-    (
+    let Search : (row₀ : List ℕ) (p : Progress) (head : ℕ) → Type 0 = λ row₀ p head. Searching c.args.n graph c.args.source row₀ c.args.count p head in (
       at_loop graph c.args.row.now c.args.source source-open
           (search_start (graph) c.args.row.now (set (replicate 1025 0) 0 c.args.source) c.requires.accepted.1 c.requires.source_lt_n.0
           (source-open) (few) c.requires.source_lt_n.2 (omega arith) refl),
