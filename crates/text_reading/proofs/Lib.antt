@@ -1,4 +1,3 @@
 pub mod Runs
 pub mod Scanning
 pub mod Shapes
-pub mod ReaderSteps

@@ -1,0 +1,11 @@
+use mathlib.Core.List.{reverse}
+use Prim.Native.Nat.{◌-◌}
+use lib.ListN.{length}
+use Rattle.base_lists.proofs.Copying.{Copied}
+use Rattle.base_lists.proofs.copy16_reversed.Given as goal
+
+abbrev pub invariant-loop-i : goal.invariant-loop-i
+invariant-loop-i l = Copied (reverse l.from) l.initial.list 0 l.list l.i
+
+abbrev pub decreases-loop-i : goal.decreases-loop-i
+decreases-loop-i l = length l.from - l.i
