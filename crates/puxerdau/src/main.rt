@@ -1,6 +1,7 @@
 // Answers a question about the survey or the edge file on standard input: puxerdau COMMAND [WORDS ..] < TEXT. docs/COMMANDS.md says what is
 // asked and what is answered.
 #![tactic(auto)]
+
 ghost use Rattle.std.specs.Prelude.{◌≡◌, ◌≤◌, length};
 
 use desk_usage::Fault;

@@ -1,5 +1,6 @@
 // Prints the listing of the survey text on standard input, or why it is refused.
 #![tactic(auto)]
+
 use model::Counting;
 
 // Reads a text, writes its listing into a buffer, and prints what was written.

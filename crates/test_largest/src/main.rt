@@ -1,6 +1,7 @@
 // Reads a survey of up to 1,024 nodes and 16,384 links from standard input, builds its tables and makes the two-or-four test. Prints a line for each of
 // the three calls, as a script's call does (crate `test_scripts`). The three tables are 6 MiB of the stack.
 #![tactic(auto)]
+
 use model::Reading;
 use test_scripts::{print_built, print_read, print_tested};
 

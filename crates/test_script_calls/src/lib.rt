@@ -1,5 +1,6 @@
 // The calls of a script, each with what it prints. `numbers` are those that command N of the program `test_tables` sets.
 #![tactic(auto)]
+
 use test_scripts::{
     Command, at_most, print_answer, print_built, print_entries, print_tested, sum16,
 };

@@ -2,6 +2,7 @@
 // A line of a script is a letter and two numbers. A call prints one line: its letter, 0 or the refusal's number, the answer's
 // numbers (those of routes and verdicts as C gets them: crate `base_answer_codes`), and a sum over each list that it may write to.
 #![tactic(auto)]
+
 ghost use Rattle.std.specs.Prelude.{◌≡◌, ◌%◌, min, length};
 ghost use Rattle.model.specs.Reading.{read_returned};
 ghost use Rattle.test_scripts.specs.Commands.{line_at, command_line, read_by};

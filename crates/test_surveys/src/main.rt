@@ -7,6 +7,7 @@
 //   W,n,b  L,p,q            writes them back into the first b bytes of the buffer
 //   X,n,b  L,p,q            exports them into it
 #![tactic(auto)]
+
 ghost use Rattle.std.specs.Prelude.{◌≡◌, eqb};
 ghost use Rattle.model.specs.Basics.{if◌then◌else◌};
 ghost use Rattle.model.specs.Writing.{writing, write_returned};

@@ -12,6 +12,7 @@
 //   W,a,b                   writes their walk
 //   T,0,0                   tests
 #![tactic(auto)]
+
 use test_scripts::{Command, read_command, run_read, set16, set32, set64};
 
 const INPUT: usize = 262144;

@@ -12,4 +12,4 @@ pub returns-clause-wrote : goal.returns-clause-wrote
 unfolding bytes
 returns-clause-wrote c =
     rw (hubs_some _ c.if-hubs-eq0.false) (wrote_then (omega (arith, c.write_nodes.ensures.wrote.ends, c.write_nodes.ensures.upper_bound, c.write_counted-i.ensures.wrote.ends, c.write_counted-i.ensures.upper_bound, c.requires))
-          c.write_counted-i.ensures.wrote c.write_nodes.ensures.wrote)
+    c.write_counted-i.ensures.wrote c.write_nodes.ensures.wrote)

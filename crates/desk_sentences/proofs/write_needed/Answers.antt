@@ -22,9 +22,9 @@ pub returns-clause-wrote : goal.returns-clause-wrote
 unfolding needed_line bytes
 returns-clause-wrote c =
     rw (
-        ne_eqb _ _ c.if-report-eq-NONE.false,
-        ne_eqb _ _ c.if-report-eq1.false,
-        lt-leb _ _ c.if-report-le2.false,
-        sym
-            c.least_needed-least.ensures,
-      ) c.write_sentence-2.ensures.wrote
+      ne_eqb _ _ c.if-report-eq-NONE.false,
+      ne_eqb _ _ c.if-report-eq1.false,
+      lt-leb _ _ c.if-report-le2.false,
+      sym
+          c.least_needed-least.ensures,
+    ) c.write_sentence-2.ensures.wrote

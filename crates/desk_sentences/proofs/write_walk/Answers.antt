@@ -8,4 +8,4 @@ pub returns-clause-wrote : goal.returns-clause-wrote
 unfolding walk_line bytes
 returns-clause-wrote c =
     wrote_then (omega (arith, c.write_nodes.ensures.wrote.ends, c.write_nodes.ensures.upper_bound, c.write_text-i.ensures.ends, c.requires))
-          c.write_text-i.ensures c.write_nodes.ensures.wrote
+    c.write_text-i.ensures c.write_nodes.ensures.wrote

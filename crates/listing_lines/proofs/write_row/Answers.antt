@@ -29,6 +29,7 @@ loop-b-preserved c =
 
 pub returns : goal.returns
 unfolding row_text
+
 unfolding row_text
 returns c =
     let row : ℕ → List ℕ = λ b. row_text c.args.n c.args.full.now c.args.low.now c.args.report.now c.args.a b in
