@@ -1,5 +1,6 @@
 // Report: for each two nodes 1 where they are linked, else the least of Low's entry and the sums of two entries of Full.
 #![tactic(auto)]
+
 ghost use Rattle.std.specs.Prelude.{◌≡◌, map, ℕ, ◌+◌, ◌*◌, ◌<◌, ◌≤◌, min, T, length};
 ghost use Rattle.model.specs.Basics.{none, up_to, has, over};
 ghost use Rattle.model.specs.Survey.{neighbours_of, Accepted};
