@@ -1,5 +1,6 @@
 // The hubs: a dominating set of the high nodes, chosen greedily. Sets of nodes are 64-bit words.
 #![tactic(auto)]
+
 ghost use Rattle.std.specs.Prelude.{◌≡◌, ◌||◌, ℕ, ◌/◌, ◌<◌, ◌≤◌, T, length, replicate};
 ghost use Rattle.model.specs.Basics.{up_to, has, keep, over};
 ghost use Rattle.model.specs.Survey.{neighbours_of, Accepted};
