@@ -1,5 +1,6 @@
 // One part of a walk: steps over low nodes, or from a node to a hub.
 #![tactic(auto)]
+
 ghost use Rattle.std.specs.Prelude.{◌≡◌, ℕ, ◌*◌, ◌≤◌, ◌<◌, T, length};
 ghost use Rattle.base_nodeset.specs.NodeSet.{member};
 ghost use Rattle.model.specs.Basics.{none, has, first_of};
