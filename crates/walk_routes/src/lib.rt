@@ -1,5 +1,6 @@
 // The walk of a route: by a link, over low nodes, or through a hub.
 #![tactic(auto)]
+
 ghost use Rattle.std.specs.Prelude.{◌≡◌, ◌*◌, ◌≤◌, ◌<◌, length, replicate};
 ghost use Rattle.model.specs.Basics.{none};
 ghost use Rattle.model.specs.Survey.{neighbours_of, Accepted};
