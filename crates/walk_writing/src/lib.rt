@@ -1,5 +1,6 @@
 // Writing a walk: the nodes of a pair's route, chosen by the tables and the lists.
 #![tactic(auto)]
+
 ghost use Rattle.std.specs.Prelude.{◌≡◌, ℕ, length, replicate};
 ghost use Rattle.model.specs.Basics.{none};
 ghost use Rattle.model.specs.Answers.{pair_answer, answered};
