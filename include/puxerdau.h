@@ -48,21 +48,21 @@ extern "C" {
 
 /* Lengths that are always enough, each with the place of its proof. */
 
-/* The lists of a survey: `reading-enough` and `importing-enough` of crates/model/proofs/Sizes.antt. */
+/* The lists of a survey: `reading_enough` and `importing_enough` of crates/model/proofs/Sizes.antt. */
 #define PUXERDAU_STARTS_LENGTH (PUXERDAU_MAX_NODES + 1)
 #define PUXERDAU_NEIGHBOURS_LENGTH (2 * PUXERDAU_MAX_LINKS)
 /* Each table of n nodes (2 MiB for 1,024) and the hub list: the contract of puxerdau_build. */
 #define PUXERDAU_TABLE_LENGTH(n) ((size_t)(n) * (size_t)(n))
 #define PUXERDAU_HUBS_LENGTH(n) ((size_t)(n))
-/* The walk list of n nodes: `walking-enough` and `built-enough` of crates/model/proofs/Sizes.antt. */
+/* The walk list of n nodes: `walking_enough` and `built_enough` of crates/model/proofs/Sizes.antt. */
 #define PUXERDAU_WALK_LENGTH(n) (2 * (size_t)(n))
-/* The buffer for a survey's text, 196,621 bytes: `writing-enough` of crates/model/proofs/Sizes.antt. */
+/* The buffer for a survey's text, 196,621 bytes: `writing_enough` of crates/model/proofs/Sizes.antt. */
 #define PUXERDAU_TEXT_LENGTH (13 + 12 * PUXERDAU_MAX_LINKS)
-/* The buffer for a file, 196,626 bytes: `exporting-enough` of crates/model/proofs/Sizes.antt. */
+/* The buffer for a file, 196,626 bytes: `exporting_enough` of crates/model/proofs/Sizes.antt. */
 #define PUXERDAU_FILE_LENGTH (18 + 12 * PUXERDAU_MAX_LINKS)
 /* The buffer for a listing, 146,314 bytes: the contract of puxerdau_list. */
 #define PUXERDAU_LISTING_LENGTH (10 + 9 * (PUXERDAU_LIST_MAX_NODES * (PUXERDAU_LIST_MAX_NODES - 1)))
-/* The front of a text, 393,241 bytes: no later byte changes what reading answers or leaves. `reading-front` of
+/* The front of a text, 393,241 bytes: no later byte changes what reading answers or leaves. `reading_front` of
  * crates/model/proofs/Fronts.antt. */
 #define PUXERDAU_FRONT_LENGTH (24 * (PUXERDAU_MAX_LINKS + 1) + 1)
 

@@ -1,5 +1,6 @@
 // Asking a pair: the report with its route, read off the three tables.
 #![tactic(auto)]
+
 ghost use Rattle.std.specs.Prelude.{◌≡◌, ◌&&◌, ◌*◌, ◌≤◌, ◌<◌, eqb, length};
 ghost use Rattle.model.specs.Answers.{answered, pair_answer};
 ghost use Rattle.model.specs.Tables.{entry_at, via};

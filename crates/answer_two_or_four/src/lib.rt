@@ -1,5 +1,6 @@
 // The two-or-four test: searches from a few nodes, and the verdict that they give, parted, long or short.
 #![tactic(auto)]
+
 ghost use Rattle.std.specs.Prelude.{◌≡◌, ◌<◌};
 ghost use Rattle.model.specs.Answers.{test_answer};
 ghost use Rattle.model.specs.Basics.{none, up_to, first_of};

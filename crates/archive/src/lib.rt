@@ -2,6 +2,7 @@
 // pointer and then a count of entries. `IsCode` (crate `base_answer_codes`, specs/Code.antt) says where a refusal's number and an
 // answer's values stand in that number, and that they are read back from it (`decoded`) as include/puxerdau.h does.
 #![tactic(auto)]
+
 ghost use Rattle.std.specs.Prelude.{◌≡◌, ◌≤◌, length};
 ghost use Rattle.model.specs.Survey.{neighbours_of, accepting};
 ghost use Rattle.model.specs.Graph.{linked};

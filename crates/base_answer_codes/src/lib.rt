@@ -1,6 +1,7 @@
 // What the open calls answer, each as one number of 64 bits: specs/Code.antt says where a refusal's number and the values stand, and how
 // they are read back.
 #![tactic(auto)]
+
 ghost use Rattle.std.specs.Prelude.{◌≡◌, ℕ, ◌<◌, ◌^◌};
 ghost use Rattle.model.specs.Answers.{answered, accept_answer, read_answer, count_answer, pair_answer, test_answer};
 ghost use Rattle.base_answer_codes.specs.Code.{no_field, count_field, size_field, answer_field, test_field};

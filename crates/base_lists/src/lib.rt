@@ -1,5 +1,6 @@
 // Lists that are filled or copied.
 #![tactic(auto)]
+
 ghost use Rattle.std.specs.Prelude.{◌≡◌, reverse, ◌+◌, ◌≤◌, length, replicate};
 ghost use Rattle.base_lists.specs.Written.{Wrote};
 

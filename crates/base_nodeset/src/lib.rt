@@ -1,5 +1,6 @@
 // Sets of nodes as 64-bit words: node v is bit v % 64 of word v / 64.
 #![tactic(auto)]
+
 ghost use Rattle.std.specs.Prelude.{◌≡◌, ℕ, ◌*◌, ◌/◌, ◌^◌, ◌<◌, ◌≤◌, T, ltb, length, get_or, replicate};
 ghost use Rattle.model.specs.Basics.{if◌then◌else◌, up_to, has, keep, first_of};
 ghost use Rattle.base_nodeset.specs.NodeSet.{member, inserted, intersection, difference, members_from};

@@ -1,5 +1,6 @@
 // Refusals: the number of each, and the tests that several calls share.
 #![tactic(auto)]
+
 ghost use Rattle.std.specs.Prelude.{◌≡◌, ◌≤◌};
 ghost use Rattle.model.specs.Answers.{number};
 ghost use Rattle.model.specs.Survey.{bad_size, short_starts};

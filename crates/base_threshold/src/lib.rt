@@ -1,5 +1,6 @@
 // The threshold between low and high nodes: from a stored table, or as a caller gives it.
 #![tactic(auto)]
+
 ghost use Rattle.std.specs.Prelude.{◌≡◌, ◌≤◌};
 ghost use Rattle.model.specs.Answers.{count_answer};
 ghost use Rattle.model.specs.Threshold.{threshold, in_force, threshold_answer};

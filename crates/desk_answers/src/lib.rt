@@ -1,5 +1,6 @@
 // What is said of a survey that was read: a pair, a walk, the test and the hubs.
 #![tactic(auto)]
+
 ghost use Rattle.std.specs.Prelude.{◌≡◌, ◌+◌, ◌*◌, ◌≤◌, length};
 ghost use Rattle.model.specs.Answers.{answered};
 ghost use Rattle.model.specs.Basics.{none, up_to, keep};

@@ -1,5 +1,6 @@
 // The commands of the desk: a text is read, and what is said of it is written into a buffer.
 #![tactic(auto)]
+
 ghost use Rattle.std.specs.Prelude.{◌≡◌, false, ◌-◌, ◌≤◌, length};
 ghost use Rattle.model.specs.Answers.{number};
 ghost use Rattle.model.specs.Survey.{Accepted};

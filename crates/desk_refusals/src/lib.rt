@@ -1,5 +1,6 @@
 // What is said at the desk where something is refused: one line, with the number, the place and the reason.
 #![tactic(auto)]
+
 ghost use Rattle.std.specs.Prelude.{◌+◌, ◌≤◌, length};
 ghost use Rattle.base_lists.specs.Written.{Wrote};
 ghost use Rattle.model.specs.Answers.{number};

@@ -1,5 +1,6 @@
 // What is said at the desk: the lines of an answer, written into a buffer.
 #![tactic(auto)]
+
 ghost use Rattle.std.specs.Prelude.{◌≡◌, ◌+◌, ◌*◌, ◌≤◌, length};
 ghost use Rattle.base_lists.specs.Written.{Wrote};
 ghost use Rattle.model.specs.Demand.{least_needed};

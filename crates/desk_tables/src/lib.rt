@@ -1,5 +1,6 @@
 // Two nodes of a survey, asked or walked with tables that are built for the question.
 #![tactic(auto)]
+
 ghost use Rattle.std.specs.Prelude.{◌≡◌, false, ◌*◌, ◌≤◌, length};
 ghost use Rattle.model.specs.Survey.{Accepted};
 ghost use Rattle.model.specs.Threshold.{bad_threshold};

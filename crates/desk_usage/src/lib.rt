@@ -1,5 +1,6 @@
 // How the commands are used: the help page, and what is said where words are not understood or a file is too long.
 #![tactic(auto)]
+
 ghost use Rattle.std.specs.Prelude.{◌+◌, ◌≤◌, length};
 ghost use Rattle.base_lists.specs.Written.{Wrote};
 ghost use Rattle.desk_usage.specs.Usage.{no_command, usage, fault, fault_line, help};

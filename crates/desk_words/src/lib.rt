@@ -1,5 +1,6 @@
 // What the words behind the program's name ask: a command, its nodes and its threshold.
 #![tactic(auto)]
+
 ghost use Rattle.std.specs.Prelude.{◌≡◌};
 ghost use Rattle.model.specs.Basics.{same};
 ghost use Rattle.desk_words.specs.Words.{if_named, command_of, word_of, nodes_of, splits_nodes, reads_text};

@@ -1,5 +1,6 @@
 // The listing of a survey text: its counts of nodes and hubs, then the report and the route of each pair.
 #![tactic(auto)]
+
 ghost use Rattle.std.specs.Prelude.{◌≡◌, ◌*◌, ◌≤◌, length};
 ghost use Rattle.base_lists.specs.Written.{Wrote};
 ghost use Rattle.model.specs.Answers.{number, refused, answered};

@@ -1,5 +1,6 @@
 // How deep searches from some nodes go.
 #![tactic(auto)]
+
 ghost use Rattle.std.specs.Prelude.{◌≡◌, map, ℕ, ◌<◌, max, T};
 ghost use Rattle.model.specs.Basics.{up_to, has};
 ghost use Rattle.model.specs.Graph.{fewest, linked};

@@ -1,6 +1,7 @@
 // Breadth-first search from many sources at once, level by level: for each node a set of the sources that have reached it. The sources
 // are taken in groups of 256, the source j of a group being node base + j.
 #![tactic(auto)]
+
 ghost use Rattle.std.specs.Prelude.{◌≡◌, true, ◌&&◌, ◌||◌, ℕ, ◌+◌, ◌*◌, ◌<◌, ◌≤◌, min, length, replicate};
 ghost use Rattle.model.specs.Basics.{any};
 ghost use Rattle.model.specs.Survey.{neighbours_of, Accepted};

@@ -77,9 +77,11 @@ module _ {n : ℕ} (allowed : Nodes) {closed : Nodes} (c : closed ≡ difference
       where
         twice : (b : Bool) → T b → T (not (not b))
         twice true t = tt
+        twice false t = elim t [ ]
 
         once : (b : Bool) → T (not (not b)) → T b
         once true t = tt
+        once false t = elim t [ ]
 
     -- after the search they get none
     pub search_allowed : (G : Graph) {s : ℕ} → s < n → T (allowed s) → {found : List ℕ} (last : List ℕ) → found ≡ searched n (linked n G) s row

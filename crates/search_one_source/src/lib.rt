@@ -1,5 +1,6 @@
 // Breadth-first search over an accepted survey, linear in its nodes and links.
 #![tactic(auto)]
+
 ghost use Rattle.std.specs.Prelude.{◌≡◌, map, ◌*◌, ◌<◌, ◌≤◌, T, length};
 ghost use Rattle.base_lists.specs.Written.{written};
 ghost use Rattle.model.specs.Basics.{up_to};

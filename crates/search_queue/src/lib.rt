@@ -1,6 +1,7 @@
 // The queue of a breadth-first search: which nodes join it, and when it ends. The search's row has the distance of each node that has
 // joined the queue; a node that the search can still find has none there, and a node that it may not enter another number.
 #![tactic(auto)]
+
 ghost use Rattle.std.specs.Prelude.{◌≡◌, ℕ, ◌+◌, ◌<◌, ◌≤◌, T, eqb, length};
 ghost use Rattle.model.specs.Basics.{none, if◌then◌else◌, has};
 ghost use Rattle.search_queue.specs.Visiting.{unreached, progress, visited, visited_all};

@@ -1,6 +1,7 @@
 // Sets of sources, one for each node, as rows of 16 lanes of 16 bits: source j is bit j / 16 of lane j % 16. So the sources of one bit
 // stand next to each other in a table's row, and the compiler writes their 16 entries together.
 #![tactic(auto)]
+
 ghost use Rattle.std.specs.Prelude.{◌≡◌, ◌&&◌, ◌||◌, ℕ, ◌/◌, ◌<◌, ◌≤◌, T, eqb, length, get_or};
 ghost use Rattle.model.specs.Basics.{if◌then◌else◌, has, any};
 ghost use Rattle.base_nodeset.specs.NodeSet.{bit};

@@ -1,5 +1,6 @@
 // Acceptance of a survey's two lists, in one linear pass.
 #![tactic(auto)]
+
 ghost use Rattle.std.specs.Prelude.{true, ◌&&◌, ◌≡◌, ℕ, ◌+◌, ◌/◌, ◌%◌, ◌<◌, ◌≤◌, eqb, leb, length, get_or};
 ghost use Rattle.model.specs.Basics.{all, up_to};
 ghost use Rattle.model.specs.Answers.{accept_answer};

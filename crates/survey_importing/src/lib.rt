@@ -1,5 +1,6 @@
 // Importing a survey from a DIMACS edge file.
 #![tactic(auto)]
+
 ghost use Rattle.std.specs.Prelude.{◌≡◌, [], ◌+◌, ◌*◌, ◌≤◌, length, replicate, drop};
 ghost use Rattle.model.specs.Answers.{map_answer};
 ghost use Rattle.model.specs.Reading.{parsed, read_returned, reading_of};

@@ -1,6 +1,7 @@
 // The lines of a DIMACS edge file: comments are passed over, and the edge lines read into a bit matrix in which a repeated link is found in
 // constant time.
 #![tactic(auto)]
+
 ghost use Rattle.std.specs.Prelude.{◌≡◌, List, [], ◌∷◌, ◌++◌, ℕ, ◌≤◌, ◌<◌, length, replicate, drop};
 ghost use Rattle.model.specs.Answers.{map_answer};
 ghost use Rattle.model.specs.Lines.{two_line};

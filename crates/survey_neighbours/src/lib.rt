@@ -1,5 +1,6 @@
 // One node's neighbours, as a part of the neighbour list, and whether two nodes are linked.
 #![tactic(auto)]
+
 ghost use Rattle.std.specs.Prelude.{◌≡◌, ◌<◌};
 ghost use Rattle.model.specs.Basics.{has};
 ghost use Rattle.model.specs.Survey.{neighbours_of, Accepted};

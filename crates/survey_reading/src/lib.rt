@@ -1,5 +1,6 @@
 // Reading a survey from its text.
 #![tactic(auto)]
+
 ghost use Rattle.std.specs.Prelude.{◌≡◌, [], ◌+◌, ◌*◌, ◌≤◌, length, replicate, drop};
 ghost use Rattle.model.specs.Reading.{read_links, parsed, parse, read_returned, reading_of, reading};
 ghost use Rattle.model.specs.Demand.{ReadRight};

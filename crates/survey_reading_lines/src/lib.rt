@@ -1,5 +1,6 @@
 // The lines of a survey text: its first line, and its link lines, read into a bit matrix in which a repeated link is found in constant time.
 #![tactic(auto)]
+
 ghost use Rattle.std.specs.Prelude.{◌≡◌, List, [], ◌∷◌, ℕ, ◌≤◌, ◌<◌, length, replicate, drop};
 ghost use Rattle.model.specs.SurveyText.{line};
 ghost use Rattle.model.specs.Reading.{read_links, limits_of, counts_of};

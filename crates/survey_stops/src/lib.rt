@@ -1,6 +1,7 @@
 // The line of a text at which reading or importing it stops.
 // Reading and importing answer only the refusal, so the text is gone through once more here, to say the line to a person.
 #![tactic(auto)]
+
 ghost use Rattle.std.specs.Prelude.{◌≡◌, [], ◌≤◌, replicate, drop};
 ghost use Rattle.model.specs.Lines.{split};
 ghost use Rattle.model.specs.Dimacs.{uncommented};

@@ -1,5 +1,6 @@
 // The three tables and the hub list, built from a survey.
 #![tactic(auto)]
+
 ghost use Rattle.std.specs.Prelude.{◌≡◌, ◌*◌, ◌≤◌, length};
 ghost use Rattle.model.specs.Survey.{neighbours_of, Accepted};
 ghost use Rattle.model.specs.Answers.{answered};

@@ -1,5 +1,6 @@
 // High and low nodes, by their degree.
 #![tactic(auto)]
+
 ghost use Rattle.std.specs.Prelude.{◌≡◌, ◌&&◌, ltb, replicate};
 ghost use Rattle.model.specs.Survey.{neighbours_of, Accepted};
 ghost use Rattle.model.specs.Hubs.{is_high, is_low};

@@ -1,5 +1,6 @@
 // Full and Low: the fewest links from hubs, and through low nodes.
 #![tactic(auto)]
+
 ghost use Rattle.std.specs.Prelude.{◌≡◌, map, ℕ, ◌*◌, ◌<◌, ◌≤◌, T, length};
 ghost use Rattle.base_lists.specs.Written.{written};
 ghost use Rattle.model.specs.Basics.{up_to, has, over};

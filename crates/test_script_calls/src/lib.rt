@@ -1,10 +1,13 @@
 // The calls of a script, each with what it prints. `numbers` are those that command N of the program `test_tables` sets.
 #![tactic(auto)]
+
+use std::io;
 use test_scripts::{
     Command, at_most, print_answer, print_built, print_entries, print_tested, sum16,
 };
 
 pub fn run_build(
+    rt: &impl Print,
     numbers: &[u64; 9],
     starts: &[u32],
     neighbours: &[u16],
@@ -12,7 +15,7 @@ pub fn run_build(
     low: &mut [u16],
     report: &mut [u16],
     hubs: &mut [u16],
-) {
+) -> io::Result<()> {
     let p = at_most(numbers[1], starts.len());
     let q = at_most(numbers[2], neighbours.len());
     let f = at_most(numbers[3], full.len());
@@ -29,35 +32,40 @@ pub fn run_build(
         &mut report[..r],
         &mut hubs[..h],
     );
-    print_built(answer, full, low, report, hubs);
+    print_built(rt, answer, full, low, report, hubs)
 }
 
 // Prints the entries that are lent of list c.x: Full, Low, Report or the hub list, by their places in `numbers`.
 pub fn run_print(
+    rt: &impl Print,
     c: Command,
     numbers: &[u64; 9],
     full: &[u16],
     low: &[u16],
     report: &[u16],
     hubs: &[u16],
-) {
+) -> io::Result<()> {
     if c.x == 3 {
-        print_entries(c.letter, full, numbers[3]);
-        return;
+        return print_entries(rt, c.letter, full, numbers[3]);
     }
     if c.x == 4 {
-        print_entries(c.letter, low, numbers[4]);
-        return;
+        return print_entries(rt, c.letter, low, numbers[4]);
     }
     if c.x == 5 {
-        print_entries(c.letter, report, numbers[5]);
-        return;
+        return print_entries(rt, c.letter, report, numbers[5]);
     }
-    print_entries(c.letter, hubs, numbers[6]);
+    print_entries(rt, c.letter, hubs, numbers[6])
 }
 
 // Asking writes to no list: its sum is 0.
-pub fn run_ask(c: Command, numbers: &[u64; 9], full: &[u16], low: &[u16], report: &[u16]) {
+pub fn run_ask(
+    rt: &impl Print,
+    c: Command,
+    numbers: &[u64; 9],
+    full: &[u16],
+    low: &[u16],
+    report: &[u16],
+) -> io::Result<()> {
     let f = at_most(numbers[3], full.len());
     let l = at_most(numbers[4], low.len());
     let r = at_most(numbers[5], report.len());
@@ -69,10 +77,11 @@ pub fn run_ask(c: Command, numbers: &[u64; 9], full: &[u16], low: &[u16], report
         c.x as usize,
         c.y as usize,
     );
-    print_answer(c.letter, answer, 0);
+    print_answer(rt, c.letter, answer, 0)
 }
 
 pub fn run_walk(
+    rt: &impl Print,
     c: Command,
     numbers: &[u64; 9],
     starts: &[u32],
@@ -81,7 +90,7 @@ pub fn run_walk(
     low: &[u16],
     report: &[u16],
     walk: &mut [u16],
-) {
+) -> io::Result<()> {
     let p = at_most(numbers[1], starts.len());
     let q = at_most(numbers[2], neighbours.len());
     let f = at_most(numbers[3], full.len());
@@ -101,10 +110,15 @@ pub fn run_walk(
         &mut walk[..w],
     );
     let s = sum16(walk);
-    print_answer(c.letter, answer, s);
+    print_answer(rt, c.letter, answer, s)
 }
 
-pub fn run_test(numbers: &[u64; 9], starts: &[u32], neighbours: &[u16]) {
+pub fn run_test(
+    rt: &impl Print,
+    numbers: &[u64; 9],
+    starts: &[u32],
+    neighbours: &[u16],
+) -> io::Result<()> {
     let p = at_most(numbers[1], starts.len());
     let q = at_most(numbers[2], neighbours.len());
     let answer = answer_two_or_four::test(
@@ -113,5 +127,5 @@ pub fn run_test(numbers: &[u64; 9], starts: &[u32], neighbours: &[u16]) {
         &starts[..p],
         &neighbours[..q],
     );
-    print_tested(answer);
+    print_tested(rt, answer)
 }

@@ -2,6 +2,7 @@
 // A line of a script is a letter and two numbers. A call prints one line: its letter, 0 or the refusal's number, the answer's
 // numbers (those of routes and verdicts as C gets them: crate `base_answer_codes`), and a sum over each list that it may write to.
 #![tactic(auto)]
+
 ghost use Rattle.std.specs.Prelude.{◌≡◌, ◌%◌, min, length};
 ghost use Rattle.model.specs.Reading.{read_returned};
 ghost use Rattle.test_scripts.specs.Commands.{line_at, command_line, read_by};
@@ -10,6 +11,7 @@ ghost use Rattle.test_scripts.specs.Sums.{checksum, replaced};
 use base_answer_codes::{hub_number, route_number, verdict_number};
 use base_refusals::refusal_number;
 use model::{Asking, Counting, Reading, Testing};
+use std::io;
 use text_reading::Line;
 
 // A line of the script: its letter, its numbers and the place after it.
@@ -94,69 +96,80 @@ pub fn sum32(list: &[u32]) -> u64
 }
 
 // Prints a letter and numbers, separated by commas.
-pub fn print_line(letter: u8, numbers: &[u64]) {
-    io::write_all(1, &[letter]);
-    let mut i = 0;
-    while i < numbers.len() {
-        io::write_all(1, b",");
-        io::print_decimal(1, numbers[i]);
-        i += 1;
+pub fn print_line(rt: &impl Print, letter: u8, numbers: &[u64]) -> io::Result<()> {
+    rt.write_all(&[letter])?;
+    for number in numbers {
+        print!(rt; ",{number}")?;
     }
-    io::write_all(1, b"\n");
+    println!(rt; "")
 }
 
 // Prints a letter and the first k entries of a list, or all where there are fewer, separated by commas.
-pub fn print_entries(letter: u8, list: &[u16], k: u64) {
+pub fn print_entries(rt: &impl Print, letter: u8, list: &[u16], k: u64) -> io::Result<()> {
     let end = at_most(k, list.len());
-    io::write_all(1, &[letter]);
-    let mut i = 0;
-    while i < end {
-        io::write_all(1, b",");
-        io::print_decimal(1, list[i] as u64);
-        i += 1;
+    rt.write_all(&[letter])?;
+    for entry in &list[..end] {
+        print!(rt; ",{entry}")?;
     }
-    io::write_all(1, b"\n");
+    println!(rt; "")
 }
 
-pub fn print_read(letter: u8, answer: Reading, starts: &[u32], neighbours: &[u16]) {
+pub fn print_read(
+    rt: &impl Print,
+    letter: u8,
+    answer: Reading,
+    starts: &[u32],
+    neighbours: &[u16],
+) -> io::Result<()> {
     let s = sum32(starts);
     let t = sum16(neighbours);
     match answer {
-        Reading::Refused(r) => print_line(letter, &[refusal_number(r) as u64, 0, 0, s, t]),
-        Reading::Read(size) => print_line(letter, &[0, size.nodes as u64, size.links as u64, s, t]),
+        Reading::Refused(r) => print_line(rt, letter, &[refusal_number(r) as u64, 0, 0, s, t]),
+        Reading::Read(size) => print_line(
+            rt,
+            letter,
+            &[0, size.nodes as u64, size.links as u64, s, t],
+        ),
     }
 }
 
-pub fn print_built(answer: Counting, full: &[u16], low: &[u16], report: &[u16], hubs: &[u16]) {
+pub fn print_built(
+    rt: &impl Print,
+    answer: Counting,
+    full: &[u16],
+    low: &[u16],
+    report: &[u16],
+    hubs: &[u16],
+) -> io::Result<()> {
     let s = sum16(full);
     let t = sum16(low);
     let u = sum16(report);
     let v = sum16(hubs);
     match answer {
-        Counting::Refused(r) => print_line(b'B', &[refusal_number(r) as u64, 0, s, t, u, v]),
-        Counting::Count(k) => print_line(b'B', &[0, k as u64, s, t, u, v]),
+        Counting::Refused(r) => print_line(rt, b'B', &[refusal_number(r) as u64, 0, s, t, u, v]),
+        Counting::Count(k) => print_line(rt, b'B', &[0, k as u64, s, t, u, v]),
     }
 }
 
 // Prints the answer of asking or walking: report, route and hub. Its last number is a sum of the list that the call may write to.
-pub fn print_answer(letter: u8, answer: Asking, sum: u64) {
+pub fn print_answer(rt: &impl Print, letter: u8, answer: Asking, sum: u64) -> io::Result<()> {
     match answer {
-        Asking::Refused(k) => print_line(letter, &[refusal_number(k) as u64, 0, 0, 0, sum]),
+        Asking::Refused(k) => print_line(rt, letter, &[refusal_number(k) as u64, 0, 0, 0, sum]),
         Asking::Answered(x) => {
             let route = x.route;
             let kind = route_number(route);
             let hub = hub_number(route);
-            print_line(letter, &[0, x.report as u64, kind, hub, sum]);
+            print_line(rt, letter, &[0, x.report as u64, kind, hub, sum])
         }
     }
 }
 
-pub fn print_tested(answer: Testing) {
+pub fn print_tested(rt: &impl Print, answer: Testing) -> io::Result<()> {
     match answer {
-        Testing::Refused(r) => print_line(b'T', &[refusal_number(r) as u64, 0, 0]),
+        Testing::Refused(r) => print_line(rt, b'T', &[refusal_number(r) as u64, 0, 0]),
         Testing::Answered(x) => {
             let verdict = x.verdict;
-            print_line(b'T', &[0, verdict_number(verdict), x.searches as u64]);
+            print_line(rt, b'T', &[0, verdict_number(verdict), x.searches as u64])
         }
     }
 }
@@ -174,7 +187,13 @@ fn read_by(letter: u8, text: &[u8], starts: &mut [u32], neighbours: &mut [u16]) 
 
 // Reads a text or a file into the first c.x starts and c.y neighbours. The next line says the text's length, and the text follows it.
 // Returns the place after the text.
-pub fn run_read(script: &[u8], c: Command, starts: &mut [u32], neighbours: &mut [u16]) -> usize {
+pub fn run_read(
+    rt: &impl Print,
+    script: &[u8],
+    c: Command,
+    starts: &mut [u32],
+    neighbours: &mut [u16],
+) -> io::Result<usize> {
     let p = at_most(c.x, starts.len());
     let q = at_most(c.y, neighbours.len());
     let k = read_command(script, c.next);
@@ -186,8 +205,8 @@ pub fn run_read(script: &[u8], c: Command, starts: &mut [u32], neighbours: &mut 
         &mut starts[..p],
         &mut neighbours[..q],
     );
-    print_read(c.letter, answer, starts, neighbours);
-    end
+    print_read(rt, c.letter, answer, starts, neighbours)?;
+    Ok(end)
 }
 
 // Entry c.x of the list becomes c.y. Returns the place of the next line.

@@ -12,6 +12,8 @@
 //   W,a,b                   writes their walk
 //   T,0,0                   tests
 #![tactic(auto)]
+
+use std::io;
 use test_scripts::{Command, read_command, run_read, set16, set32, set64};
 
 const INPUT: usize = 262144;
@@ -28,6 +30,7 @@ const WALK: usize = 320;
 
 // Runs a call; does nothing for another letter.
 fn run_call(
+    rt: &impl Print,
     c: Command,
     numbers: &[u64; 9],
     starts: &[u32],
@@ -37,30 +40,32 @@ fn run_call(
     report: &mut [u16],
     hubs: &mut [u16],
     walk: &mut [u16],
-) {
+) -> io::Result<()> {
     if c.letter == b'B' {
-        test_script_calls::run_build(numbers, starts, neighbours, full, low, report, hubs);
-        return;
+        return test_script_calls::run_build(
+            rt, numbers, starts, neighbours, full, low, report, hubs,
+        );
     }
     if c.letter == b'V' {
-        test_script_calls::run_print(c, numbers, full, low, report, hubs);
-        return;
+        return test_script_calls::run_print(rt, c, numbers, full, low, report, hubs);
     }
     if c.letter == b'Q' {
-        test_script_calls::run_ask(c, numbers, full, low, report);
-        return;
+        return test_script_calls::run_ask(rt, c, numbers, full, low, report);
     }
     if c.letter == b'W' {
-        test_script_calls::run_walk(c, numbers, starts, neighbours, full, low, report, walk);
-        return;
+        return test_script_calls::run_walk(
+            rt, c, numbers, starts, neighbours, full, low, report, walk,
+        );
     }
     if c.letter == b'T' {
-        test_script_calls::run_test(numbers, starts, neighbours);
+        return test_script_calls::run_test(rt, numbers, starts, neighbours);
     }
+    Ok(())
 }
 
 // Runs the command at a place, and returns the place of the next one.
 fn step(
+    rt: &impl Print,
     script: &[u8],
     at: usize,
     numbers: &mut [u64; 9],
@@ -71,40 +76,40 @@ fn step(
     report: &mut [u16; TABLE],
     hubs: &mut [u16; HUBS],
     walk: &mut [u16; WALK],
-) -> usize {
+) -> io::Result<usize> {
     let c = read_command(script, at);
     if c.letter == b'R' {
-        return run_read(script, c, starts, neighbours);
+        return run_read(rt, script, c, starts, neighbours);
     }
     if c.letter == b'N' {
-        return set64(c, numbers);
+        return Ok(set64(c, numbers));
     }
     if c.letter == b'S' {
-        return set32(c, starts);
+        return Ok(set32(c, starts));
     }
     if c.letter == b'E' {
-        return set16(c, neighbours);
+        return Ok(set16(c, neighbours));
     }
     if c.letter == b'F' {
-        return set16(c, full);
+        return Ok(set16(c, full));
     }
     if c.letter == b'L' {
-        return set16(c, low);
+        return Ok(set16(c, low));
     }
     if c.letter == b'P' {
-        return set16(c, report);
+        return Ok(set16(c, report));
     }
     if c.letter == b'H' {
-        return set16(c, hubs);
+        return Ok(set16(c, hubs));
     }
     run_call(
-        c, numbers, starts, neighbours, full, low, report, hubs, walk,
-    );
-    c.next
+        rt, c, numbers, starts, neighbours, full, low, report, hubs, walk,
+    )?;
+    Ok(c.next)
 }
 
 // Runs all commands. There are no more of them than bytes.
-fn run(script: &[u8]) {
+fn run(rt: &impl Print, script: &[u8]) -> io::Result<()> {
     let mut numbers = [0u64; 9];
     let mut starts = [7u32; STARTS];
     let mut neighbours = [7u16; NEIGHBOURS];
@@ -114,9 +119,9 @@ fn run(script: &[u8]) {
     let mut hubs = [7u16; HUBS];
     let mut walk = [7u16; WALK];
     let mut at = 0;
-    let mut turns = script.len();
-    while turns > 0 {
+    for _ in 0..script.len() {
         at = step(
+            rt,
             script,
             at,
             &mut numbers,
@@ -127,22 +132,22 @@ fn run(script: &[u8]) {
             &mut report,
             &mut hubs,
             &mut walk,
-        );
-        turns -= 1;
+        )?;
     }
+    Ok(())
 }
 
-fn read_and_run(input: &mut [u8]) {
-    let length = io::read_full(0, input);
-    run(&input[..length]);
+fn read_and_run(rt: &(impl Input + Print), input: &mut [u8]) -> io::Result<()> {
+    let length = base_input::read_front(&mut rt.reader(), input)?;
+    run(rt, &input[..length])
 }
 
 // An array of this type is lent without a look at its entries, which keeps the check short.
-fn run_in(input: &mut [u8; INPUT]) {
-    read_and_run(input);
+fn run_in(rt: &(impl Input + Print), input: &mut [u8; INPUT]) -> io::Result<()> {
+    read_and_run(rt, input)
 }
 
-fn main() {
+fn main(rt: HostRuntime) -> io::Result<()> {
     let mut input = [0u8; INPUT];
-    run_in(&mut input);
+    run_in(&rt, &mut input)
 }

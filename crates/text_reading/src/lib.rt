@@ -1,5 +1,6 @@
 // Numbers and lines, read from a text. A line has a shape: a first word, a separator in front of each number, and a count of numbers.
 #![tactic(auto)]
+
 ghost use Rattle.std.specs.Prelude.{◌≡◌, ◌+◌, ◌-◌, ◌≤◌, min, T, length, drop};
 ghost use Rattle.model.specs.Numbers.{value_of};
 ghost use Rattle.model.specs.Lines.{number_line};

@@ -1,5 +1,6 @@
 // Numbers and lines as text, written into a buffer.
 #![tactic(auto)]
+
 ghost use Rattle.std.specs.Prelude.{◌≡◌, ℕ, ◌+◌, ◌*◌, ◌^◌, ◌≤◌, ◌<◌, [], ◌∷◌, map, length};
 ghost use Rattle.model.specs.Numbers.{digits};
 ghost use Rattle.model.specs.Lines.{fields_text, number_line_of};

@@ -26,7 +26,7 @@ returns-then-r c =
 pub returns-then-r-eq1 : goal.returns-then-r-eq1
 unfolding pair pair_by choose
 returns-then-r-eq1 c =
-    let joined : (let h = attaining (taken c.args.n c.args.full.now c.args.a c.args.b) c.args.n c.args.full.now c.args.a c.args.b c.entry_at-r.result in pair c.args.n c.args.full.now c.args.low.now c.args.report.now c.args.a c.args.b ≡ ( if eqb c.entry_at-r.result 1 then answered (with_route 1 Link) else if eqb c.entry_at-l.result c.entry_at-r.result then answered (with_route c.entry_at-r.result Low) else if eqb h none then refused 11 else answered (with_route c.entry_at-r.result (Through h)))) = rw (
+    let joined : (let h = attaining (taken c.args.n c.args.full.now c.args.a c.args.b) c.args.n c.args.full.now c.args.a c.args.b c.entry_at-r.result in pair c.args.n c.args.full.now c.args.low.now c.args.report.now c.args.a c.args.b ≡ (if eqb c.entry_at-r.result 1 then answered (with_route 1 Link) else if eqb c.entry_at-l.result c.entry_at-r.result then answered (with_route c.entry_at-r.result Low) else if eqb h none then refused 11 else answered (with_route c.entry_at-r.result (Through h)))) = rw (
       ne_eqb _ _ c.if-a-b.false,
       ← c.entry_at-r.ensures,
       ne_eqb _ _ c.if-r.false,
@@ -37,7 +37,7 @@ returns-then-r-eq1 c =
 pub returns-then-l-r : goal.returns-then-l-r
 unfolding pair pair_by choose
 returns-then-l-r c =
-    let joined : (let h = attaining (taken c.args.n c.args.full.now c.args.a c.args.b) c.args.n c.args.full.now c.args.a c.args.b c.entry_at-r.result in pair c.args.n c.args.full.now c.args.low.now c.args.report.now c.args.a c.args.b ≡ ( if eqb c.entry_at-r.result 1 then answered (with_route 1 Link) else if eqb c.entry_at-l.result c.entry_at-r.result then answered (with_route c.entry_at-r.result Low) else if eqb h none then refused 11 else answered (with_route c.entry_at-r.result (Through h)))) = rw (
+    let joined : (let h = attaining (taken c.args.n c.args.full.now c.args.a c.args.b) c.args.n c.args.full.now c.args.a c.args.b c.entry_at-r.result in pair c.args.n c.args.full.now c.args.low.now c.args.report.now c.args.a c.args.b ≡ (if eqb c.entry_at-r.result 1 then answered (with_route 1 Link) else if eqb c.entry_at-l.result c.entry_at-r.result then answered (with_route c.entry_at-r.result Low) else if eqb h none then refused 11 else answered (with_route c.entry_at-r.result (Through h)))) = rw (
       ne_eqb _ _ c.if-a-b.false,
       ← c.entry_at-r.ensures,
       ne_eqb _ _ c.if-r.false,
@@ -49,7 +49,7 @@ returns-then-l-r c =
 pub returns-then-h : goal.returns-then-h
 unfolding pair pair_by choose
 returns-then-h c =
-    let joined : (let h = attaining (taken c.args.n c.args.full.now c.args.a c.args.b) c.args.n c.args.full.now c.args.a c.args.b c.entry_at-r.result in pair c.args.n c.args.full.now c.args.low.now c.args.report.now c.args.a c.args.b ≡ ( if eqb c.entry_at-r.result 1 then answered (with_route 1 Link) else if eqb c.entry_at-l.result c.entry_at-r.result then answered (with_route c.entry_at-r.result Low) else if eqb h none then refused 11 else answered (with_route c.entry_at-r.result (Through h)))) = rw (
+    let joined : (let h = attaining (taken c.args.n c.args.full.now c.args.a c.args.b) c.args.n c.args.full.now c.args.a c.args.b c.entry_at-r.result in pair c.args.n c.args.full.now c.args.low.now c.args.report.now c.args.a c.args.b ≡ (if eqb c.entry_at-r.result 1 then answered (with_route 1 Link) else if eqb c.entry_at-l.result c.entry_at-r.result then answered (with_route c.entry_at-r.result Low) else if eqb h none then refused 11 else answered (with_route c.entry_at-r.result (Through h)))) = rw (
       ne_eqb _ _ c.if-a-b.false,
       ← c.entry_at-r.ensures,
       ne_eqb _ _ c.if-r.false,
@@ -66,7 +66,7 @@ returns-then-h c =
 pub returns : goal.returns
 unfolding pair pair_by choose
 returns c =
-    let joined : (let h = attaining (taken c.args.n c.args.full.now c.args.a c.args.b) c.args.n c.args.full.now c.args.a c.args.b c.entry_at-r.result in pair c.args.n c.args.full.now c.args.low.now c.args.report.now c.args.a c.args.b ≡ ( if eqb c.entry_at-r.result 1 then answered (with_route 1 Link) else if eqb c.entry_at-l.result c.entry_at-r.result then answered (with_route c.entry_at-r.result Low) else if eqb h none then refused 11 else answered (with_route c.entry_at-r.result (Through h)))) = rw (
+    let joined : (let h = attaining (taken c.args.n c.args.full.now c.args.a c.args.b) c.args.n c.args.full.now c.args.a c.args.b c.entry_at-r.result in pair c.args.n c.args.full.now c.args.low.now c.args.report.now c.args.a c.args.b ≡ (if eqb c.entry_at-r.result 1 then answered (with_route 1 Link) else if eqb c.entry_at-l.result c.entry_at-r.result then answered (with_route c.entry_at-r.result Low) else if eqb h none then refused 11 else answered (with_route c.entry_at-r.result (Through h)))) = rw (
       ne_eqb _ _ c.if-a-b.false,
       ← c.entry_at-r.ensures,
       ne_eqb _ _ c.if-r.false,

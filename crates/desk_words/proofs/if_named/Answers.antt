@@ -4,8 +4,8 @@ use Rattle.desk_words.proofs.if_named.Goals as goal
 
 pub returns-then-is_word : goal.returns-then-is_word
 unfolding if_named
-returns-then-is_word c = rw (sym c.is_IsWord.ensures ∙ c.if-is_word.true)
+returns-then-is_word c = rw (sym c.is_word.ensures ∙ c.if-is_word.true)
 
 pub returns : goal.returns
 unfolding if_named
-returns c = rw (sym c.is_IsWord.ensures ∙ c.if-is_word.false)
+returns c = rw (sym c.is_word.ensures ∙ c.if-is_word.false)

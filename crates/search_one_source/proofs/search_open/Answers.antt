@@ -15,16 +15,20 @@ use Rattle.search_one_source.proofs.Bfs.{dist}
 use Rattle.search_one_source.proofs.QueueTurns.{Searching, few_open, set_back, search_start, own_below, search_turn, search_stop, search_end}
 use Rattle.search_one_source.proofs.search_open.Goals as goal
 
+-- a search of the row as it is lent is one of the row as the loop has it: the source's entry is set, and set back
+at_loop : (G : Graph) {n count head : ℕ} {p : Progress} (row : List ℕ) (source : ℕ) → get_or row source 0 ≡ none
+    → Searching n G source row count p head → Searching n G source (set (set row source 0) source none) count p head
+at_loop G {n} {count} {head} {p} row source free S =
+    subst (λ (row₀ : List ℕ). Searching n G source row₀ count p head) (set_back row source 0 free) S
+
 pub loop-head-init : goal.loop-head-init
 loop-head-init c =
     let graph : Graph = neighbours_of c.args.starts.now c.args.neighbours.now in
     let few : c.args.count ≤ 1024 = omega (arith, few_open c.args.row.now, c.requires.source_lt_n.2, c.requires.accepted.1, c.requires.accepted.0.size) in
     let source-open : get_or c.args.row.now c.args.source 0 ≡ none = eqb→eq _ none c.requires.source_lt_n.1 in
     let again : c.args.row.now ≡ set (set c.args.row.now c.args.source 0) c.args.source none = set_back c.args.row.now c.args.source 0 source-open in
-    let Search : (row₀ : List ℕ) (p : Progress) (head : ℕ) → Type 0 = λ row₀ p head. Searching c.args.n graph c.args.source row₀ c.args.count p head in
-    let at-loop : {p : Progress} {head : ℕ} → Search c.args.row.now p head → Search (set (set c.args.row.now c.args.source 0) c.args.source none) p head = λ {p} {head} S. subst (λ (row₀ : List ℕ). Search row₀ p head) again S in
-    (
-      at-loop
+    let Search : (row₀ : List ℕ) (p : Progress) (head : ℕ) → Type 0 = λ row₀ p head. Searching c.args.n graph c.args.source row₀ c.args.count p head in (
+      at_loop graph c.args.row.now c.args.source source-open
           (search_start (graph) c.args.row.now (set (replicate 1025 0) 0 c.args.source) c.requires.accepted.1 c.requires.source_lt_n.0
           (source-open) (few) c.requires.source_lt_n.2 (omega arith) refl),
       refl,
@@ -110,7 +114,6 @@ loop-head-preserved c =
     let again : c.args.row.now ≡ set (set c.args.row.now c.args.source 0) c.args.source none = set_back c.args.row.now c.args.source 0 source-open in
     let graph : Graph = neighbours_of c.args.starts.now c.args.neighbours.now in
     let Search : (row₀ : List ℕ) (p : Progress) (head : ℕ) → Type 0 = λ row₀ p head. Searching c.args.n graph c.args.source row₀ c.args.count p head in
-    let at-loop : {p : Progress} {head : ℕ} → Search c.args.row.now p head → Search (set (set c.args.row.now c.args.source 0) c.args.source none) p head = λ {p} {head} S. subst (λ (row₀ : List ℕ). Search row₀ p head) again S in
     let searching : Search c.args.row.now (progress c.loop-head.row c.loop-head.queue c.loop-head.tail) c.loop-head.head = subst (λ (row₀ : List ℕ). Search row₀ (progress c.loop-head.row c.loop-head.queue c.loop-head.tail) c.loop-head.head)
     (sym (again)) c.loop-head.invariant.0 in
     let v : ℕ = get_or c.loop-head.queue c.loop-head.head 0 in
@@ -121,7 +124,7 @@ loop-head-preserved c =
     let found : after ≡ visited_all (dist before c.loop-head.head + 1) c.own-own.result.now before = rw (v-is) c.visit_all-tail.ensures in
     let next = search_turn _ (searching) c.loop-head-test.true c.requires.accepted.0.lists.graph
     (own_is) (source-open) (found) in
-    (at-loop next, search rules)
+    (at_loop graph c.args.row.now c.args.source source-open next, search rules)
 
 pub returns : goal.returns
 returns c =

@@ -8,4 +8,4 @@ pub loop-i-preserved : goal.loop-i-preserved
 loop-i-preserved c =
     marking_more _ _ _ _ _ _ c.loop-i.invariant _ c.loop-i-test.true
     (selected (get_or c.args.new.now c.loop-i.i 0) c.args.b (get_or c.loop-i.part c.loop-i.i 0) c.args.d
-    (c.type_inv.part c.loop-i.i).fits (omega arith))
+    (c.slice_known-1.given c.loop-i.i).fits (omega arith))

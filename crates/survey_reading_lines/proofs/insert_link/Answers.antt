@@ -3,5 +3,5 @@ use Rattle.survey_reading_lines.proofs.LinkLaws.{held_more}
 use Rattle.survey_reading_lines.proofs.insert_link.Goals as goal
 
 pub returns : goal.returns
-returns c =
+returns c links held =
     held_more _ _ _ _ _ c.requires.1 c.requires.2 held (c.insert-2.auto.words ∙ c.insert.auto.words) c.insert.ensures c.insert-2.ensures

@@ -15,7 +15,7 @@ loop-k-init c = progress_none _ _ _ _ c.requires.1
 pub returns-in-Refused : goal.returns-in-Refused
 returns-in-Refused c =
     let few : c.args.n ≤ 1024 = c.requires.0 in
-    progress_refused (few) c.loop.invariant c.loop-test.true _
+    progress_refused (few) c.loop-k.invariant c.loop-k-test.true _
     (sym c.in-Refused.ensures)
 
 pub insert_link-requires : goal.insert_link-requires
@@ -24,9 +24,9 @@ insert_link-requires c =
     let a : ℕ = c.in-Pair.a in
     let b : ℕ = c.in-Pair.b in
     let text : List ℕ = c.args.text.now in
-    let taken : link_in c.args.n (edges_in c.c) (drop c.c text) ≡ answered (a, b, drop c.in-Pair.e text) = sym c.in-Pair.ensures in
+    let taken : link_in c.args.n (edges_in c.loop-k.bits) (drop c.loop-k.next text) ≡ answered (a, b, drop c.in-Pair.e text) = sym c.in-Pair.ensures in
     let below : (a < c.args.n) × (b < c.args.n) = link_below _ _ _ taken in
-    (c.loop.invariant.held.long, omega (arith, below, few), omega (arith, below, few))
+    (c.loop-k.invariant.held.long, omega (arith, below, few), omega (arith, below, few))
 
 pub loop-k-preserved : goal.loop-k-preserved
 loop-k-preserved c =
@@ -34,8 +34,8 @@ loop-k-preserved c =
     let text : List ℕ = c.args.text.now in
     let a : ℕ = c.in-Pair.a in
     let b : ℕ = c.in-Pair.b in
-    let taken : link_in c.args.n (edges_in c.c) (drop c.c text) ≡ answered (a, b, drop c.in-Pair.e text) = sym c.in-Pair.ensures in
-    progress_taken (few) c.loop.invariant c.loop-test.true _ _ (taken) c.insert_link.ensures
+    let taken : link_in c.args.n (edges_in c.loop-k.bits) (drop c.loop-k.next text) ≡ answered (a, b, drop c.in-Pair.e text) = sym c.in-Pair.ensures in
+    progress_taken (few) c.loop-k.invariant c.loop-k-test.true _ _ (taken) c.insert_link.ensures
 
 pub returns-then-next-text : goal.returns-then-next-text
 returns-then-next-text c =

@@ -13,7 +13,7 @@ loop-v-preserved c =
     let degree = own_length _ _ _ (rows_of c.requires.0) _ c.loop-v-test.true in (
       omega arith,
       elim c.if-s-degree.branch [
-        then-s-degree w ↦ rw w.words-is (high_with c.loop-v.invariant.1 (omega arith) w.insert.auto.words w.insert.ensures)
-      | else-s-degree w ↦ rw w.words-is (high_without c.loop-v.invariant.1 (omega arith))
+        | then-s-degree w ↦ rw w.words-is (high_with c.loop-v.invariant.1 (omega arith) w.insert.auto.words w.insert.ensures)
+        | else-s-degree w ↦ rw w.words-is (high_without c.loop-v.invariant.1 (omega arith))
       ],
     )

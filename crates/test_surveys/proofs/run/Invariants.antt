@@ -1,4 +1,3 @@
-
 use Rattle.test_surveys.proofs.run.Given as goal
 
 abbrev pub invariant-loop-turns : goal.invariant-loop-turns

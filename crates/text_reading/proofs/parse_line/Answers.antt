@@ -31,7 +31,7 @@ returns-in_default c =
 pub returns-then-not-has_byte : goal.returns-then-not-has_byte
 returns-then-not-has_byte c =
     let word_there : begins c.args.word.now (drop c.args.at c.args.text.now) ≡ true = sym c.has_word.ensures ∙ c.if-not-has_word.false in
-    let read : numbers_first c.args.separator c.args.count (drop (c.args.at + length c.args.word.now) c.args.text.now) ≡ some ( last_of c.args.count c.in-Last.x c.in-Last.y c.in-Last.z, drop c.in-Last.end c.args.text.now, ) = sym c.in-Last.ensures in
+    let read : numbers_first c.args.separator c.args.count (drop (c.args.at + length c.args.word.now) c.args.text.now) ≡ some (last_of c.args.count c.in-Last.x c.in-Last.y c.in-Last.z, drop c.in-Last.end c.args.text.now) = sym c.in-Last.ensures in
     no_end _ _ _ c.requires _ _ (word_there) _ (read)
     (sym c.has_byte.ensures ∙ c.if-not-has_byte.true)
 
@@ -41,6 +41,6 @@ overflow_add-result c = omega (arith, has_within _ _ _ (sym c.has_byte.ensures �
 pub returns : goal.returns
 returns c =
     let word_there : begins c.args.word.now (drop c.args.at c.args.text.now) ≡ true = sym c.has_word.ensures ∙ c.if-not-has_word.false in
-    let read : numbers_first c.args.separator c.args.count (drop (c.args.at + length c.args.word.now) c.args.text.now) ≡ some ( last_of c.args.count c.in-Last.x c.in-Last.y c.in-Last.z, drop c.in-Last.end c.args.text.now, ) = sym c.in-Last.ensures in
+    let read : numbers_first c.args.separator c.args.count (drop (c.args.at + length c.args.word.now) c.args.text.now) ≡ some (last_of c.args.count c.in-Last.x c.in-Last.y c.in-Last.z, drop c.in-Last.end c.args.text.now) = sym c.in-Last.ensures in
     whole_line _ _ _ c.requires _ _ (word_there) _ (read)
     (sym c.has_byte.ensures ∙ c.if-not-has_byte.false)
