@@ -4,7 +4,8 @@ use Rattle.std.specs.Prelude.{List, ℕ, eqb, ltb, length}
 use Rattle.model.specs.declared.Verdict.{Verdict}
 use Rattle.model.specs.declared.Verdict.TheVariants.{Parted, Long, Short}
 use Rattle.model.specs.declared.TestResult.{TestResult}
-use Rattle.model.specs.Basics.{if◌then◌else◌, none}
+use Rattle.model.specs.Basics.{none}
+use Rattle.std.specs.Prelude.{if◌then◌else◌}
 use Rattle.model.specs.Survey.{Graph}
 use Rattle.model.specs.TwoOrFour.{verdict_of}
 

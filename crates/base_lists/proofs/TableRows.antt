@@ -10,7 +10,8 @@ use lib.Dec.{ltb}
 use lib.ListN.{length, get_or, take, drop, take-append-drop, length-append, length-drop, replicate, length-replicate, get_or-replicate}
 use lib.Seq.{take-append_seam, drop-append-add, drop_at, ext_get_or, get_or-take, length-take-le}
 use Rattle.base_lists.specs.Written.{written}
-use Rattle.model.specs.Basics.{if◌then◌else◌, from, up_to, gather, over}
+use Rattle.model.specs.Basics.{from, up_to, gather, over}
+use Rattle.std.specs.Prelude.{if◌then◌else◌}
 use Rattle.model.specs.Tables.{rows_of, table, entry_at}
 use Rattle.model.proofs.Entries.{rows, length_rows, length_row, get_d_row, length_table, entry_table}
 use Rattle.model.proofs.Lists.{gather_append, gather_same, from_split, of_from}

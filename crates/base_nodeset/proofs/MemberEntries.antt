@@ -11,7 +11,8 @@ use lib.Count.{count_trailing_zeros}
 use lib.Dec.{T}
 use lib.ListN.{length, get_or, set, length-set}
 use lib.Seq.{get_or-set_same, get_or-set_other}
-use Rattle.model.specs.Basics.{if◌then◌else◌, from, up_to, has, keep}
+use Rattle.model.specs.Basics.{from, up_to, has, keep}
+use Rattle.std.specs.Prelude.{if◌then◌else◌}
 use Rattle.model.proofs.Tests.{eq_or, lt_or, or_l, or_r, or_e, same_test}
 use Rattle.model.proofs.Lists.{has_head, has_tail, has_append, has_later, of_append, has_keep, of_keep, has_up_to}
 use Rattle.base_nodeset.specs.NodeSet.{member, members_from}

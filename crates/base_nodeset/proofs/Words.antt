@@ -14,7 +14,8 @@ use lib.Dec.{T, ltb}
 use lib.ListN.{length, get_or, set, length-set, length-append, replicate, get_or-eq_default}
 use lib.Pow.{pow_pos}
 use lib.Seq.{get_or-set_other}
-use Rattle.model.specs.Basics.{if◌then◌else◌, from, up_to, keep, first_of}
+use Rattle.model.specs.Basics.{from, up_to, keep, first_of}
+use Rattle.std.specs.Prelude.{if◌then◌else◌}
 use Rattle.model.proofs.Tests.{ltb_same, lt_or, eq_or}
 use Rattle.model.proofs.Lists.{First, found, nothing, first_of_lem, keep_append, keep_length, length_up_to, up_to_add}
 use Rattle.base_nodeset.specs.NodeSet.{Nodes, bit, member, empty_set, intersection, difference, members_from}

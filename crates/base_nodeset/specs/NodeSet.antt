@@ -1,7 +1,7 @@
 -- Sets of numbers as lists of 64-bit words (bit sets).
 -- Assumes nothing.
 use Rattle.std.specs.Prelude.{Bool, false, not, ◌&&◌, ◌||◌, List, [], ◌∷◌, ℕ, zero, suc, ◌/◌, ◌%◌, ◌^◌, eqb, get_or}
-use Rattle.model.specs.Basics.{if◌then◌else◌}
+use Rattle.std.specs.Prelude.{if◌then◌else◌}
 
 -- a set says of each number whether it is in it
 abbrev pub Nodes : Type 0

@@ -2,7 +2,8 @@
 #![tactic(auto)]
 
 ghost use Rattle.std.specs.Prelude.{◌≡◌, ℕ, ◌*◌, ◌/◌, ◌^◌, ◌<◌, ◌≤◌, T, ltb, length, get_or, replicate};
-ghost use Rattle.model.specs.Basics.{if◌then◌else◌, up_to, has, keep, first_of};
+ghost use Rattle.model.specs.Basics.{up_to, has, keep, first_of};
+ghost use Rattle.std.specs.Prelude.{if◌then◌else◌};
 ghost use Rattle.base_nodeset.specs.NodeSet.{member, inserted, intersection, difference, members_from};
 
 pub fn insert(words: &mut [u64], v: usize)

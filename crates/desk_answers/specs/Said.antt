@@ -4,7 +4,8 @@ use Rattle.std.specs.Prelude.{List, [], ◌++◌, ℕ, ◌+◌, eqb, leb, length
 use Rattle.model.specs.declared.Answer.{Answer}
 use Rattle.model.specs.declared.TestResult.{TestResult}
 use Rattle.model.specs.Answers.{Outcome, refused, answered}
-use Rattle.model.specs.Basics.{none, if◌then◌else◌, up_to, keep}
+use Rattle.model.specs.Basics.{none, up_to, keep}
+use Rattle.std.specs.Prelude.{if◌then◌else◌}
 use Rattle.model.specs.Survey.{Graph, neighbours_of}
 use Rattle.model.specs.Hubs.{is_high, hubs}
 use Rattle.model.specs.Tables.{full_table, low_table, report_table}

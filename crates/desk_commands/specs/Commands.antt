@@ -3,7 +3,7 @@
 use Rattle.std.specs.Prelude.{Bool, true, false, not, List, ℕ, ◌-◌, ltb, length}
 use Rattle.model.specs.declared.Size.{Size}
 use Rattle.model.specs.Answers.{Outcome, refused, answered}
-use Rattle.model.specs.Basics.{if◌then◌else◌}
+use Rattle.std.specs.Prelude.{if◌then◌else◌}
 use Rattle.model.specs.Survey.{neighbours_of}
 use Rattle.model.specs.Threshold.{in_force, bad_threshold}
 use Rattle.model.specs.Reading.{AfterReading, parse, reading_of}

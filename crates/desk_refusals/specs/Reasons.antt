@@ -2,7 +2,8 @@
 -- stopped; of a node; of a threshold.
 -- Assumes nothing.
 use Rattle.std.specs.Prelude.{List, [], ◌∷◌, ◌++◌, ℕ, ◌-◌, eqb}
-use Rattle.model.specs.Basics.{if◌then◌else◌, bytes}
+use Rattle.model.specs.Basics.{bytes}
+use Rattle.std.specs.Prelude.{if◌then◌else◌}
 use Rattle.desk_sentences.specs.Sentences.{sentence}
 use Rattle.desk_refusals.specs.declared.Source.{Source}
 use Rattle.desk_refusals.specs.declared.Source.TheVariants.{Survey, Listing, File}

@@ -7,7 +7,8 @@ use Rattle.model.specs.declared.Answer.{Answer}
 use Rattle.model.specs.declared.Verdict.{Verdict}
 use Rattle.model.specs.declared.Verdict.TheVariants.{Parted, Long, Short}
 use Rattle.model.specs.declared.TestResult.{TestResult}
-use Rattle.model.specs.Basics.{none, if◌then◌else◌, gather, bytes}
+use Rattle.model.specs.Basics.{none, gather, bytes}
+use Rattle.std.specs.Prelude.{if◌then◌else◌}
 use Rattle.model.specs.Numbers.{digits}
 use Rattle.model.specs.Demand.{least_needed}
 

@@ -1,7 +1,7 @@
 -- What is said of two nodes: their answer, or their walk too.
 -- Assumes nothing.
 use Rattle.std.specs.Prelude.{Bool, List, ℕ}
-use Rattle.model.specs.Basics.{if◌then◌else◌}
+use Rattle.std.specs.Prelude.{if◌then◌else◌}
 use Rattle.model.specs.Survey.{neighbours_of}
 use Rattle.model.specs.Threshold.{in_force}
 use Rattle.desk_answers.specs.Said.{pair_said, walk_said}

@@ -8,7 +8,8 @@ use native.Mathlib.Nat.{le_refl}
 use native.Mathlib.Omega.{arith}
 use lib.Dec.{T, eqb, leb}
 use lib.ListN.{length, drop, drop_of_length-le}
-use Rattle.model.specs.Basics.{if◌then◌else◌, same, all}
+use Rattle.model.specs.Basics.{same, all}
+use Rattle.std.specs.Prelude.{if◌then◌else◌}
 use Rattle.model.specs.Numbers.{is_digit, is_number, value_of}
 use Rattle.model.proofs.Tests.{true_T, and_l, and_r}
 use Rattle.desk_words.specs.declared.Command.{Command}

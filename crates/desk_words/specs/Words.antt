@@ -1,7 +1,8 @@
 -- What a word says, the first one and those behind it, and what all of them ask (docs/COMMANDS.md).
 -- Assumes nothing.
 use Rattle.std.specs.Prelude.{Bool, true, false, not, ◌&&◌, List, [], ◌∷◌, ℕ, eqb, ltb}
-use Rattle.model.specs.Basics.{if◌then◌else◌, same, bytes}
+use Rattle.model.specs.Basics.{same, bytes}
+use Rattle.std.specs.Prelude.{if◌then◌else◌}
 use Rattle.model.specs.Numbers.{is_number, value_of}
 use Rattle.desk_words.specs.declared.Command.{Command}
 use Rattle.desk_words.specs.declared.Command.TheVariants.{Pair, Walk, Test, Hubs, Reports, Check, Write, Export, Import, Help}

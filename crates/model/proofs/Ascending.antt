@@ -9,7 +9,8 @@ use native.Mathlib.Nat.{lt_trans, le_of_suc-le-suc}
 use native.Mathlib.Omega.{arith}
 use lib.Dec.{T, ltb, ltb→lt, lt→ltb}
 use lib.ListN.{length, get_or}
-use Rattle.model.specs.Basics.{if◌then◌else◌, from, up_to, has, keep}
+use Rattle.model.specs.Basics.{from, up_to, has, keep}
+use Rattle.std.specs.Prelude.{if◌then◌else◌}
 use Rattle.model.specs.Survey.{ascending}
 use Rattle.model.proofs.Tests.{and_l, and_r, and_i, T_true, no_false, eq_or}
 use Rattle.model.proofs.Lists.{has_head, has_tail, has_later, none_in, of_cons, of_keep, of_from, keep_same, keep_none}

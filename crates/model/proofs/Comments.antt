@@ -8,7 +8,8 @@ use Prim.Native.Nat.{ℕ}
 use borrow.Author.Tests.{eqb-true}
 use lib.Dec.{T}
 use lib.ListN.{get_or}
-use Rattle.model.specs.Basics.{if◌then◌else◌, has, gather}
+use Rattle.model.specs.Basics.{has, gather}
+use Rattle.std.specs.Prelude.{if◌then◌else◌}
 use Rattle.model.specs.Lines.{split, joined, AllFree, cut, fields_behind, with_rest, field_line}
 use Rattle.model.specs.Lines.{numbers_in, number_line, two_line, number_line_of}
 use Rattle.model.specs.Dimacs.{is_comment, no_comments, uncommented, item_text, comments_text}

@@ -13,7 +13,8 @@ use lib.Dec.{T, eqb}
 use lib.ListN.{length, get_or}
 use Rattle.model.specs.declared.Size.{Size}
 use Rattle.model.specs.Answers.{Outcome, refused, answered, map_answer, and_then}
-use Rattle.model.specs.Basics.{if◌then◌else◌, up_to, has, keep, gather, over}
+use Rattle.model.specs.Basics.{up_to, has, keep, gather, over}
+use Rattle.std.specs.Prelude.{if◌then◌else◌}
 use Rattle.model.specs.Lines.{AllFree, two_line}
 use Rattle.model.specs.SurveyText.{ordered}
 use Rattle.model.specs.Survey.{outside, neighbours_of, Accepted}

@@ -12,7 +12,7 @@ use lib.Dec.{eqb, ltb, leb}
 use lib.ListN.{length, take, drop, take-append-drop}
 use lib.Seq.{take-append-add}
 use Rattle.model.specs.Answers.{Outcome, refused, answered}
-use Rattle.model.specs.Basics.{if◌then◌else◌}
+use Rattle.std.specs.Prelude.{if◌then◌else◌}
 use Rattle.model.specs.SurveyText.{line, line_of}
 use Rattle.model.specs.Survey.{outside}
 use Rattle.model.specs.Reading.{limits_of, named, on_links, link_of, read_on, read_links, parsed, counts_of, parse_links, parse, reading_of, reading}

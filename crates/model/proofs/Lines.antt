@@ -12,7 +12,8 @@ use native.Mathlib.Omega.{arith}
 use borrow.Author.Tests.{eqb-true, eqb-false}
 use lib.ListN.{length, length-append, get_or}
 use lib.Dec.{T, eqb, eqb→eq}
-use Rattle.model.specs.Basics.{if◌then◌else◌, has, gather}
+use Rattle.model.specs.Basics.{has, gather}
+use Rattle.std.specs.Prelude.{if◌then◌else◌}
 use Rattle.model.specs.Numbers.{is_number, value_of, digits}
 use Rattle.model.specs.Lines.{on_first, split, joined, AllFree, on_front, cut, behind, after_empty, fields_behind, field_line}
 use Rattle.model.specs.Lines.{with_rest, numbers_in, number_line, two_line, fields_text, field_line_of, number_line_of}

@@ -9,7 +9,8 @@ use native.Mathlib.Nat.{le_step, le_refl, add-zero, add-suc, suc-add, zero-add}
 use native.Mathlib.Omega.{arith}
 use lib.Dec.{T, eqb, eqb→eq, eqb_refl}
 use lib.ListN.{length}
-use Rattle.model.specs.Basics.{if◌then◌else◌, from, up_to, has, any, all, keep, first_of, gather, same}
+use Rattle.model.specs.Basics.{from, up_to, has, any, all, keep, first_of, gather, same}
+use Rattle.std.specs.Prelude.{if◌then◌else◌}
 use Rattle.model.proofs.Tests.{and_l, and_r, and_i, or_l, or_r, or_e, eq_or}
 
 -- ---- membership

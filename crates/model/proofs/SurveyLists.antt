@@ -12,7 +12,8 @@ use lib.Dec.{T, ltb, ltb→lt, lt→ltb}
 use lib.ListN.{length, get_or, take, drop, length-append, length-take, get_or-append}
 use lib.Seq.{take-nil, take_at, drop_at, take-take, take-add, get_or-take, ext_get_or}
 use Rattle.model.specs.Answers.{refused, answered}
-use Rattle.model.specs.Basics.{if◌then◌else◌, from, up_to, has, gather}
+use Rattle.model.specs.Basics.{from, up_to, has, gather}
+use Rattle.std.specs.Prelude.{if◌then◌else◌}
 use Rattle.model.specs.Survey.{Graph, neighbours_of, is_survey, bad_size, accepting, IsSurvey, Accepted}
 use Rattle.model.specs.Graph.{linked}
 use Rattle.model.specs.Reading.{starts_of, neighbours_from}

@@ -7,7 +7,8 @@ use Prim.Native.Nat.{ℕ, ◌<◌}
 use native.Mathlib.Nat.{le_antisymm}
 use borrow.Author.Tests.{lt-ltb}
 use lib.Dec.{T, ltb}
-use Rattle.model.specs.Basics.{none, if◌then◌else◌, has}
+use Rattle.model.specs.Basics.{none, has}
+use Rattle.std.specs.Prelude.{if◌then◌else◌}
 use Rattle.model.specs.Graph.{Edges, between, Chain, here, link, Fewest, fewest, linked}
 use Rattle.model.specs.Survey.{Graph, IsGraph}
 use Rattle.model.specs.Hubs.{is_low, hubs}

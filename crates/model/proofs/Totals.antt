@@ -10,7 +10,8 @@ use native.Mathlib.Omega.{arith}
 use borrow.Author.Tests.{eqb-true, eqb-false}
 use lib.Dec.{T, eqb, eqb→eq}
 use lib.ListN.{length, length-append}
-use Rattle.model.specs.Basics.{if◌then◌else◌, from, up_to, keep, gather}
+use Rattle.model.specs.Basics.{from, up_to, keep, gather}
+use Rattle.std.specs.Prelude.{if◌then◌else◌}
 use Rattle.model.specs.Reading.{named, graph_of}
 use Rattle.model.proofs.Tests.{and_l, and_r, or_e, false_no, or_turned}
 use Rattle.model.proofs.Links.{Fresh, AllFresh}

@@ -13,7 +13,8 @@ use lib.Dec.{T, eqb, ltb, eqb→eq, ltb→lt, T_not}
 use lib.ListN.{length}
 use Rattle.model.specs.declared.Verdict.{Verdict}
 use Rattle.model.specs.declared.Verdict.TheVariants.{Parted, Long, Short}
-use Rattle.model.specs.Basics.{none, if◌then◌else◌, has, any, up_to}
+use Rattle.model.specs.Basics.{none, has, any, up_to}
+use Rattle.std.specs.Prelude.{if◌then◌else◌}
 use Rattle.model.specs.Graph.{Edges, Chain, Unjoined, link, Fewest, fewest, linked}
 use Rattle.model.specs.Survey.{Graph, neighbours_of, IsGraph, Accepted}
 use Rattle.model.specs.Hubs.{is_high, is_low, closed, hubs}

@@ -15,7 +15,8 @@ use lib.ListN.{length, replicate, length-append, length-reverse}
 use Rattle.model.specs.declared.Route.TheVariants.{Itself, Low, Through, NoRoute, Link}
 use Rattle.model.specs.declared.Answer.{Answer}
 use Rattle.model.specs.Answers.{Outcome, refused, answered}
-use Rattle.model.specs.Basics.{none, if◌then◌else◌, has, keep, up_to}
+use Rattle.model.specs.Basics.{none, has, keep, up_to}
+use Rattle.std.specs.Prelude.{if◌then◌else◌}
 use Rattle.model.specs.Graph.{Edges, Walked, stop, go, linked}
 use Rattle.model.specs.Survey.{Graph, IsGraph}
 use Rattle.model.specs.Hubs.{is_low}

@@ -18,7 +18,7 @@ use Rattle.model.specs.declared.Asking.{Asking}
 use Rattle.model.specs.declared.Asking.TheVariants as asking
 use Rattle.model.specs.declared.Testing.{Testing}
 use Rattle.model.specs.declared.Testing.TheVariants as testing
-use Rattle.model.specs.Basics.{if◌then◌else◌}
+use Rattle.std.specs.Prelude.{if◌then◌else◌}
 
 -- a refusal with its number, or the answer's value (rule 10.1)
 pub data Outcome (A : Type 0) : Type 0 where

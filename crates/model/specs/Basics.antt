@@ -1,17 +1,12 @@
 -- Small functions on tests and lists, of which the definitions are made. Only `none` and `over` state a rule.
 -- Assumes nothing.
-use Rattle.std.specs.Prelude.{Bool, true, false, ◌&&◌, ◌||◌, List, [], ◌∷◌, ◌++◌, ℕ, zero, suc, eqb, length, drop}
+use Rattle.std.specs.Prelude.{if◌then◌else◌, if◌then◌else◌, if◌then◌else◌, Bool, true, false, ◌&&◌, ◌||◌, List, [], ◌∷◌, ◌++◌, ℕ, zero, suc, eqb, length, drop}
 use Prim.Native.Char.{code}
 use Prim.Native.String.{String}
 
 -- rule 5.1: none (an infinite distance, or no node)
 abbrev pub none : ℕ
 none = 65535
-
-infixr 10 if◌then◌else◌
-abbrev pub if◌then◌else◌ : {A : Type 0} → Bool → A → A → A
-if◌then◌else◌ true x y = x
-if◌then◌else◌ false x y = y
 
 -- m numbers from k on: k, k + 1, ..; and the numbers below n. (A `let` is computed only when it is read.)
 unfoldable pub from : ℕ → ℕ → List ℕ

@@ -7,7 +7,8 @@ use Rattle.model.specs.declared.TestResult.{TestResult}
 use Rattle.model.specs.declared.Verdict.{Verdict}
 use Rattle.model.specs.declared.Verdict.TheVariants.{Parted, Long, Short}
 use Rattle.model.specs.Answers.{Outcome, answered}
-use Rattle.model.specs.Basics.{none, if◌then◌else◌, over, gather}
+use Rattle.model.specs.Basics.{none, over, gather}
+use Rattle.std.specs.Prelude.{if◌then◌else◌}
 use Rattle.model.specs.Graph.{Edges, linked, Chain, Unjoined, Fewest, WithinTwo, Walked}
 use Rattle.model.specs.declared.Size.{Size}
 use Rattle.model.specs.SurveyText.{line_of, survey_text}

@@ -5,7 +5,8 @@ use Rattle.std.specs.Prelude.{◌≡◌, Bool, false, ◌||◌, List, [], ◌∷
 use Rattle.std.proofs.Math.Option.{Option, none as missing, some}
 use Rattle.model.specs.declared.Size.{Size}
 use Rattle.model.specs.Answers.{Outcome, refused, answered, map_answer, and_then, Refusals, ◌when◌, judged}
-use Rattle.model.specs.Basics.{if◌then◌else◌, has, gather}
+use Rattle.model.specs.Basics.{has, gather}
+use Rattle.std.specs.Prelude.{if◌then◌else◌}
 use Rattle.model.specs.Lines.{split, joined, AllFree, two_line, number_line_of}
 use Rattle.model.specs.SurveyText.{ordered}
 use Rattle.model.specs.Survey.{outside, neighbours_of, accepting, Accepted}

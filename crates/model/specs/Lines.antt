@@ -3,7 +3,8 @@
 use Rattle.std.specs.Prelude.{List, [], ◌∷◌, ◌++◌, map, ℕ, zero, suc, T, eqb, get_or}
 use Rattle.std.proofs.Math.Option
 use Rattle.std.proofs.Math.Option.{Option, none as missing, some, bind}
-use Rattle.model.specs.Basics.{if◌then◌else◌, has, gather}
+use Rattle.model.specs.Basics.{has, gather}
+use Rattle.std.specs.Prelude.{if◌then◌else◌}
 use Rattle.model.specs.Numbers.{is_number, value_of, digits}
 
 -- x in front of the first field (rule 2.2)

@@ -5,7 +5,8 @@ use Rattle.model.specs.declared.Route.{Route}
 use Rattle.model.specs.declared.Route.TheVariants.{Itself, Low, Through, NoRoute, Link}
 use Rattle.model.specs.declared.Answer.{Answer}
 use Rattle.model.specs.Answers.{Outcome, refused, answered}
-use Rattle.model.specs.Basics.{none, if◌then◌else◌, up_to, gather}
+use Rattle.model.specs.Basics.{none, up_to, gather}
+use Rattle.std.specs.Prelude.{if◌then◌else◌}
 use Rattle.model.specs.Numbers.{digits}
 use Rattle.model.specs.SurveyText.{line_of, ordered}
 use Rattle.model.specs.Survey.{Graph}

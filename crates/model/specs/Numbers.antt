@@ -1,7 +1,8 @@
 -- Numbers as decimal text. A byte is a number: 48 to 57 are the digits.
 -- Assumes nothing.
 use Rattle.std.specs.Prelude.{Bool, false, not, ◌&&◌, ◌||◌, List, [], ◌∷◌, ◌++◌, ℕ, zero, suc, ◌+◌, ◌-◌, ◌*◌, ◌/◌, ◌%◌, eqb, ltb, leb, length}
-use Rattle.model.specs.Basics.{if◌then◌else◌, all}
+use Rattle.model.specs.Basics.{all}
+use Rattle.std.specs.Prelude.{if◌then◌else◌}
 
 -- a digit (rule 2.3)
 unfoldable pub is_digit : ℕ → Bool

@@ -5,7 +5,8 @@ use Rattle.model.specs.declared.Route.{Route}
 use Rattle.model.specs.declared.Route.TheVariants.{Itself, Low, Through, NoRoute, Link}
 use Rattle.model.specs.declared.Answer.{Answer}
 use Rattle.model.specs.Answers.{Outcome, refused, answered}
-use Rattle.model.specs.Basics.{none, if◌then◌else◌, up_to, has, first_of}
+use Rattle.model.specs.Basics.{none, up_to, has, first_of}
+use Rattle.std.specs.Prelude.{if◌then◌else◌}
 use Rattle.model.specs.Tables.{entry_at, via}
 
 -- refusal 10: one of two nodes is n or more (rule 10.8)

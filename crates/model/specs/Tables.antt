@@ -2,7 +2,8 @@
 -- Assumes nothing.
 use Rattle.std.specs.Prelude.{◌≡◌, Bool, ◌&&◌, ◌||◌, ℕ, ◌+◌, ◌-◌, ◌*◌, min, eqb, ltb, length, get_or, take, replicate}
 use mathlib.Core.List.{List, ◌++◌, map, foldr}
-use Rattle.model.specs.Basics.{none, if◌then◌else◌, up_to, has, gather}
+use Rattle.model.specs.Basics.{none, up_to, has, gather}
+use Rattle.std.specs.Prelude.{if◌then◌else◌}
 use Rattle.model.specs.Graph.{Edges, between, fewest, linked}
 use Rattle.model.specs.Survey.{Graph}
 use Rattle.model.specs.Hubs.{is_low, hubs}

@@ -2,7 +2,8 @@
 -- Assumes nothing.
 use Rattle.std.specs.Prelude.{Bool, [], ◌∷◌, ℕ, ◌+◌, ◌*◌, ◌^◌, eqb, ltb, leb}
 use Rattle.model.specs.Answers.{Outcome, refused, answered, ◌when◌, judged}
-use Rattle.model.specs.Basics.{none, if◌then◌else◌, up_to, first_of}
+use Rattle.model.specs.Basics.{none, up_to, first_of}
+use Rattle.std.specs.Prelude.{if◌then◌else◌}
 use Rattle.model.specs.Survey.{bad_size}
 
 -- rule 4.1: the smallest k with n below 2 ^ k

@@ -4,7 +4,8 @@ use Rattle.std.specs.Prelude.{List, ℕ, eqb, ltb, length}
 use Rattle.model.specs.declared.Verdict.{Verdict}
 use Rattle.model.specs.declared.Verdict.TheVariants.{Parted, Long, Short}
 use Rattle.model.specs.declared.TestResult.{TestResult}
-use Rattle.model.specs.Basics.{none, if◌then◌else◌, up_to, any, first_of}
+use Rattle.model.specs.Basics.{none, up_to, any, first_of}
+use Rattle.std.specs.Prelude.{if◌then◌else◌}
 use Rattle.model.specs.Graph.{fewest, linked}
 use Rattle.model.specs.Survey.{Graph}
 use Rattle.model.specs.Hubs.{is_low, closed, hubs}

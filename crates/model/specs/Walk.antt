@@ -6,7 +6,8 @@ use mathlib.Core.List.{List, [], ◌∷◌, ◌++◌, reverse, tail}
 use Rattle.std.proofs.Math.Option.{Option, none as missing, some, map}
 use Rattle.model.specs.declared.Route.{Route}
 use Rattle.model.specs.declared.Route.TheVariants.{Itself, Low, Through, NoRoute, Link}
-use Rattle.model.specs.Basics.{none, if◌then◌else◌, first_of}
+use Rattle.model.specs.Basics.{none, first_of}
+use Rattle.std.specs.Prelude.{if◌then◌else◌}
 use Rattle.model.specs.Survey.{Graph}
 use Rattle.model.specs.Graph.{linked}
 use Rattle.model.specs.Hubs.{is_low}

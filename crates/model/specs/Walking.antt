@@ -5,7 +5,8 @@ use Rattle.std.proofs.Math.Option.{Option, none as missing, some}
 use Rattle.model.specs.declared.Answer.{Answer}
 use Rattle.model.specs.declared.Asking.{Asking}
 use Rattle.model.specs.Answers.{Outcome, refused, answered, Refusals, ◌when◌, judged, pair_answer}
-use Rattle.model.specs.Basics.{none, if◌then◌else◌}
+use Rattle.model.specs.Basics.{none}
+use Rattle.std.specs.Prelude.{if◌then◌else◌}
 use Rattle.model.specs.Survey.{Graph, neighbours_of, bad_size, short_starts, is_survey}
 use Rattle.model.specs.Threshold.{in_force, bad_threshold}
 use Rattle.model.specs.Tables.{short_tables}

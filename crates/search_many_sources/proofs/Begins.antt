@@ -13,7 +13,7 @@ use lib.Dec.{T, eqb, leb, ltb}
 use lib.ListN.{length, get_or, set, replicate, length-replicate}
 use lib.Pow.{shl_exact}
 use lib.Seq.{get_or-set_same, get_or-set_other}
-use Rattle.model.specs.Basics.{if◌then◌else◌}
+use Rattle.std.specs.Prelude.{if◌then◌else◌}
 use Rattle.model.specs.Graph.{Edges}
 use Rattle.model.specs.Tables.{entry_at}
 use Rattle.model.proofs.Entries.{get_d_same, place_inside}

@@ -11,7 +11,8 @@ use native.Mathlib.Omega.{arith}
 use borrow.Author.Tests.{lt-ltb, le-ltb}
 use lib.Dec.{T, ltb}
 use lib.ListN.{length, get_or, replicate, length-replicate, get_or-replicate}
-use Rattle.model.specs.Basics.{none, if◌then◌else◌}
+use Rattle.model.specs.Basics.{none}
+use Rattle.std.specs.Prelude.{if◌then◌else◌}
 use Rattle.model.specs.Graph.{Edges, between, linked, fewest, Fewest, Unjoined}
 use Rattle.model.specs.Survey.{Graph, IsGraph}
 use Rattle.model.specs.Tables.{entry_at}

@@ -8,7 +8,8 @@ use Prim.Native.Nat.{ℕ, zero, suc, ◌+◌, ◌-◌, ◌≤◌, ◌<◌, zero-
 use native.Mathlib.Nat.{add-zero, add-suc}
 use native.Mathlib.Omega.{arith}
 use lib.Dec.{T, eqb, not_T}
-use Rattle.model.specs.Basics.{none, if◌then◌else◌, from, up_to, has, any, first_of}
+use Rattle.model.specs.Basics.{none, from, up_to, has, any, first_of}
+use Rattle.std.specs.Prelude.{if◌then◌else◌}
 use Rattle.model.specs.Graph.{Edges, between, linked, reach, fewest}
 use Rattle.model.specs.Survey.{Graph, IsGraph}
 use Rattle.model.specs.Tables.{entry_at}

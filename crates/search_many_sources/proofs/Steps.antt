@@ -10,7 +10,8 @@ use native.Mathlib.Omega.{arith}
 use borrow.Rule.Slice.PartMut.{mid_of, put_mid, mid_len}
 use lib.Dec.{T}
 use lib.ListN.{length, get_or, replicate}
-use Rattle.model.specs.Basics.{if◌then◌else◌, any}
+use Rattle.model.specs.Basics.{any}
+use Rattle.std.specs.Prelude.{if◌then◌else◌}
 use Rattle.model.specs.Graph.{Edges}
 use Rattle.model.specs.Survey.{Graph}
 use Rattle.model.specs.Tables.{entry_at}

@@ -2,7 +2,8 @@
 -- whether the source has reached the node.
 -- Assumes nothing.
 use Rattle.std.specs.Prelude.{◌≡◌, Bool, false, not, ◌&&◌, ◌||◌, List, ℕ, ◌+◌, ◌-◌, ◌<◌, T, eqb, leb, ltb}
-use Rattle.model.specs.Basics.{none, if◌then◌else◌, any}
+use Rattle.model.specs.Basics.{none, any}
+use Rattle.std.specs.Prelude.{if◌then◌else◌}
 use Rattle.model.specs.Graph.{Edges, between, fewest, linked}
 use Rattle.model.specs.Survey.{Graph}
 use Rattle.model.specs.Tables.{table, entry_at}

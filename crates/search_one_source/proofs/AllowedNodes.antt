@@ -8,7 +8,8 @@ use native.Mathlib.Omega.{arith}
 use borrow.Author.Tests.{lt-ltb}
 use lib.Dec.{T, eqb, ltb, ltb→lt}
 use lib.ListN.{length, get_or, replicate, get_or-replicate}
-use Rattle.model.specs.Basics.{none, if◌then◌else◌, up_to, keep}
+use Rattle.model.specs.Basics.{none, up_to, keep}
+use Rattle.std.specs.Prelude.{if◌then◌else◌}
 use Rattle.model.specs.Graph.{Edges, between, fewest, linked}
 use Rattle.model.specs.Survey.{Graph}
 use Rattle.model.proofs.Tests.{and_l, false_no}

@@ -12,7 +12,8 @@ use borrow.Author.Tests.{eqb-true, eqb-false, eq-eqb, ne_eqb}
 use lib.Dec.{T, eqb}
 use lib.ListN.{length, get_or, length-set, length-append, get_or-append}
 use lib.Seq.{get_or-set_same, get_or-set_other, get_or_at}
-use Rattle.model.specs.Basics.{none, if◌then◌else◌, has, up_to}
+use Rattle.model.specs.Basics.{none, has, up_to}
+use Rattle.std.specs.Prelude.{if◌then◌else◌}
 use Rattle.model.specs.Graph.{Edges, Chain, here, link, Unjoined, Fewest, fewest}
 use Rattle.model.proofs.Tests.{eq_or, lt_or}
 use Rattle.model.proofs.Lists.{none_in, of_single, of_cons, has_head, has_tail}

@@ -1,7 +1,8 @@
 -- What a search leaves in a row.
 -- Assumes nothing.
 use Rattle.std.specs.Prelude.{Bool, List, map, ℕ, eqb, get_or}
-use Rattle.model.specs.Basics.{none, if◌then◌else◌, up_to}
+use Rattle.model.specs.Basics.{none, up_to}
+use Rattle.std.specs.Prelude.{if◌then◌else◌}
 use Rattle.model.specs.Graph.{Edges, between, fewest}
 
 -- the nodes that a search may enter: those whose entry is none

@@ -12,7 +12,8 @@ use borrow.Author.Tests.{eq-eqb, ne_eqb}
 use lib.Dec.{T, eqb, eqb→eq}
 use lib.ListN.{length, get_or, set, take, drop, replicate, length-set, drop_of_length-le}
 use lib.Seq.{take-set-le, take-suc-set, set-get_or}
-use Rattle.model.specs.Basics.{none, if◌then◌else◌, has, keep}
+use Rattle.model.specs.Basics.{none, has, keep}
+use Rattle.std.specs.Prelude.{if◌then◌else◌}
 use Rattle.model.proofs.Tests.{picked, true_T, eq_or}
 use Rattle.model.proofs.Lists.{has_head, has_tail}
 use Rattle.model.proofs.Loops.{drop_next}

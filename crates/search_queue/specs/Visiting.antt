@@ -1,7 +1,8 @@
 -- What visiting a node does to a search's row and queue.
 -- Assumes nothing.
 use Rattle.std.specs.Prelude.{List, [], ◌∷◌, ◌++◌, ℕ, ◌+◌, eqb, length, get_or, take, set}
-use Rattle.model.specs.Basics.{none, if◌then◌else◌, keep}
+use Rattle.model.specs.Basics.{none, keep}
+use Rattle.std.specs.Prelude.{if◌then◌else◌}
 
 -- how many nodes of a row have no distance
 unfoldable pub unreached : List ℕ → ℕ

@@ -3,7 +3,8 @@
 #![tactic(auto)]
 
 ghost use Rattle.std.specs.Prelude.{◌≡◌, ℕ, ◌+◌, ◌<◌, ◌≤◌, T, eqb, length};
-ghost use Rattle.model.specs.Basics.{none, if◌then◌else◌, has};
+ghost use Rattle.model.specs.Basics.{none, has};
+ghost use Rattle.std.specs.Prelude.{if◌then◌else◌};
 ghost use Rattle.search_queue.specs.Visiting.{unreached, progress, visited, visited_all};
 
 use model::NONE;

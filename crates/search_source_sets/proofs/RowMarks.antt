@@ -15,7 +15,8 @@ use lib.Count.{count_trailing_zeros}
 use lib.Dec.{T, eqb}
 use lib.ListN.{length, get_or, set, length-set}
 use lib.Seq.{get_or-set_same, get_or-set_other}
-use Rattle.model.specs.Basics.{if◌then◌else◌, from, up_to, has, keep}
+use Rattle.model.specs.Basics.{from, up_to, has, keep}
+use Rattle.std.specs.Prelude.{if◌then◌else◌}
 use Rattle.model.proofs.Loops.{below_next}
 use Rattle.model.proofs.Lists.{has_keep, has_up_to, of_cons, none_in}
 use Rattle.model.proofs.Tests.{eq_or, lt_or, passes, no_false}

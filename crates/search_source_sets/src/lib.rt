@@ -3,7 +3,8 @@
 #![tactic(auto)]
 
 ghost use Rattle.std.specs.Prelude.{◌≡◌, ◌&&◌, ◌||◌, ℕ, ◌/◌, ◌<◌, ◌≤◌, T, eqb, length, get_or};
-ghost use Rattle.model.specs.Basics.{if◌then◌else◌, has, any};
+ghost use Rattle.model.specs.Basics.{has, any};
+ghost use Rattle.std.specs.Prelude.{if◌then◌else◌};
 ghost use Rattle.base_nodeset.specs.NodeSet.{bit};
 ghost use Rattle.search_source_sets.specs.SourceSets.{in_row, reached, Covers, RowPut, RowLeft};
 

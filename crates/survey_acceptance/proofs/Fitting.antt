@@ -13,7 +13,8 @@ use lib.Bits.{bit_or, bit_xor, or_add_and, xor_add_and, and_le_l, and_le_r, xor_
 use lib.Dec.{T, eqb, ltb, eqb→eq, ltb→lt}
 use lib.ListN.{length, get_or, take, drop, set, length-set, drop_of_length-le}
 use lib.Seq.{get_or-set_same, get_or-set_other, take-suc, take_all}
-use Rattle.model.specs.Basics.{if◌then◌else◌, has, all}
+use Rattle.model.specs.Basics.{has, all}
+use Rattle.std.specs.Prelude.{if◌then◌else◌}
 use Rattle.model.specs.Survey.{ascending}
 use Rattle.model.proofs.Tests.{true_T, false_no, T_true, and_l, and_r, and_i, eq_T, no_false, same_test, eq_or}
 use Rattle.model.proofs.Lists.{has_head, has_append, has_later, of_append, of_single, of_all, all_of, none_in}

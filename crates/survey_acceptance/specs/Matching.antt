@@ -2,7 +2,8 @@
 -- passed.
 -- Assumes nothing.
 use Rattle.std.specs.Prelude.{◌≡◌, Bool, ◌&&◌, List, ◌∷◌, ℕ, ◌+◌, eqb, ltb, get_or}
-use Rattle.model.specs.Basics.{if◌then◌else◌, has, all}
+use Rattle.model.specs.Basics.{has, all}
+use Rattle.std.specs.Prelude.{if◌then◌else◌}
 use Rattle.model.specs.Survey.{ascending}
 
 -- v stands at x's cursor

@@ -12,7 +12,7 @@ use lib.ListN.{length, drop, replicate, length-append}
 use Rattle.model.specs.Answers.{Outcome, refused, answered, map_answer, number}
 use Rattle.model.specs.declared.Refusal.{Refusal}
 use Rattle.model.specs.declared.Refusal.TheVariants.{FileForm}
-use Rattle.model.specs.Basics.{if◌then◌else◌}
+use Rattle.std.specs.Prelude.{if◌then◌else◌}
 use Rattle.model.specs.Lines.{two_line}
 use Rattle.model.specs.Survey.{outside}
 use Rattle.model.specs.Reading.{limits_of, named, on_links, read_on}

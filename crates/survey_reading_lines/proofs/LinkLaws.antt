@@ -12,7 +12,7 @@ use lib.ListN.{length, drop, replicate, length-replicate, drop_of_length-le}
 use Rattle.model.specs.Answers.{Outcome, refused, answered, map_answer, number}
 use Rattle.model.specs.declared.Refusal.{Refusal}
 use Rattle.model.specs.declared.Refusal.TheVariants.{LineCount}
-use Rattle.model.specs.Basics.{if◌then◌else◌}
+use Rattle.std.specs.Prelude.{if◌then◌else◌}
 use Rattle.model.specs.Graph.{Edges}
 use Rattle.model.specs.SurveyText.{line}
 use Rattle.model.specs.Reading.{named, on_links, link_of, read_on, read_links}

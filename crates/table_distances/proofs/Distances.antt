@@ -11,7 +11,8 @@ use lib.Dec.{T, ltb}
 use lib.ListN.{length, get_or, take, drop, replicate, length-append, length-drop, length-replicate}
 use lib.Seq.{take-suc, take_all, drop_at, length-take-le}
 use Rattle.base_lists.specs.Written.{written}
-use Rattle.model.specs.Basics.{none, if◌then◌else◌, up_to, has, over}
+use Rattle.model.specs.Basics.{none, up_to, has, over}
+use Rattle.std.specs.Prelude.{if◌then◌else◌}
 use Rattle.model.specs.Graph.{Edges, between, fewest, linked}
 use Rattle.model.specs.Survey.{Graph}
 use Rattle.model.specs.Hubs.{is_low}

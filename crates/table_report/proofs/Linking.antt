@@ -9,7 +9,8 @@ use borrow.Author.Tests.{eq-eqb, ne_eqb}
 use lib.Dec.{eqb}
 use lib.ListN.{length, get_or, drop, set, length-set, drop_of_length-le}
 use lib.Seq.{get_or-set_same, get_or-set_other}
-use Rattle.model.specs.Basics.{if◌then◌else◌, up_to, has}
+use Rattle.model.specs.Basics.{up_to, has}
+use Rattle.std.specs.Prelude.{if◌then◌else◌}
 use Rattle.model.proofs.Loops.{drop_next}
 use Rattle.model.proofs.Tests.{picked, eq_or}
 use Rattle.base_lists.proofs.TableRows.{is_row, row_same}

@@ -15,7 +15,8 @@ use lib.Seq.{take_at, get_or-take, get_or-drop, take-suc, take_all, get_or-set_s
 use Rattle.base_lists.specs.Written.{Wrote}
 use Rattle.base_lists.proofs.Written.{wrote_over, over_whole}
 use Rattle.base_lists.proofs.TableRows.{part_length, is_row, row_same, table_same}
-use Rattle.model.specs.Basics.{none, if◌then◌else◌, up_to, has, over}
+use Rattle.model.specs.Basics.{none, up_to, has, over}
+use Rattle.std.specs.Prelude.{if◌then◌else◌}
 use Rattle.model.specs.Survey.{Graph, IsGraph}
 use Rattle.model.specs.Graph.{linked}
 use Rattle.model.specs.Tables.{table, entry_at, sum, via, least, report_entry, report_of}

@@ -1,7 +1,8 @@
 -- Rows of the report table.
 -- Assumes nothing.
 use Rattle.std.specs.Prelude.{List, [], ◌∷◌, map, ℕ, ◌+◌, min, length, get_or}
-use Rattle.model.specs.Basics.{if◌then◌else◌, up_to, has}
+use Rattle.model.specs.Basics.{up_to, has}
+use Rattle.std.specs.Prelude.{if◌then◌else◌}
 
 -- each entry of the second row, or x + the entry of the first row if that is less
 unfoldable pub relaxed : ℕ → List ℕ → List ℕ → List ℕ

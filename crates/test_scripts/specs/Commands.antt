@@ -2,7 +2,7 @@
 -- Assumes nothing.
 use Rattle.std.specs.Prelude.{List, [], ◌∷◌, ℕ, eqb, get_or, drop}
 use Rattle.std.proofs.Math.Option.{Option, none as missing, some, map}
-use Rattle.model.specs.Basics.{if◌then◌else◌}
+use Rattle.std.specs.Prelude.{if◌then◌else◌}
 use Rattle.model.specs.Reading.{AfterReading, reading}
 use Rattle.model.specs.Dimacs.{importing}
 use Rattle.text_reading.specs.Scan.{pair_by}

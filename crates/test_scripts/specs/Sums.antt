@@ -1,7 +1,7 @@
 -- Sums over lists, and an entry replaced.
 -- Assumes nothing.
 use Rattle.std.specs.Prelude.{List, [], ◌∷◌, ℕ, ◌+◌, ◌*◌, ◌%◌, ltb, length, set}
-use Rattle.model.specs.Basics.{if◌then◌else◌}
+use Rattle.std.specs.Prelude.{if◌then◌else◌}
 
 -- a sum that depends on every entry and its place; begun at s
 unfoldable pub sum_from : ℕ → List ℕ → ℕ

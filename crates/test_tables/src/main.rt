@@ -78,34 +78,22 @@ fn step(
     walk: &mut [u16; WALK],
 ) -> io::Result<usize> {
     let c = read_command(script, at);
-    if c.letter == b'R' {
-        return run_read(rt, script, c, starts, neighbours);
+    match c.letter {
+        b'R' => run_read(rt, script, c, starts, neighbours),
+        b'N' => Ok(set64(c, numbers)),
+        b'S' => Ok(set32(c, starts)),
+        b'E' => Ok(set16(c, neighbours)),
+        b'F' => Ok(set16(c, full)),
+        b'L' => Ok(set16(c, low)),
+        b'P' => Ok(set16(c, report)),
+        b'H' => Ok(set16(c, hubs)),
+        _ => {
+            run_call(
+                rt, c, numbers, starts, neighbours, full, low, report, hubs, walk,
+            )?;
+            Ok(c.next)
+        }
     }
-    if c.letter == b'N' {
-        return Ok(set64(c, numbers));
-    }
-    if c.letter == b'S' {
-        return Ok(set32(c, starts));
-    }
-    if c.letter == b'E' {
-        return Ok(set16(c, neighbours));
-    }
-    if c.letter == b'F' {
-        return Ok(set16(c, full));
-    }
-    if c.letter == b'L' {
-        return Ok(set16(c, low));
-    }
-    if c.letter == b'P' {
-        return Ok(set16(c, report));
-    }
-    if c.letter == b'H' {
-        return Ok(set16(c, hubs));
-    }
-    run_call(
-        rt, c, numbers, starts, neighbours, full, low, report, hubs, walk,
-    )?;
-    Ok(c.next)
 }
 
 // Runs all commands. There are no more of them than bytes.

@@ -12,7 +12,8 @@ use borrow.Author.Tests.{ltb-true, leb-true, lt-ltb, lt-leb}
 use lib.Dec.{T, eqb, ltb, leb, T_not}
 use lib.ListN.{length, get_or, drop, length-append, length-drop, drop_of_length-le}
 use lib.Seq.{drop-drop, drop-append_seam}
-use Rattle.model.specs.Basics.{if◌then◌else◌, has, gather}
+use Rattle.model.specs.Basics.{has, gather}
+use Rattle.std.specs.Prelude.{if◌then◌else◌}
 use Rattle.model.specs.Numbers.{is_digit, is_number, value_of, digits}
 use Rattle.model.specs.Lines.{behind, number_line, two_line, number_line_of}
 use Rattle.model.proofs.Loops.{drop_next}

@@ -3,7 +3,8 @@
 -- Assumes nothing.
 use Rattle.std.specs.Prelude.{◌≡◌, Bool, true, false, not, ◌&&◌, List, [], ◌∷◌, ◌++◌, ℕ, zero, suc, ◌+◌, ◌-◌, ◌<◌, T, ltb, leb, eqb, length, get_or, drop}
 use Rattle.std.proofs.Math.Option.{Option, none as missing, some, map, bind}
-use Rattle.model.specs.Basics.{if◌then◌else◌, has}
+use Rattle.model.specs.Basics.{has}
+use Rattle.std.specs.Prelude.{if◌then◌else◌}
 use Rattle.model.specs.Numbers.{is_digit, is_number, value_of}
 use Rattle.model.specs.Lines.{behind, number_line, two_line}
 use Rattle.text_reading.specs.declared.Number.{Number}

@@ -11,7 +11,8 @@ use borrow.Author.Tests.{eq-eqb, ne_eqb}
 use lib.Dec.{eqb}
 use lib.ListN.{length, take, drop, set, length-reverse}
 use lib.Seq.{set_split, drop_at, length-take-le, append_snoc}
-use Rattle.model.specs.Basics.{none, if◌then◌else◌, over, first_of}
+use Rattle.model.specs.Basics.{none, over, first_of}
+use Rattle.std.specs.Prelude.{if◌then◌else◌}
 use Rattle.model.specs.Graph.{Edges, linked}
 use Rattle.model.specs.Survey.{Graph, IsGraph}
 use Rattle.model.specs.Walk.{before, next, steps}

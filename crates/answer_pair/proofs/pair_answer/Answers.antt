@@ -3,7 +3,8 @@ use borrow.Author.Tests.{eq-eqb, ne_eqb}
 use lib.Dec.{eqb}
 use Rattle.model.specs.declared.Route.TheVariants.{Low, Through, Link}
 use Rattle.model.specs.Answers.{refused, answered}
-use Rattle.model.specs.Basics.{none, if◌then◌else◌}
+use Rattle.model.specs.Basics.{none}
+use Rattle.std.specs.Prelude.{if◌then◌else◌}
 use Rattle.model.specs.Pair.{with_route, choose, attaining, taken, pair_by, pair}
 use Rattle.answer_pair.proofs.pair_answer.Goals as goal
 
