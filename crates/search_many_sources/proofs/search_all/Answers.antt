@@ -11,7 +11,7 @@ search_group-requires-clause-unfilled c = grouped_unfilled _ _ _ _ _ c.loop-base
 
 pub loop-base-preserved : goal.loop-base-preserved
 loop-base-preserved c =
-    grouped_more _ _ _ _ _ c.loop-base.invariant _ c.search_group.auto.table (c.search_group.ensures (not-false c.search_group.result c.if-not-search_group.false))
+    grouped_more _ _ _ _ _ c.loop-base.invariant _ c.search_group.auto.table (c.search_group.ensures (c.if-not-search_group.false))
 
 pub returns : goal.returns
 returns c = λ e. grouped_all _ _ _ _ _ c.loop-base.invariant c.loop-base-test.false
