@@ -12,7 +12,7 @@ use borrow.Author.Tests.{eq-eqb, ne_eqb, eqb-true, eqb-false}
 use lib.Bits.{bit_and, bit_or, and_shr, or_shr, and_mod, or_mod}
 use lib.Dec.{eqb, eqb-suc-suc}
 use lib.ListN.{get_or, set, length, replicate}
-use lib.Pow.{shl_exact, shr-shr, pow_pos}
+use lib.Pow.{shl_exact, shr-shr}
 use lib.Seq.{get_or-set_same, get_or-set_other}
 use Rattle.model.proofs.Entries.{get_d_same}
 use Rattle.model.proofs.Tests.{eq_or}

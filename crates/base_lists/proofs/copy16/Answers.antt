@@ -1,5 +1,4 @@
 use mathlib.Core.Path.{refl}
-use Prim.Native.Nat.{◌-◌}
 use Rattle.base_lists.proofs.Copying.{copied_more, copied_all}
 use Rattle.base_lists.proofs.copy16.Goals as goal
 

@@ -1,7 +1,7 @@
 use mathlib.Core.Path.{◌≡◌}
 use mathlib.Core.List.{reverse}
 use native.Mathlib.Omega.{arith}
-use Prim.Native.Nat.{◌+◌, ◌-◌}
+use Prim.Native.Nat.{◌+◌}
 use lib.ListN.{length, length-reverse}
 use Rattle.base_lists.proofs.Copying.{copied_all}
 use Rattle.base_lists.proofs.copy16_reversed.Goals as goal

@@ -1,4 +1,4 @@
-use Prim.Native.Nat.{ℕ, ◌-◌, ◌^◌, ◌<◌}
+use Prim.Native.Nat.{ℕ, ◌^◌, ◌<◌}
 use lib.ListN.{get_or}
 use Rattle.base_nodeset.proofs.Words.{clear_none, clear_more, clear_all, clear_first}
 use Rattle.base_nodeset.proofs.smallest.Goals as goal

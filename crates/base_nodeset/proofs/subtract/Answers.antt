@@ -1,4 +1,3 @@
-use Prim.Native.Nat.{◌-◌}
 use Rattle.base_nodeset.proofs.Words.{removed_more, removed_all}
 use Rattle.base_nodeset.proofs.subtract.Goals as goal
 

@@ -1,4 +1,3 @@
-use Prim.Native.Nat.{◌-◌}
 use Rattle.base_nodeset.proofs.Words.{shared_more, shared_all}
 use Rattle.base_nodeset.proofs.write_intersection.Goals as goal
 

@@ -1,4 +1,3 @@
-use Prim.Native.Nat.{◌-◌}
 use Rattle.base_nodeset.proofs.MemberEntries.{set_none, new_inside, set_more, set_all}
 use borrow.Author.Rules.{rules}
 use Rattle.base_nodeset.proofs.write_members.Goals as goal

@@ -1,6 +1,5 @@
 use mathlib.Core.Path.{sym, ◌∙◌}
 use mathlib.Core.Logic.{inr}
-use Prim.Native.Nat.{◌-◌}
 use native.Mathlib.Omega.{arith}
 use Rattle.text_reading.proofs.Scanning.{has_within, word_not, word_next, word_end}
 use Rattle.text_reading.proofs.has_word.Goals as goal

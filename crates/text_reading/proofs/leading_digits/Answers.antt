@@ -1,5 +1,4 @@
 use mathlib.Core.Logic.{inl, inr}
-use Prim.Native.Nat.{◌-◌}
 use Rattle.text_reading.proofs.Runs.{read_none, read_next, read_stop_lem, read_end}
 use Rattle.text_reading.proofs.leading_digits.Goals as goal
 

@@ -1,4 +1,3 @@
-use Prim.Native.Nat.{◌-◌}
 use Rattle.text_reading.proofs.Scanning.{ahead_none, ahead_next}
 use Rattle.text_reading.proofs.line_end.Goals as goal
 

@@ -1,5 +1,5 @@
 use mathlib.Core.Path.{sym, ◌∙◌}
-use Prim.Native.Nat.{◌-◌, ◌≤◌}
+use Prim.Native.Nat.{◌≤◌}
 use native.Mathlib.Omega.{arith}
 use Rattle.text_reading.proofs.Shapes.{number_next, number_missing, all_numbers}
 use Rattle.text_reading.proofs.numbers_at.Goals as goal

@@ -1,5 +1,4 @@
-use Rattle.std.proofs.Common.{◌≡◌, ◌+◌, ◌/◌, length, arith}
-use Rattle.model.specs.Numbers.{digits}
+use Rattle.std.proofs.Common.{arith}
 use Rattle.model.proofs.Numbers.{length_small, length_more}
 use Rattle.text_writing.proofs.Digits.{wrote_small, wrote_more}
 use Rattle.text_writing.proofs.+write_digits.Goals as goal

@@ -1,4 +1,4 @@
-use Prim.Native.Nat.{◌-◌, ◌≤◌}
+use Prim.Native.Nat.{◌≤◌}
 use native.Mathlib.Omega.{arith}
 use Rattle.text_writing.proofs.Digits.{digits_few}
 use Rattle.text_writing.proofs.Fields.{line_more}
