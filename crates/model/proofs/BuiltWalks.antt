@@ -16,7 +16,6 @@ use Rattle.model.specs.declared.Route.TheVariants.{Itself, Low, Through, NoRoute
 use Rattle.model.specs.declared.Answer.{Answer}
 use Rattle.model.specs.Answers.{Outcome, answered}
 use Rattle.model.specs.Basics.{none, has, up_to, first_of}
-use Rattle.std.specs.Prelude.{if◌then◌else◌}
 use Rattle.model.specs.Graph.{Edges, Chain, link, Fewest, linked}
 use Rattle.model.specs.Survey.{Graph, IsGraph}
 use Rattle.model.specs.Hubs.{is_low, hubs}

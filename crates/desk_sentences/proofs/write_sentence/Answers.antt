@@ -1,7 +1,6 @@
-use Prim.Native.Nat.{◌-◌}
-use mathlib.Core.Logic.{⊎_elim}
 use Rattle.desk_sentences.proofs.Saying.{saying_none, saying_within}
 use Rattle.desk_sentences.proofs.Saying.{number_room, saying_number, saying_byte, saying_done}
+use Rattle.desk_sentences.proofs.write_sentence.Goals.{then-number, else-number}
 use Rattle.desk_sentences.proofs.write_sentence.Goals as goal
 
 pub loop-i-init : goal.loop-i-init
@@ -14,10 +13,10 @@ write_digits-pos-requires c =
 
 pub loop-i-preserved : goal.loop-i-preserved
 loop-i-preserved c =
-    ⊎_elim
-    (λ w. rw (w.6, w.7, w.8) (saying_number c.loop-i.invariant c.loop-i-test.true w.0.taken (w.2.given _).fits w.3.ensures))
-    (λ w. rw (w.5, w.6, w.7) (saying_byte c.loop-i.invariant c.loop-i-test.true w.0.left w.2.ensures))
-    c.if-number.branch
+    elim c.if-number.branch [
+      | then-number w ↦ rw (w.buf-is, w.pos-is, w.k-is) (saying_number c.loop-i.invariant c.loop-i-test.true w.if-number.true (c.type_inv.numbers c.loop-i.k).fits w.write_digits-pos.ensures)
+      | else-number w ↦ rw (w.buf-is, w.pos-is, w.k-is) (saying_byte c.loop-i.invariant c.loop-i-test.true w.if-number.false w.write_byte-pos.ensures)
+    ]
 
 pub returns-clause-wrote : goal.returns-clause-wrote
 returns-clause-wrote c = (saying_done c.loop-i.invariant c.loop-i-test.false).0
