@@ -1,0 +1,54 @@
+use mathlib.Core.Path.{◌≡◌, ap}
+use mathlib.Core.List.{List, [], ◌∷◌, ◌++◌}
+use Prim.Native.Nat.{ℕ, ◌+◌, ◌≤◌}
+use native.Mathlib.Omega.{arith}
+use lib.ListN.{length, length-append}
+use Rattle.model.specs.Lines.{number_line_of}
+use Rattle.model.specs.SurveyText.{line_of}
+use Rattle.model.specs.Survey.{Graph, neighbours_of}
+use Rattle.model.specs.Listing.{pair_lines, listing_of}
+use Rattle.base_lists.proofs.Written.{wrote_then, wrote_room}
+use Rattle.table_building.proofs.WholeTables.{AreTables, tables_whole}
+use Rattle.listing_writing.proofs.Whole.{count_few, listing_by_tables}
+use Rattle.listing_writing.proofs.list_tables.Goals.{After-build_tables-count}
+use Rattle.listing_writing.proofs.list_tables.Goals as goal
+
+module _ {n s : ℕ} {G : Graph} {count : ℕ} {full low report : List ℕ} (t : AreTables n s G count full low report) where
+  abbrev first : List ℕ
+  first = number_line_of (82 ∷ []) 44 (n ∷ count ∷ [])
+
+  abbrev pairs : List ℕ
+  pairs = pair_lines n full low report
+
+  -- the first line and the pairs' lines from the tables are the listing
+  listed : first ++ pairs ≡ listing_of n s G
+  unfolding line_of
+  listed = listing_by_tables t
+
+  -- and both fit where the listing does
+  room : {k : ℕ} → length (listing_of n s G) ≤ k → 0 + length first + length pairs ≤ k
+  room h = omega (arith, ap length listed, length-append first pairs)
+
+-- the tables that building left
+tables : (c : After-build_tables-count) →
+    AreTables c.args.n c.args.s (neighbours_of c.args.starts.now c.args.neighbours.now) c.build_tables-count.result
+    c.build_tables-count.new.full c.build_tables-count.new.low c.build_tables-count.new.report
+tables c =
+    tables_whole _ _ (neighbours_of c.args.starts.now c.args.neighbours.now) c.args.full.now c.args.low.now c.args.report.now _
+    c.build_tables-count.ensures c.requires.accepted.2 c.requires.accepted.3 c.requires.accepted.4
+
+pub overflow_cast-count : goal.overflow_cast-count
+overflow_cast-count c = omega (arith, count_few (tables (goal.at.overflow_cast-count c).After-build_tables-count))
+
+pub write_line-i-requires : goal.write_line-i-requires
+write_line-i-requires c = omega (arith, room (tables (goal.at.write_line-i-requires c).After-build_tables-count) c.requires.neighbours_in_bounds)
+
+pub write_pairs-requires-clause-report_in_bounds : goal.write_pairs-requires-clause-report_in_bounds
+write_pairs-requires-clause-report_in_bounds c =
+    let t = tables (goal.at.write_pairs-requires-clause-report_in_bounds c).After-build_tables-count in
+    wrote_room _ (room t c.requires.neighbours_in_bounds) c.write_line-i.ensures
+
+pub returns : goal.returns
+returns c =
+    let t = tables (goal.at.returns c).After-build_tables-count in
+    rw (listed t) at (wrote_then (room t c.requires.neighbours_in_bounds) c.write_line-i.ensures c.write_pairs.ensures)
