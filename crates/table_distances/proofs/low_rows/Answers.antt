@@ -1,4 +1,3 @@
-use Prim.Native.Nat.{◌-◌}
 use Rattle.base_lists.proofs.TableRows.{rows_none, rows_next, rows_done}
 use Rattle.table_distances.proofs.low_rows.Goals as goal
 

@@ -1,4 +1,3 @@
-use Prim.Native.Nat.{◌-◌}
 use Rattle.base_lists.proofs.TableRows.{rows_none, rows_part, rows_done}
 use Rattle.table_report.proofs.fill_report.Goals as goal
 
