@@ -1,6 +1,6 @@
 use mathlib.Core.Path.{subst}
 use mathlib.Core.List.{List, ◌++◌}
-use Prim.Native.Nat.{ℕ, ◌+◌, ◌-◌}
+use Prim.Native.Nat.{ℕ, ◌+◌}
 use native.Mathlib.Omega.{arith}
 use Rattle.model.proofs.Loops.{gather_next, gather_end}
 use Rattle.base_lists.proofs.Written.{Left, left_all, left_fits, left_more, left_none}

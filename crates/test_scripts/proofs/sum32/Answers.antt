@@ -1,4 +1,3 @@
-use Prim.Native.Nat.{◌-◌}
 use Rattle.test_scripts.proofs.Summing.{summed_more, summed_all}
 use Rattle.test_scripts.proofs.sum32.Goals as goal
 

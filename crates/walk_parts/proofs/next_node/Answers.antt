@@ -1,9 +1,7 @@
 use mathlib.Core.Path.{sym, ◌∙◌}
-use Prim.Native.Nat.{◌-◌}
 use Rattle.model.specs.Basics.{none}
 use Rattle.model.proofs.Ascending.{get_d_has}
 use Rattle.model.proofs.Loops.{searched_found, searched_more, searched_all}
-use Rattle.walk_parts.specs.Parts.{leads_on}
 use Rattle.walk_parts.proofs.next_node.Goals as goal
 
 pub leads_on-requires : goal.leads_on-requires
