@@ -2,7 +2,7 @@
 // asked and what is answered.
 #![tactic(auto)]
 
-ghost use Rattle.std.specs.Prelude.{◌≡◌, ◌≤◌, length, IfOk};
+ghost use Rattle.std.specs.Prelude.{◌≡◌, ◌≤◌, length};
 
 use desk_usage::Fault;
 use desk_words::{Command, Named, Question, Taken};
@@ -69,14 +69,17 @@ fn understand(rt: &impl Env, command: Command, count: usize) -> Understood {
     Understood::Asks(q)
 }
 
-// Reads the text, if the command needs one, and returns how many bytes it has.
-fn read_text(rt: &impl Input, command: Command, text: &mut [u8]) -> io::Result<usize>
-    ensures { IfOk result (λ k. k ≤ length text.new) }
+// Reads the text, if the command needs one, and returns how many bytes it has. An input that cannot be read counts as an empty text.
+fn read_text(rt: &impl Input, command: Command, text: &mut [u8]) -> usize
+    ensures { result ≤ length text.new }
 {
-    if desk_words::reads_text(command) {
-        return base_input::read_front(&mut rt.reader(), text);
+    if !desk_words::reads_text(command) {
+        return 0;
     }
-    Ok(0)
+    match base_input::read_front(&mut rt.reader(), text) {
+        Ok(k) => k,
+        Err(_) => 0,
+    }
 }
 
 // Reads the text, if the command needs one, and prints the answer.
@@ -91,7 +94,7 @@ fn answer_with(
 ) -> io::Result<()>
     requires { (length starts.old ≡ 1025) × (length neighbours.old ≡ 32768) × (200000 ≤ length out.old) }
 {
-    let k = read_text(rt, command, text)?;
+    let k = read_text(rt, command, text);
     let r = desk_commands::say(
         command,
         q.threshold as usize,

@@ -11,7 +11,7 @@ use lib.Dec.{T, eqb→eq}
 use lib.ListN.{length, get_or, set, length-set}
 use lib.Seq.{get_or-set_same, get_or-set_other, get_or-take, length-take-le}
 use Rattle.model.specs.Basics.{none, has}
-use Rattle.model.specs.Graph.{Edges, between, Chain, here, link, linked}
+use Rattle.model.specs.Graph.{Edges, between, Chain, here, linked}
 use Rattle.model.specs.Survey.{Graph, IsGraph}
 use Rattle.model.proofs.TableLaws.{chain_allowed}
 use Rattle.model.proofs.Tests.{and_l, and_r, and_i, eq_or, eq_T}

@@ -2,16 +2,16 @@
 -- Assumes nothing.
 use mathlib.Core.Path.{◌≡◌, refl, sym, ap, ◌∙◌}
 use mathlib.Core.List.{List, [], ◌∷◌}
-use Prim.Native.Nat.{ℕ, zero, suc, ◌+◌, ◌*◌, ◌≤◌, ◌<◌}
+use Prim.Native.Nat.{ℕ, zero, suc, ◌+◌, ◌*◌, ◌<◌}
 use native.Mathlib.Omega.{arith}
 use lib.ListN.{take}
 use Rattle.model.specs.Answers.{Outcome, refused, answered}
 use Rattle.model.specs.SurveyText.{line}
-use Rattle.model.specs.Reading.{named, link_of, counts_of}
+use Rattle.model.specs.Reading.{named, link_of}
 use Rattle.model.proofs.Fronts.{FrontLine, no_line, same_line, line_front, link_same, counts_same}
 use Rattle.model.proofs.Links.{of_first_taken}
 use Rattle.survey_reading_lines.specs.LinesRead.{link_in}
-use Rattle.survey_stops.specs.Stops.{stop_or, nodes_in, line_feeds, lines_before, line_at, first_says, links_stop, read_stop}
+use Rattle.survey_stops.specs.Stops.{stop_or, nodes_in, line_feeds, line_at, first_says, links_stop, read_stop}
 use Rattle.survey_stops.proofs.StopLaws.{letter_feed, link_feed}
 
 -- ---- the link lines

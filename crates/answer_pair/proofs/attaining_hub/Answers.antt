@@ -1,5 +1,4 @@
 use mathlib.Core.Path.{sym, ◌∙◌}
-use Prim.Native.Nat.{◌-◌}
 use Rattle.answer_pair.proofs.HubLaws.{tried_found, tried_more, tried_all}
 use Rattle.answer_pair.proofs.attaining_hub.Goals as goal
 

@@ -1,4 +1,3 @@
-use Prim.Native.Nat.{◌-◌}
 use Rattle.model.proofs.Ascending.{get_d_has}
 use Rattle.search_depths.proofs.Depths.{search_turn, search_end, search_none}
 use Rattle.search_depths.proofs.greatest_depth.Goals as goal

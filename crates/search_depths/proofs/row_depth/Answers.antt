@@ -1,4 +1,3 @@
-use Prim.Native.Nat.{◌-◌}
 use Rattle.search_depths.proofs.Depths.{row_turn, row_end}
 use Rattle.search_depths.proofs.row_depth.Goals as goal
 

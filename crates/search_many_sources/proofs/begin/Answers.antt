@@ -1,5 +1,4 @@
 use mathlib.Core.Path.{sym, ◌∙◌}
-use borrow.Author.Tests.{not-true, not-false}
 use Rattle.search_many_sources.proofs.Begins.{source_not, source_is, begun_not, begun_put}
 use Rattle.search_many_sources.proofs.begin.Goals as goal
 

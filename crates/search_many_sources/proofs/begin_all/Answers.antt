@@ -1,4 +1,3 @@
-use Prim.Native.Nat.{◌-◌}
 use native.Mathlib.Omega.{arith}
 use Rattle.search_many_sources.proofs.Begins.{beginning_none, beginning_more, beginning_all}
 use Rattle.search_many_sources.proofs.begin_all.Goals as goal

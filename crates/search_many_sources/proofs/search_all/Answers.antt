@@ -1,5 +1,3 @@
-use Prim.Native.Nat.{◌-◌}
-use borrow.Author.Tests.{not-false}
 use Rattle.search_many_sources.proofs.GroupDistances.{grouped_none, grouped_unfilled, grouped_more, grouped_all}
 use Rattle.search_many_sources.proofs.search_all.Goals as goal
 

@@ -1,8 +1,7 @@
 use mathlib.Core.Path.{refl}
 use mathlib.Core.List.{List}
-use Prim.Native.Nat.{ℕ, ◌+◌, ◌-◌}
+use Prim.Native.Nat.{ℕ, ◌+◌}
 use native.Mathlib.Omega.{arith}
-use borrow.Author.Tests.{not-true}
 use Rattle.model.specs.Survey.{neighbours_of, IsGraph}
 use Rattle.base_nodeset.specs.NodeSet.{member}
 use Rattle.search_many_sources.proofs.GroupDistances.{Searched, searched_start, searched_next, searched_idle, searched_end}

@@ -1,4 +1,4 @@
-use Prim.Native.Nat.{◌+◌, ◌-◌}
+use Prim.Native.Nat.{◌+◌}
 use native.Mathlib.Omega.{arith}
 use Rattle.search_queue.specs.Visiting.{progress}
 use Rattle.search_queue.proofs.Visiting.{Visiting, next_below, visiting_next, visiting_all, visiting_none}

@@ -1,4 +1,3 @@
-use Prim.Native.Nat.{◌-◌}
 use Rattle.search_source_sets.proofs.Joining.{joining_all}
 use Rattle.search_source_sets.proofs.join_row.Goals as goal
 

@@ -1,4 +1,3 @@
-use Prim.Native.Nat.{◌-◌}
 use Rattle.model.proofs.Ascending.{get_d_has}
 use Rattle.search_source_sets.proofs.Joining.{gathering_more, gathering_all}
 use Rattle.search_source_sets.proofs.join_rows.Goals as goal

@@ -1,4 +1,3 @@
-use Prim.Native.Nat.{◌-◌}
 use Rattle.search_source_sets.proofs.RowMarks.{RowMarking}
 use Rattle.search_source_sets.proofs.mark_row.Given as goal
 

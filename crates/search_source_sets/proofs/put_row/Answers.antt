@@ -1,4 +1,3 @@
-use Prim.Native.Nat.{◌-◌}
 use Rattle.search_source_sets.proofs.Joining.{putting_all}
 use Rattle.search_source_sets.proofs.put_row.Goals as goal
 

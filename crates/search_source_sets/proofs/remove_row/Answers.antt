@@ -1,4 +1,4 @@
-use Prim.Native.Nat.{◌+◌, ◌*◌, ◌-◌}
+use Prim.Native.Nat.{◌+◌, ◌*◌}
 use Rattle.search_source_sets.proofs.Joining.{removing_more, removing_all}
 use Rattle.search_source_sets.proofs.remove_row.Goals as goal
 

@@ -1,4 +1,3 @@
-use Prim.Native.Nat.{◌-◌}
 use native.Mathlib.Omega.{arith}
 use Rattle.survey_acceptance.proofs.Fitting.{passed_none, passed_all, next_fails, passed_next}
 use Rattle.survey_acceptance.proofs.match_row.Goals as goal

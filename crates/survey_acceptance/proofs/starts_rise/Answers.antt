@@ -1,4 +1,3 @@
-use Prim.Native.Nat.{◌-◌}
 use Rattle.survey_acceptance.proofs.Rest.{tested_none, tested_next, tested_all}
 use Rattle.survey_acceptance.proofs.starts_rise.Goals as goal
 

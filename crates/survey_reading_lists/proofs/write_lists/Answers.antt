@@ -1,4 +1,3 @@
-use Prim.Native.Nat.{◌-◌}
 use native.Mathlib.Omega.{arith}
 use Rattle.survey_reading_lists.proofs.ListLaws.{lists_none, lists_more, lists_done}
 use Rattle.survey_reading_lists.proofs.ListLaws.{place_small, row_fits}

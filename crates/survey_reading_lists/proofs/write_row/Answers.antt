@@ -1,4 +1,3 @@
-use Prim.Native.Nat.{◌-◌}
 use native.Mathlib.Omega.{arith}
 use Rattle.survey_reading_lists.proofs.ListLaws.{row_none, word_fits, word_more, row_whole}
 use Rattle.survey_reading_lists.proofs.write_row.Goals as goal

@@ -1,5 +1,4 @@
 use mathlib.Core.Path.{sym}
-use Prim.Native.Nat.{◌-◌}
 use Rattle.survey_stops.proofs.StopLaws.{edges_refused, edges_taken_lem, edges_done}
 use Rattle.survey_stops.proofs.edges_taken.Goals as goal
 

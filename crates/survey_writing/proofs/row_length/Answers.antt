@@ -1,4 +1,3 @@
-use Prim.Native.Nat.{◌-◌}
 use Rattle.survey_writing.proofs.LineLaws.{row_more, row_done}
 use Rattle.survey_writing.proofs.row_length.Goals as goal
 

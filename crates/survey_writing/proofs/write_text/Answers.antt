@@ -1,5 +1,5 @@
 use mathlib.Core.List.{List, ◌++◌}
-use Prim.Native.Nat.{ℕ, ◌+◌, ◌-◌, ◌≤◌}
+use Prim.Native.Nat.{ℕ, ◌+◌, ◌≤◌}
 use native.Mathlib.Omega.{arith}
 use lib.ListN.{length}
 use Rattle.base_lists.proofs.Written.{wrote_room, wrote_then, wrote_over, Left, left_all, left_fits, left_more, left_none}

@@ -1,4 +1,3 @@
-use Prim.Native.Nat.{◌-◌}
 use native.Mathlib.Omega.{arith}
 use Rattle.table_degree_split.proofs.Degrees.{high_none, high_with, high_without}
 use Rattle.survey_neighbours.proofs.RowLaws.{rows_of, own_length}

@@ -1,4 +1,3 @@
-use Prim.Native.Nat.{◌-◌}
 use Rattle.table_hubs.proofs.Greedy.{leading_best}
 use Rattle.table_hubs.proofs.best_node.Goals as goal
 

@@ -1,4 +1,3 @@
-use Prim.Native.Nat.{◌-◌}
 use native.Mathlib.Omega.{arith}
 use Rattle.model.proofs.Ascending.{get_d_has}
 use Rattle.table_hubs.proofs.Sets.{inserted_more, inserted_all}
