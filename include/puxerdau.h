@@ -66,8 +66,8 @@ extern "C" {
  * crates/model/proofs/Fronts.antt. */
 #define PUXERDAU_FRONT_LENGTH (24 * (PUXERDAU_MAX_LINKS + 1) + 1)
 
-/* Stack that is enough for any call but puxerdau_list, and for puxerdau_list: measured on the archive that the kit `rattle-kit-5b-plain`
- * (`rt version`) makes. puxerdau_read and puxerdau_import used about 131 kB; the most were 168,384 bytes, by puxerdau_walk, and 385,160. */
+/* Stack that is enough for any call but puxerdau_list, and for puxerdau_list: measured on the archive that the kit `rattle-kit-13f`
+ * (`rt version`) makes. The most were 131,416 bytes, by puxerdau_read, and 385,144. */
 #define PUXERDAU_STACK_BYTES 196608
 #define PUXERDAU_LIST_STACK_BYTES 524288
 
