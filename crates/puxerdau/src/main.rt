@@ -69,17 +69,14 @@ fn understand(rt: &impl Env, command: Command, count: usize) -> Understood {
     Understood::Asks(q)
 }
 
-// Reads the text, if the command needs one, and returns how many bytes it has. An input that cannot be read counts as an empty text.
+// Reads the text, if the command needs one, and returns how many bytes it has. A read that fails ends it.
 fn read_text(rt: &impl Input, command: Command, text: &mut [u8]) -> usize
     ensures { result ≤ length text.new }
 {
-    if !desk_words::reads_text(command) {
-        return 0;
+    if desk_words::reads_text(command) {
+        return base_input::read_front(&mut rt.reader(), text).0;
     }
-    match base_input::read_front(&mut rt.reader(), text) {
-        Ok(k) => k,
-        Err(_) => 0,
-    }
+    0
 }
 
 // Reads the text, if the command needs one, and prints the answer.

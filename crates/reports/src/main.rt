@@ -1,24 +1,12 @@
 // Prints the listing of the survey text on standard input, or why it is refused.
 #![tactic(auto)]
 
-ghost use Rattle.std.specs.Prelude.{◌≤◌, length};
-
 use model::Counting;
 use std::io;
 
-// Reads a text and returns how many bytes it has. An input that cannot be read counts as an empty text.
-fn read_text(rt: &impl Input, text: &mut [u8]) -> usize
-    ensures { result ≤ length text.new }
-{
-    match base_input::read_front(&mut rt.reader(), text) {
-        Ok(k) => k,
-        Err(_) => 0,
-    }
-}
-
-// Reads a text, writes its listing into a buffer, and prints what was written.
+// Reads a text, writes its listing into a buffer, and prints what was written. A read that fails ends the text.
 fn list(rt: &(impl Input + Print), text: &mut [u8], lines: &mut [u8]) -> io::Result<()> {
-    let length = read_text(rt, text);
+    let length = base_input::read_front(&mut rt.reader(), text).0;
     match listing_writing::write_listing(&text[..length], lines) {
         Counting::Refused(_) => Ok(()),
         Counting::Count(k) => rt.write_all(&lines[..k]),

@@ -126,7 +126,7 @@ fn run(rt: &impl Print, script: &[u8]) -> io::Result<()> {
 }
 
 fn read_and_run(rt: &(impl Input + Print), input: &mut [u8]) -> io::Result<()> {
-    let length = base_input::read_front(&mut rt.reader(), input)?;
+    let length = base_input::read_front(&mut rt.reader(), input).0;
     run(rt, &input[..length])
 }
 

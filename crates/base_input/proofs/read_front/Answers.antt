@@ -18,5 +18,5 @@ front_after a k n xs ys within fits =
 
 pub loop-done-preserved : goal.loop-done-preserved
 loop-done-preserved g c =
-    let front = front_after c.loop-done.done _ c.in_ok-k.k c.loop-done.buffer c.read.new.buf c.loop-done.invariant.0 c.in_ok-k.ensures.bound.0 in
-    (search rules, subst (Consumes _ _) (sym front) (Consumes-trans _ _ _ _ _ c.loop-done.invariant.1 c.in_ok-k.ensures.bytes.0))
+    let front = front_after c.loop-done.done _ c.in-Ok.k c.loop-done.buffer c.read.new.buf c.loop-done.invariant.0 c.in-Ok.ensures.bound.0 in
+    (search rules, subst (Consumes _ _) (sym front) (Consumes-trans _ _ _ _ _ c.loop-done.invariant.1 c.in-Ok.ensures.bytes.0))
