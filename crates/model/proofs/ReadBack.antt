@@ -13,9 +13,9 @@ use borrow.Author.Tests.{lt-ltb, le-ltb}
 use lib.Dec.{T, eqb, ltb, ltb→lt, lt→ltb}
 use lib.ListN.{length, get_or, take, drop, replicate, length-append}
 use lib.Seq.{take_at, get_or-drop, get_or-append-add}
+use Rattle.std.specs.Prelude.{Result, Ok}
+use Rattle.model.specs.declared.Refusal.{Refusal}
 use Rattle.model.specs.declared.Size.{Size}
-use Rattle.model.specs.declared.Reading.{Reading}
-use Rattle.model.specs.declared.Reading.TheVariants as read
 use Rattle.model.specs.Answers.{Outcome, refused, answered}
 use Rattle.model.specs.Basics.{from, up_to, has, keep, gather, over}
 use Rattle.model.specs.SurveyText.{ordered}
@@ -183,14 +183,14 @@ module _ (N M p q : ℕ) (nodes : N ≤ 1024) (links : M ≤ 16384) (text : List
           (λ y m t. absurd (omega (arith, (named_below x.nodes x.links [] facts.fresh v _ t).0))))
 
 -- what was read is an accepted survey, within the limit on its nodes
-pub read_survey : (N M : ℕ) → N ≤ 1024 → M ≤ 16384 → (text : List ℕ) (p q : ℕ) (r : Reading) (starts neighbours : List ℕ)
-    → read_returned r starts neighbours ≡ reading_of p q (parse N M p q text) → (x : Size) → r ≡ read.Read x
+pub read_survey : (N M : ℕ) → N ≤ 1024 → M ≤ 16384 → (text : List ℕ) (p q : ℕ) (r : Result Size Refusal) (starts neighbours : List ℕ)
+    → read_returned r starts neighbours ≡ reading_of p q (parse N M p q text) → (x : Size) → r ≡ Ok x
     → Accepted x.nodes starts neighbours × (x.nodes ≤ N)
 unfolding reading_of number_in
 read_survey N M nodes links text p q r starts neighbours e x i =
-    at (parse N M p q text) refl (ap (λ (z : Reading). read_returned z starts neighbours) (sym i) ∙ e)
+    at (parse N M p q text) refl (ap (λ (z : Result Size Refusal). read_returned z starts neighbours) (sym i) ∙ e)
   where
-    at : (o : Outcome Parsed) → parse N M p q text ≡ o → read_returned (read.Read x) starts neighbours ≡ reading_of p q o
+    at : (o : Outcome Parsed) → parse N M p q text ≡ o → read_returned (Ok x) starts neighbours ≡ reading_of p q o
         → Accepted x.nodes starts neighbours × (x.nodes ≤ N)
     at (refused k) h f = never (sym (ap (λ (z : AfterReading). z.answer) f))
     at (answered y) h f =

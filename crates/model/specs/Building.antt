@@ -1,8 +1,8 @@
 -- Building: the answer, and what the three tables and the hub list hold at return.
 -- Assumes nothing.
-use Rattle.std.specs.Prelude.{not, List, [], ◌∷◌, ℕ, ltb, length}
-use Rattle.model.specs.declared.Counting.{Counting}
-use Rattle.model.specs.Answers.{Outcome, refused, answered, Refusals, ◌when◌, judged, count_answer}
+use Rattle.std.specs.Prelude.{Result, not, List, [], ◌∷◌, ℕ, ltb, length}
+use Rattle.model.specs.declared.Refusal.{Refusal}
+use Rattle.model.specs.Answers.{Outcome, refused, answered, Refusals, ◌when◌, judged, outcome}
 use Rattle.model.specs.Basics.{over}
 use Rattle.model.specs.Survey.{Graph, neighbours_of, bad_size, short_starts, is_survey}
 use Rattle.model.specs.Threshold.{in_force, bad_threshold}
@@ -18,8 +18,8 @@ pub record AfterBuilding : Type 0 where
   pub hubs : List ℕ
 
 -- what a call of the code returned and left (rule 10.7)
-abbrev pub build_returned : Counting → (full low report list : List ℕ) → AfterBuilding
-build_returned r full low report list = record { answer = count_answer r; full = full; low = low; report = report; hubs = list }
+abbrev pub build_returned : Result ℕ Refusal → (full low report list : List ℕ) → AfterBuilding
+build_returned r full low report list = record { answer = outcome r; full = full; low = low; report = report; hubs = list }
 
 -- rule 10.7, where it is not refused: the tables of rules 5.2 to 5.5 and the hub list of rule 4.7 stand in front, and the entries past them
 -- are kept. For any threshold s

@@ -1,10 +1,10 @@
 -- Reading a survey from its text: the answer, and what the two lists hold at return.
 -- Assumes nothing.
-use Rattle.std.specs.Prelude.{Bool, false, ◌&&◌, ◌||◌, List, [], ◌∷◌, map, ℕ, zero, suc, ◌+◌, ◌*◌, eqb, ltb, leb, length, replicate}
+use Rattle.std.specs.Prelude.{Result, Bool, false, ◌&&◌, ◌||◌, List, [], ◌∷◌, map, ℕ, zero, suc, ◌+◌, ◌*◌, eqb, ltb, leb, length, replicate}
 use Rattle.std.proofs.Math.Option.{Option, none as missing, some}
 use Rattle.model.specs.declared.Size.{Size}
-use Rattle.model.specs.declared.Reading as read
-use Rattle.model.specs.Answers.{Outcome, refused, answered, map_answer, and_then, Refusals, ◌when◌, judged, read_answer}
+use Rattle.model.specs.declared.Refusal.{Refusal}
+use Rattle.model.specs.Answers.{Outcome, refused, answered, map_answer, and_then, Refusals, ◌when◌, judged, outcome}
 use Rattle.model.specs.Basics.{up_to, keep, gather, over}
 use Rattle.model.specs.SurveyText.{line}
 use Rattle.model.specs.Survey.{Graph, outside, short_starts}
@@ -95,8 +95,8 @@ pub record AfterReading : Type 0 where
   pub neighbours : List ℕ
 
 -- what a call of the code returned and left (rule 10.5)
-abbrev pub read_returned : read.Reading → List ℕ → List ℕ → AfterReading
-read_returned r s x = record { answer = read_answer r; starts = s; neighbours = x }
+abbrev pub read_returned : Result Size Refusal → List ℕ → List ℕ → AfterReading
+read_returned r s x = record { answer = outcome r; starts = s; neighbours = x }
 
 -- rule 10.5: lists of p and q entries: all zero where the text is refused, else the survey, and zero past the entries used
 unfoldable pub reading_of : (p q : ℕ) → Outcome Parsed → AfterReading

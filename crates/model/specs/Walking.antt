@@ -1,10 +1,10 @@
 -- Writing a walk: the answer, and what the walk list holds at return.
 -- Assumes nothing.
-use Rattle.std.specs.Prelude.{not, List, [], ◌∷◌, ◌++◌, ℕ, ◌-◌, ltb, length, replicate}
+use Rattle.std.specs.Prelude.{Result, not, List, [], ◌∷◌, ◌++◌, ℕ, ◌-◌, ltb, length, replicate}
 use Rattle.std.proofs.Math.Option.{Option, none as missing, some}
 use Rattle.model.specs.declared.Answer.{Answer}
-use Rattle.model.specs.declared.Asking.{Asking}
-use Rattle.model.specs.Answers.{Outcome, refused, answered, Refusals, ◌when◌, judged, pair_answer}
+use Rattle.model.specs.declared.Refusal.{Refusal}
+use Rattle.model.specs.Answers.{Outcome, refused, answered, Refusals, ◌when◌, judged, outcome}
 use Rattle.model.specs.Basics.{none}
 use Rattle.std.specs.Prelude.{if◌then◌else◌}
 use Rattle.model.specs.Survey.{Graph, neighbours_of, bad_size, short_starts, is_survey}
@@ -19,8 +19,8 @@ pub record AfterWalking : Type 0 where
   pub walk : List ℕ
 
 -- what a call of the code returned and left (rule 10.9)
-abbrev pub walk_returned : Asking → List ℕ → AfterWalking
-walk_returned r w = record { answer = pair_answer r; walk = w }
+abbrev pub walk_returned : Result Answer Refusal → List ℕ → AfterWalking
+walk_returned r w = record { answer = outcome r; walk = w }
 
 -- rule 10.9: the walk is refused with number k, and the walk list, of w entries, is all none
 unfoldable pub refuse_walk : ℕ → ℕ → AfterWalking

@@ -1,8 +1,8 @@
 -- Writing back: the answer, and what the text buffer holds at return.
 -- Assumes nothing.
-use Rattle.std.specs.Prelude.{List, [], ◌∷◌, ℕ, ◌/◌, ltb, length, get_or}
-use Rattle.model.specs.declared.Counting.{Counting}
-use Rattle.model.specs.Answers.{Outcome, refused, answered, ◌when◌, judged, count_answer}
+use Rattle.std.specs.Prelude.{Result, List, [], ◌∷◌, ℕ, ◌/◌, ltb, length, get_or}
+use Rattle.model.specs.declared.Refusal.{Refusal}
+use Rattle.model.specs.Answers.{Outcome, refused, answered, ◌when◌, judged, outcome}
 use Rattle.model.specs.Basics.{over}
 use Rattle.model.specs.SurveyText.{survey_text, ordered}
 use Rattle.model.specs.Survey.{neighbours_of, accepting}
@@ -17,8 +17,8 @@ pub record AfterWriting : Type 0 where
   pub buffer : List ℕ
 
 -- what a call of the code returned and left (rule 10.11)
-abbrev pub write_returned : Counting → List ℕ → AfterWriting
-write_returned r b = record { answer = count_answer r; buffer = b }
+abbrev pub write_returned : Result ℕ Refusal → List ℕ → AfterWriting
+write_returned r b = record { answer = outcome r; buffer = b }
 
 -- rule 10.11: writing is refused with number k, and the buffer is not altered
 abbrev pub refuse_writing : List ℕ → ℕ → AfterWriting

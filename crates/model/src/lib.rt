@@ -5,41 +5,41 @@
 // The entry that means none: an infinite distance, or no node.
 pub const NONE: u16 = 65535;
 
-// Why a call refuses. `number` of specs/Answers.antt gives each its number.
-#[derive(Clone, Copy)]
+// Why a call refuses, with the number of each, as `number` of specs/Answers.antt gives it. What a call answers is a value or one of these.
+#[derive(Clone, Copy, PartialEq, Eq)]
 pub enum Refusal {
     // The text is not in the stated form.
-    Form,
+    Form = 1,
     // The count of nodes is outside its limits.
-    NodeCount,
+    NodeCount = 2,
     // The count of links is above its limit.
-    LinkCount,
+    LinkCount = 3,
     // A line names a node of n or more; a line of a file, 0 or a node above n.
-    LineNode,
+    LineNode = 4,
     // Both ends of a line's link are equal.
-    EqualEnds,
+    EqualEnds = 5,
     // A line's link was given before.
-    RepeatedLink,
+    RepeatedLink = 6,
     // There are fewer or more lines than the first line says.
-    LineCount,
+    LineCount = 7,
     // A lent list is too short.
-    ShortList,
+    ShortList = 8,
     // The lent lists are not those of a survey.
-    NotSurvey,
+    NotSurvey = 9,
     // A node is n or more.
-    NoNode,
+    NoNode = 10,
     // The tables give no route, or no walk, of the reported length.
-    NotAttained,
+    NotAttained = 11,
     // The lent text buffer is too short.
-    ShortBuffer,
+    ShortBuffer = 12,
     // A file is not in the stated form, or a line of it not in its place.
-    FileForm,
+    FileForm = 13,
     // The threshold is above its limit.
-    BadThreshold,
+    BadThreshold = 14,
 }
 
 // The counts of nodes and links of a survey.
-#[derive(Clone, Copy)]
+#[derive(Clone, Copy, PartialEq, Eq)]
 pub struct Size {
     pub nodes: usize,
     pub links: usize,
@@ -47,7 +47,7 @@ pub struct Size {
 
 // How a report is attained: the two nodes are one; by low nodes only; through a hub; not at all, since no chain joins them; or by the link
 // between the two.
-#[derive(Clone, Copy)]
+#[derive(Clone, Copy, PartialEq, Eq)]
 pub enum Route {
     Itself,
     Low,
@@ -57,59 +57,23 @@ pub enum Route {
 }
 
 // The answer to a pair.
-#[derive(Clone, Copy)]
+#[derive(Clone, Copy, PartialEq, Eq)]
 pub struct Answer {
     pub report: u16,
     pub route: Route,
 }
 
 // What the two-or-four test finds.
-#[derive(Clone, Copy)]
+#[derive(Clone, Copy, PartialEq, Eq)]
 pub enum Verdict {
-    Parted,
-    Long,
-    Short,
+    Parted = 0,
+    Long = 1,
+    Short = 2,
 }
 
 // The verdict and the count of searches.
-#[derive(Clone, Copy)]
+#[derive(Clone, Copy, PartialEq, Eq)]
 pub struct TestResult {
     pub verdict: Verdict,
     pub searches: usize,
-}
-
-// What acceptance of lent lists answers (whether they are a valid survey). A lent list is a slice argument.
-#[derive(Clone, Copy)]
-pub enum Accepting {
-    Refused(Refusal),
-    Accepted,
-}
-
-// What reading answers.
-#[derive(Clone, Copy)]
-pub enum Reading {
-    Refused(Refusal),
-    Read(Size),
-}
-
-// What a call answers whose value is one number: the count of hubs (building), the text's length (writing back and the listing), or the
-// threshold.
-#[derive(Clone, Copy)]
-pub enum Counting {
-    Refused(Refusal),
-    Count(usize),
-}
-
-// What asking a pair and writing a walk answer.
-#[derive(Clone, Copy)]
-pub enum Asking {
-    Refused(Refusal),
-    Answered(Answer),
-}
-
-// What testing answers.
-#[derive(Clone, Copy)]
-pub enum Testing {
-    Refused(Refusal),
-    Answered(TestResult),
 }
