@@ -2,39 +2,100 @@
 // they are read back.
 #![tactic(auto)]
 
-ghost use Rattle.std.specs.Prelude.{◌≡◌, ℕ, ◌<◌, ◌^◌};
-ghost use Rattle.model.specs.Answers.{answered, accept_answer, read_answer, count_answer, pair_answer, test_answer};
+ghost use Rattle.std.specs.Prelude.{◌≡◌, ℕ, ◌*◌, ◌<◌, ◌^◌};
+ghost use Rattle.model.specs.Answers.{answered, outcome};
 ghost use Rattle.base_answer_codes.specs.Code.{no_field, count_field, size_field, answer_field, test_field};
-ghost use Rattle.base_answer_codes.specs.Code.{route_number, hub_number, verdict_number, no_value, count_in, size_in, answer_in, test_in, IsCode};
+ghost use Rattle.base_answer_codes.specs.Code.{route_number, hub_number, verdict_number};
+ghost use Rattle.base_answer_codes.specs.Code.{no_value, count_in, size_in, answer_in, test_in, IsCode};
 
-use model::{Accepting, Asking, Counting, Reading, Route, Size, TestResult, Testing, Verdict};
+use model::{Answer, Refusal, Route, Size, TestResult, Verdict};
 
-pub fn accepting_code(x: Accepting) -> u64
-    ensures { IsCode no_field no_value (accept_answer x) result }
+// A value that a call answers, as a field of 48 bits above a refusal's 16.
+pub trait Coded {
+    ghost field: { Self → ℕ };
+
+    // How the value is read back from the whole number.
+    ghost value_in: { ℕ → Self };
+
+    // Which values have room in the field.
+    ghost Fits: { Self → Type 0 };
+
+    fn field(self) -> u64
+        requires { Fits self }
+        ensures value { result ≡ field self }
+        ensures room { result < 2 ^ 48 }
+        ensures back { value_in (65536 * result) ≡ self };
+}
+
+// A call's number: that of its refusal, or its value above the low 16 bits, which are 0.
+pub fn code<T: Coded>(x: Result<T, Refusal>) -> u64
+    requires { (y : T) → outcome x ≡ answered y → T.Fits y }
+    ensures { IsCode T.field T.value_in (outcome x) result }
 {
     match x {
-        Accepting::Refused(k) => base_refusals::refusal_number(k) as u64,
-        Accepting::Accepted => 0,
+        Ok(value) => 65536 * value.field(),
+        Err(refusal) => base_refusals::refusal_number(refusal) as u64,
     }
 }
 
-pub fn counting_code(x: Counting) -> u64
-    requires { (k : ℕ) → count_answer x ≡ answered k → k < 2 ^ 48 }
-    ensures { IsCode count_field count_in (count_answer x) result }
-{
-    match x {
-        Counting::Refused(k) => base_refusals::refusal_number(k) as u64,
-        Counting::Count(c) => 65536 * (c as u64),
+impl Coded for () {
+    ghost field = { no_field };
+
+    ghost value_in = { no_value };
+
+    ghost Fits = { λ _. Unit {0} };
+
+    fn field(self) -> u64 {
+        0
     }
 }
 
-pub fn reading_code(x: Reading) -> u64
-    requires { (s : Size) → read_answer x ≡ answered s → (s.nodes < 65536) × (s.links < 65536) }
-    ensures { IsCode size_field size_in (read_answer x) result }
-{
-    match x {
-        Reading::Refused(k) => base_refusals::refusal_number(k) as u64,
-        Reading::Read(s) => 65536 * (s.nodes as u64 + 65536 * (s.links as u64)),
+// A count.
+impl Coded for usize {
+    ghost field = { count_field };
+
+    ghost value_in = { count_in };
+
+    ghost Fits = { λ k. k < 2 ^ 48 };
+
+    fn field(self) -> u64 {
+        self as u64
+    }
+}
+
+impl Coded for Size {
+    ghost field = { size_field };
+
+    ghost value_in = { size_in };
+
+    ghost Fits = { λ s. (s.nodes < 65536) × (s.links < 65536) };
+
+    fn field(self) -> u64 {
+        self.nodes as u64 + 65536 * (self.links as u64)
+    }
+}
+
+impl Coded for Answer {
+    ghost field = { answer_field };
+
+    ghost value_in = { answer_in };
+
+    ghost Fits = { λ _. Unit {0} };
+
+    fn field(self) -> u64 {
+        self.report as u64 + 65536 * (route_number(self.route) + 65536 * hub_number(self.route))
+    }
+}
+
+impl Coded for TestResult {
+    ghost field = { test_field };
+
+    ghost value_in = { test_in };
+
+    ghost Fits = { λ t. t.searches < 65536 };
+
+    fn field(self) -> u64 {
+        verdict_number(self.verdict) + 65536 * (self.searches as u64)
     }
 }
 
@@ -57,24 +118,8 @@ pub fn hub_number(x: Route) -> u64
     ensures bounded { result < 65536 }
 {
     match x {
-        Route::Itself => 0,
-        Route::Low => 0,
         Route::Through(h) => h as u64,
-        Route::NoRoute => 0,
-        Route::Link => 0,
-    }
-}
-
-// For asking a pair and for writing a walk.
-pub fn asking_code(x: Asking) -> u64
-    ensures { IsCode answer_field answer_in (pair_answer x) result }
-{
-    match x {
-        Asking::Refused(k) => base_refusals::refusal_number(k) as u64,
-        Asking::Answered(a) => {
-            let route = a.route;
-            65536 * (a.report as u64 + 65536 * (route_number(route) + 65536 * hub_number(route)))
-        }
+        _ => 0,
     }
 }
 
@@ -82,22 +127,5 @@ pub fn verdict_number(x: Verdict) -> u64
     ensures value { result ≡ verdict_number x }
     ensures bounded { result < 3 }
 {
-    match x {
-        Verdict::Parted => 0,
-        Verdict::Long => 1,
-        Verdict::Short => 2,
-    }
-}
-
-pub fn testing_code(x: Testing) -> u64
-    requires { (t : TestResult) → test_answer x ≡ answered t → t.searches < 65536 }
-    ensures { IsCode test_field test_in (test_answer x) result }
-{
-    match x {
-        Testing::Refused(k) => base_refusals::refusal_number(k) as u64,
-        Testing::Answered(t) => {
-            let verdict = t.verdict;
-            65536 * (verdict_number(verdict) + 65536 * (t.searches as u64))
-        }
-    }
+    x as u64
 }
