@@ -1,11 +1,18 @@
 // One node's neighbours, as a part of the neighbour list, and whether two nodes are linked.
 #![tactic(auto)]
 
-ghost use Rattle.std.specs.Prelude.{◌≡◌, ◌<◌};
-ghost use Rattle.model.specs.Basics.{has};
+ghost use Rattle.std.specs.Prelude.{◌≡◌, ◌<◌, length};
 ghost use Rattle.model.specs.Survey.{neighbours_of, Accepted};
-ghost use Rattle.model.specs.Graph.{linked};
 ghost use Rattle.survey_neighbours.specs.Rows.{Rows};
+
+// An accepted survey: its count of nodes, and its two lists.
+#[derive(Clone, Copy)]
+pub struct Survey<'a> {
+    pub n: usize,
+    pub starts: &'a [u32],
+    pub neighbours: &'a [u16],
+    pub ghost accepted: { Accepted n starts.now neighbours.now },
+}
 
 // The neighbours of node v: from where its row starts to where the next one does.
 pub fn own<'a>(n: usize, starts: &[u32], neighbours: &'a [u16], v: usize) -> &'a [u16]
@@ -17,24 +24,31 @@ pub fn own<'a>(n: usize, starts: &[u32], neighbours: &'a [u16], v: usize) -> &'a
     &neighbours[a..e]
 }
 
-// Whether node v is in a row of neighbours.
-fn is_among(row: &[u16], v: usize) -> bool
-    ensures { result ≡ has v row.now }
-{
-    let mut i = 0;
-    while i < row.len() {
-        if row[i] as usize == v {
-            return true;
-        }
-        i += 1;
-    }
-    false
-}
+impl<'a> Survey<'a> {
+    ghost use Rattle.model.specs.Graph.{linked};
+    ghost use Rattle.survey_neighbours.specs.SurveyGraph.{graph};
 
-// Whether two nodes are linked. In an accepted survey a link stands at both ends, so a's row decides.
-pub fn are_linked(n: usize, starts: &[u32], neighbours: &[u16], a: usize, b: usize) -> bool
-    requires { Accepted n starts.now neighbours.now × (a < n) }
-    ensures { result ≡ linked n (neighbours_of starts.now neighbours.now) a b }
-{
-    is_among(own(n, starts, neighbours, a), b)
+    // The neighbours of node v.
+    pub fn own(&self, v: usize) -> &'a [u16]
+        requires { v < self.now.n }
+        ensures { result.now ≡ graph self.now v }
+    {
+        own(self.n, self.starts, self.neighbours, v)
+    }
+
+    // The number of the neighbours of node v.
+    pub fn degree(&self, v: usize) -> usize
+        requires { v < self.now.n }
+        ensures { result ≡ length (graph self.now v) }
+    {
+        (self.starts[v + 1] - self.starts[v]) as usize
+    }
+
+    // Whether two nodes are linked. In an accepted survey a link stands at both ends, so a's row decides.
+    pub fn are_linked(&self, a: usize, b: usize) -> bool
+        requires { a < self.now.n }
+        ensures { result ≡ linked self.now.n (graph self.now) a b }
+    {
+        self.own(a).iter().any(|x| usize::from(*x) == b)
+    }
 }
