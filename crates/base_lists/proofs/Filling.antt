@@ -1,30 +1,21 @@
--- A loop that fills a list with one value: after i turns it is `replicate i v ++ drop i d`.
+-- A list that is filled with one value.
 -- Assumes nothing.
-use mathlib.Core.Path.{◌≡◌, sym, ap, ◌∙◌}
-use mathlib.Core.List.{List, ◌++◌, append-nil}
-use Prim.Native.Nat.{ℕ, ◌+◌, ◌≤◌, ◌<◌}
-use native.Mathlib.Omega.{arith}
-use lib.ListN.{length, set, drop, replicate, length-set, length-replicate}
-use lib.Seq.{drop-length}
-use borrow.Author.Fill.{fill_more}
+use mathlib.Core.Path.{◌≡◌, refl, sym, ap, ◌∙◌}
+use mathlib.Core.List.{List, [], ◌∷◌, ◌++◌}
+use Prim.Native.Nat.{ℕ, zero, suc, ◌+◌, ◌<◌}
+use native.Mathlib.Nat.{not-suc-le-zero, le_of_suc-le-suc}
+use native.Mathlib.Numerals.{add-one}
+use lib.ListN.{length, set, drop, replicate, length-replicate}
 
-pub record Filled (v : ℕ) (d s : List ℕ) (i : ℕ) : Type 0 where
-  pub content : s ≡ replicate i v ++ drop i d
-  pub within : i ≤ length d
-  pub same : length s ≡ length d
+filled_suc : {A : Type 0} (i : ℕ) (v : A) (d : List A) → i < length d → set (replicate i v ++ drop i d) i v ≡ replicate (suc i) v ++ drop (suc i) d
+filled_suc i v [] h = absurd (not-suc-le-zero h)
+filled_suc zero v (x ∷ d) h = refl
+filled_suc (suc i) v (x ∷ d) h = ap (◌∷◌ v) (filled_suc i v d (le_of_suc-le-suc h))
 
-pub filled_more : {v : ℕ} {d s : List ℕ} {i : ℕ} → Filled v d s i → i < length s → Filled v d (set s i v) (i + 1)
-filled_more {v} {d} {s} {i} f h = record {
-  content = rw f.content (fill_more i v d (omega arith));
-  within = omega arith;
-  same = length-set s i v ∙ f.same;
-}
-
-pub filled_all : {v : ℕ} {d s : List ℕ} {i : ℕ} → Filled v d s i → length s ≤ i → s ≡ replicate (length d) v
-filled_all {d = d} {i = i} f h =
-    let e : i ≡ length d = omega arith in
-    f.content ∙ rw (e, drop-length d, append-nil)
+-- one entry more
+pub filled_more : {A : Type 0} (i : ℕ) (v : A) (d : List A) → i < length d → set (replicate i v ++ drop i d) i v ≡ replicate (i + 1) v ++ drop (i + 1) d
+filled_more i v d h = rw add-one (filled_suc i v d h)
 
 -- a list of one repeated value is `replicate` of its length
-pub filled_own : (v k : ℕ) {s : List ℕ} → s ≡ replicate k v → s ≡ replicate (length s) v
+pub filled_own : {A : Type 0} (v : A) (k : ℕ) {s : List A} → s ≡ replicate k v → s ≡ replicate (length s) v
 filled_own v k e = e ∙ ap (λ (j : ℕ). replicate j v) (sym (ap length e ∙ length-replicate k v))
