@@ -3,20 +3,12 @@
 
 ghost use Rattle.std.specs.Prelude.{◌≡◌, map, ℕ, ◌+◌, ◌*◌, ◌<◌, ◌≤◌, min, T, length};
 ghost use Rattle.model.specs.Basics.{none, up_to, has, over};
-ghost use Rattle.model.specs.Survey.{neighbours_of, Accepted};
 ghost use Rattle.model.specs.Tables.{report_entry, report_of};
+ghost use Rattle.survey_neighbours.specs.SurveyGraph.{graph};
 ghost use Rattle.table_report.specs.Relaxed.{relaxed, links_set};
 
 use model::NONE;
-
-fn lesser(a: u16, b: u16) -> u16
-    ensures { result ≡ min a b }
-{
-    if a < b {
-        return a;
-    }
-    b
-}
+use survey_neighbours::Survey;
 
 // The sum of two numbers, or none where 16 bits cannot hold it. It is computed in 32 bits, so it never wraps. Because of the shift,
 // the compiler uses one instruction that adds eight entries at once.
@@ -35,10 +27,8 @@ fn relax(row: &mut [u16], x: u16, other: &[u16])
     requires { length row.old ≡ length other.now }
     ensures { row.new ≡ relaxed x other.now row.old }
 {
-    let mut b = 0;
-    while b < row.len() {
-        row[b] = lesser(sum_or_none(x, other[b]), row[b]);
-        b += 1;
+    for (b, entry) in row.iter_mut().enumerate() {
+        *entry = sum_or_none(x, other[b]).min(*entry);
     }
 }
 
@@ -47,73 +37,39 @@ fn set_links(own: &[u16], row: &mut [u16])
     requires { (x : ℕ) → T (has x own.now) → x < length row.old }
     ensures { row.new ≡ links_set own.now row.old }
 {
-    let mut i = 0;
-    while i < own.len() {
-        row[own[i] as usize] = 1;
-        i += 1;
+    for b in own {
+        row[*b as usize] = 1;
     }
 }
 
 // Row a of Report: the least of Low's row and, over all hubs, the sums of two entries of Full; then 1 at a's neighbours and 0 at a itself.
-fn report_row(
-    n: usize,
-    starts: &[u32],
-    neighbours: &[u16],
-    full: &[u16],
-    low: &[u16],
-    hubs: &[u16],
-    a: usize,
-    row: &mut [u16],
-)
-    requires accepted { Accepted n starts.now neighbours.now × (n * n ≤ length full.now) × (n * n ≤ length low.now) }
-    requires by_index { ((h : ℕ) → T (has h hubs.now) → h < n) × (a < n) × (length row.old ≡ n) }
-    ensures { row.new ≡ map (report_entry n (neighbours_of starts.now neighbours.now)
-        full.now low.now hubs.now a) (up_to n) }
+fn report_row(survey: &Survey, full: &[u16], low: &[u16], hubs: &[u16], a: usize, row: &mut [u16])
+    requires tables { (survey.now.n * survey.now.n ≤ length full.now) × (survey.now.n * survey.now.n ≤ length low.now) }
+    requires by_index { ((h : ℕ) → T (has h hubs.now) → h < survey.now.n) × (a < survey.now.n) × (length row.old ≡ survey.now.n) }
+    ensures { row.new
+        ≡ map (report_entry survey.now.n (graph survey.now) full.now low.now hubs.now a) (up_to survey.now.n) }
 {
+    let n = survey.n;
     let start = a * n;
-    let end = start + n;
-    base_lists::copy16(&low[start..end], row, 0);
-    let mut k = 0;
-    while k < hubs.len() {
-        let first = hubs[k] as usize * n;
-        let last = first + n;
-        relax(row, full[first + a], &full[first..last]);
-        k += 1;
+    row.copy_from_slice(&low[start..start + n]);
+    for hub in hubs {
+        let first = *hub as usize * n;
+        relax(row, full[first + a], &full[first..first + n]);
     }
-    let own = survey_neighbours::own(n, starts, neighbours, a);
-    set_links(own, row);
+    set_links(survey.own(a), row);
     row[a] = 0;
 }
 
 // Report, row by row.
-pub fn fill_report(
-    n: usize,
-    starts: &[u32],
-    neighbours: &[u16],
-    full: &[u16],
-    low: &[u16],
-    hubs: &[u16],
-    report: &mut [u16],
-)
-    requires accepted { Accepted n starts.now neighbours.now × (n * n ≤ length full.now) × (n * n ≤ length low.now) }
-    requires by_index { ((h : ℕ) → T (has h hubs.now) → h < n) × (n * n ≤ length report.old) }
-    ensures { report.new ≡ over (report_of n (neighbours_of starts.now neighbours.now)
-        full.now low.now hubs.now) report.old }
+pub fn fill_report(survey: &Survey, full: &[u16], low: &[u16], hubs: &[u16], report: &mut [u16])
+    requires tables { (survey.now.n * survey.now.n ≤ length full.now) × (survey.now.n * survey.now.n ≤ length low.now) }
+    requires by_index { ((h : ℕ) → T (has h hubs.now) → h < survey.now.n) × (survey.now.n * survey.now.n ≤ length report.old) }
+    ensures { report.new
+        ≡ over (report_of survey.now.n (graph survey.now) full.now low.now hubs.now) report.old }
 {
-    let mut a = 0;
-    while a < n {
+    let n = survey.n;
+    for a in 0..n {
         let start = a * n;
-        let end = start + n;
-        report_row(
-            n,
-            starts,
-            neighbours,
-            full,
-            low,
-            hubs,
-            a,
-            &mut report[start..end],
-        );
-        a += 1;
+        report_row(survey, full, low, hubs, a, &mut report[start..start + n]);
     }
 }

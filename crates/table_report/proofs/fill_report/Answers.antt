@@ -1,3 +1,4 @@
+use native.Mathlib.Omega.{arith}
 use Rattle.base_lists.proofs.TableRows.{rows_none, rows_part, rows_done}
 use Rattle.table_report.proofs.fill_report.Goals as goal
 
@@ -8,4 +9,4 @@ pub loop-a-preserved : goal.loop-a-preserved
 loop-a-preserved c = rows_part c.loop-a.invariant c.loop-a-test.true c.report_row.auto.row c.report_row.ensures
 
 pub returns : goal.returns
-returns c = rows_done c.loop-a.invariant c.loop-a-test.false
+returns c = rows_done c.loop-a.invariant (omega arith)
