@@ -2,34 +2,31 @@
 #![tactic(auto)]
 
 ghost use Rattle.std.specs.Prelude.{◌≡◌, ◌&&◌, ltb, replicate};
-ghost use Rattle.model.specs.Survey.{neighbours_of, Accepted};
 ghost use Rattle.model.specs.Hubs.{is_high, is_low};
 ghost use Rattle.base_nodeset.specs.NodeSet.{member};
+ghost use Rattle.survey_neighbours.specs.SurveyGraph.{graph};
 
-// The nodes with at least s neighbours, put into the empty set. A node's degree is the difference of two starts.
-pub fn high_nodes(n: usize, s: usize, starts: &[u32], neighbours: &[u16], words: &mut [u64])
-    requires { Accepted n starts.now neighbours.now × (words.old ≡ replicate 16 0) }
-    ensures { member words.new
-        ≡ (λ v. ltb v n && is_high s (neighbours_of starts.now neighbours.now) v) }
+use survey_neighbours::Survey;
+
+// The nodes with at least s neighbours, put into the empty set.
+pub fn high_nodes(survey: &Survey, s: usize, words: &mut [u64; 16])
+    requires { words.old ≡ replicate 16 0 }
+    ensures { member words.new ≡ (λ v. ltb v survey.now.n && is_high s (graph survey.now) v) }
 {
-    let mut v = 0;
-    while v < n {
-        let degree = starts[v + 1] - starts[v];
-        if s <= degree as usize {
+    for v in 0..survey.n {
+        if s <= survey.degree(v) {
             base_nodeset::insert(words, v);
         }
-        v += 1;
     }
 }
 
 // The nodes with fewer than s neighbours, put into the empty set.
-pub fn low_nodes(n: usize, s: usize, starts: &[u32], neighbours: &[u16], words: &mut [u64])
-    requires { Accepted n starts.now neighbours.now × (words.old ≡ replicate 16 0) }
-    ensures { member words.new
-        ≡ (λ v. ltb v n && is_low s (neighbours_of starts.now neighbours.now) v) }
+pub fn low_nodes(survey: &Survey, s: usize, words: &mut [u64; 16])
+    requires { words.old ≡ replicate 16 0 }
+    ensures { member words.new ≡ (λ v. ltb v survey.now.n && is_low s (graph survey.now) v) }
 {
     let mut high = [0u64; 16];
-    high_nodes(n, s, starts, neighbours, &mut high);
-    base_nodeset::insert_below(words, n);
+    high_nodes(survey, s, &mut high);
+    base_nodeset::insert_below(words, survey.n);
     base_nodeset::subtract(words, &high);
 }
