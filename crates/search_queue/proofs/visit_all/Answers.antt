@@ -3,11 +3,12 @@ use Rattle.search_queue.proofs.Visiting.{next_below, visiting_next, visiting_all
 use Rattle.search_queue.proofs.visit_all.Goals as goal
 
 pub visit-end-requires : goal.visit-end-requires
-visit-end-requires g c =
-    (next_below c.loop-w.invariant c.loop-w-test.true,
-      omega (arith, c.loop-w.invariant.same),
-      omega (arith, c.loop-w.invariant.count, c.loop-w.auto.queue),
-      omega (arith, c.loop-w.invariant.count))
+visit-end-requires g c = (
+  next_below c.loop-w.invariant c.loop-w-test.true,
+  omega (arith, c.loop-w.invariant.same),
+  omega (arith, c.loop-w.invariant.count, c.loop-w.auto.queue),
+  omega (arith, c.loop-w.invariant.count),
+)
 
 pub loop-w-preserved : goal.loop-w-preserved
 loop-w-preserved g c = visiting_next c.loop-w.invariant c.loop-w-test.true c.requires.by_index.1 c.visit-end.ensures
