@@ -13,32 +13,19 @@ use model::Refusal;
 pub fn refusal_number(r: Refusal) -> u32
     ensures { result ≡ number r }
 {
-    match r {
-        Refusal::Form => 1,
-        Refusal::NodeCount => 2,
-        Refusal::LinkCount => 3,
-        Refusal::LineNode => 4,
-        Refusal::EqualEnds => 5,
-        Refusal::RepeatedLink => 6,
-        Refusal::LineCount => 7,
-        Refusal::ShortList => 8,
-        Refusal::NotSurvey => 9,
-        Refusal::NoNode => 10,
-        Refusal::NotAttained => 11,
-        Refusal::ShortBuffer => 12,
-        Refusal::FileForm => 13,
-        Refusal::BadThreshold => 14,
-    }
+    r as u32
 }
 
 // Refusal 2: the count of nodes is outside 1 to 1,024.
+#[tactic(auto, unfolding(model::specs::Survey::bad_size))]
 pub fn bad_size(n: usize) -> bool
     ensures { result ≡ bad_size n }
 {
-    (n < 1) | (1024 < n)
+    !(1..=1024).contains(&n)
 }
 
 // Refusal 14: the threshold that a caller gives is above 1,024.
+#[tactic(auto, unfolding(model::specs::Threshold::bad_threshold))]
 pub fn bad_threshold(t: usize) -> bool
     ensures { result ≡ bad_threshold t }
 {
@@ -59,12 +46,12 @@ pub fn short_tables(n: usize, full: usize, low: usize, report: usize) -> bool
     ensures { result ≡ short_tables n full low report }
 {
     let entries = n * n;
-    (full < entries) | (low < entries) | (report < entries)
+    full < entries || low < entries || report < entries
 }
 
 // Refusal 10: one of two nodes is n or more.
 pub fn bad_pair(n: usize, a: usize, b: usize) -> bool
     ensures { result ≡ bad_pair n a b }
 {
-    (n <= a) | (n <= b)
+    n <= a || n <= b
 }

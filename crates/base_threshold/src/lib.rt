@@ -2,10 +2,10 @@
 #![tactic(auto)]
 
 ghost use Rattle.std.specs.Prelude.{◌≡◌, ◌≤◌};
-ghost use Rattle.model.specs.Answers.{count_answer};
+ghost use Rattle.model.specs.Answers.{outcome};
 ghost use Rattle.model.specs.Threshold.{threshold, in_force, threshold_answer};
 
-use model::{Counting, Refusal};
+use model::Refusal;
 
 // Entry n - 1 is the threshold of n, for n from 1 to 1,024.
 const THRESHOLD: [u16; 1024] = [
@@ -58,18 +58,17 @@ fn threshold_at(n: usize) -> usize
     requires { (1 ≤ n) × (n ≤ 1024) }
     ensures { result ≡ threshold n }
 {
-    let i = n - 1;
-    THRESHOLD[i] as usize
+    usize::from(THRESHOLD[n - 1])
 }
 
 // The same for any n: refused outside 1 to 1,024.
-pub fn threshold_of(n: usize) -> Counting
-    ensures { count_answer result ≡ threshold_answer n }
+pub fn threshold_of(n: usize) -> Result<usize, Refusal>
+    ensures { outcome result ≡ threshold_answer n }
 {
     if base_refusals::bad_size(n) {
-        return Counting::Refused(Refusal::NodeCount);
+        return Err(Refusal::NodeCount);
     }
-    Counting::Count(threshold_at(n))
+    Ok(threshold_at(n))
 }
 
 // The threshold in force where a caller gives t: 0 stands for the stored one. The open calls hand it down, so that nothing below them sees
