@@ -62,6 +62,7 @@ fn threshold_at(n: usize) -> usize
 }
 
 // The same for any n: refused outside 1 to 1,024.
+#[tactic(auto, unfolding(model::specs::Survey::bad_size, model::specs::Threshold::threshold_answer))]
 pub fn threshold_of(n: usize) -> Result<usize, Refusal>
     ensures { outcome result ≡ threshold_answer n }
 {
@@ -73,6 +74,7 @@ pub fn threshold_of(n: usize) -> Result<usize, Refusal>
 
 // The threshold in force where a caller gives t: 0 stands for the stored one. The open calls hand it down, so that nothing below them sees
 // that 0.
+#[tactic(auto, unfolding(model::specs::Threshold::in_force))]
 pub fn in_force(n: usize, t: usize) -> usize
     requires { (1 ≤ n) × (n ≤ 1024) }
     ensures { result ≡ in_force n t }
