@@ -1,41 +1,30 @@
--- The search for the smallest hub that attains a report.
+-- What a search over the nodes for the smallest hub finds.
 -- Assumes nothing.
-use mathlib.Core.Path.{◌≡◌, sym, ap, ◌∙◌}
-use mathlib.Core.Bool.{Bool, true, false, ◌&&◌}
-use mathlib.Core.List.{List}
-use Prim.Native.Nat.{ℕ, ◌+◌, ◌≤◌, ◌<◌}
-use native.Mathlib.Omega.{arith}
-use lib.Dec.{eqb}
-use lib.ListN.{get_or}
-use Rattle.model.specs.Basics.{none, up_to}
+use Rattle.std.specs.Prelude.{◌≡◌, Bool, true, false, ◌&&◌, Option, None, Some, List, ℕ, ◌≤◌, ◌<◌, eqb}
+use Rattle.std.specs.Option.{MatchOption}
+use Rattle.std.proofs.Common.{arith, zero-le}
+use Rattle.std.proofs.lemmas.Bool.Decides.{nat_tests}
+use Rattle.model.specs.Basics.{none, up_to, first_of}
 use Rattle.model.specs.Tables.{via}
-use Rattle.model.specs.Pair.{taken, attaining}
-use Rattle.model.proofs.Lists.{length_up_to}
-use Rattle.model.proofs.Entries.{get_d_up_to}
-use Rattle.model.proofs.Loops.{Searched, searched_found, searched_more, searched_all}
+use Rattle.model.specs.Pair.{taken}
+use Rattle.model.proofs.Lists.{First, found, nothing, first_is, first_below}
+use Rattle.answer_pair.specs.Node.{node}
 
 -- h counts as a hub and attains the report r
 abbrev pub attains : (n : ℕ) (full : List ℕ) (a b r h : ℕ) → Bool
 attains n full a b r h = taken n full a b h && eqb (via n full a b h) r
 
--- the nodes from h on still determine which hub is the smallest
-pub record Tried (n : ℕ) (full : List ℕ) (a b r h : ℕ) : Type 0 where
-  pub within : h ≤ n
-  pub left : Searched (attains n full a b r) none (up_to n) h
-
-module _ {n : ℕ} {full : List ℕ} {a b r h : ℕ} (tried : Tried n full a b r h) where
-  pub tried_found : h < n → attains n full a b r h ≡ true → h ≡ attaining (taken n full a b) n full a b r
-  unfolding attaining
-  tried_found l e =
-      let g : get_or (up_to n) h 0 ≡ h = get_d_up_to n h 0 l in
-      sym g ∙ searched_found _ none (up_to n) h tried.left (omega (arith, length_up_to n)) (ap (attains n full a b r) g ∙ e)
-
-  pub tried_more : h < n → attains n full a b r h ≡ false → Tried n full a b r (h + 1)
-  tried_more l e = record {
-    within = omega arith;
-    left = searched_more _ none (up_to n) h tried.left (omega (arith, length_up_to n)) (ap (attains n full a b r) (get_d_up_to n h 0 l) ∙ e);
-  }
-
-  pub tried_all : n ≤ h → none ≡ attaining (taken n full a b) n full a b r
-  unfolding attaining
-  tried_all l = searched_all _ none (up_to n) h tried.left (omega (arith, length_up_to n))
+-- the first number below n that passes a test, or none, is the first of their list
+pub first_found : (p : ℕ → Bool) (n : ℕ) (r : Option ℕ) → n ≤ none
+    → MatchOption r ((k : ℕ) → 0 ≤ k → k < n → p k ≡ false)
+    (λ i. (0 ≤ i) × (i < n) × (p i ≡ true) × ((k : ℕ) → 0 ≤ k → k < i → p k ≡ false))
+    → r ≡ node (first_of p none (up_to n))
+first_found p n None l h = at (first_below p none n)
+  where
+    at : {x : ℕ} → First p none 0 n x → None ≡ node x
+    at (found lo hi t least) = absurd (rw (h _ lo (omega arith)) at t)
+    at (nothing e all) = rw e
+first_found p n (Some i) l h =
+    let e : first_of p none (up_to n) ≡ i = first_is p none n i h.1 (rw h.2 tt) (λ k l t. rw (h.3 k zero-le l) at t) in
+    let ne : eqb i none ≡ false = grind (arith, nat_tests) in
+    rw (e, ne)

@@ -1,6 +1,6 @@
--- What asking a pair promises of its answer.
+-- What asking a pair promises of its answer, and where the tables have room.
 -- Assumes nothing.
-use mathlib.Core.Path.{◌≡◌}
+use mathlib.Core.Path.{◌≡◌, sym, subst}
 use mathlib.Core.List.{List}
 use Prim.Native.Nat.{ℕ}
 use Rattle.model.specs.declared.Answer.{Answer}
@@ -8,9 +8,8 @@ use Rattle.model.specs.Answers.{Outcome}
 use Rattle.model.specs.Asking.{asking}
 use Rattle.model.specs.Demand.{AskRight}
 use Rattle.model.proofs.Demand.{asking_right}
-use Rattle.model.proofs.Outcomes.{promised}
 
 -- an answer by the rules is right
-pub asked : {n : ℕ} {full low report : List ℕ} {a b : ℕ} {o : Outcome Answer}
-    → o ≡ asking n full low report a b → (o ≡ asking n full low report a b) × AskRight n full low report a b o
-asked {n} {full} {low} {report} {a} {b} e = promised (AskRight n full low report a b) (asking_right n full low report a b) e
+pub asked_right : (n : ℕ) (full low report : List ℕ) (a b : ℕ) (o : Outcome Answer)
+    → o ≡ asking n full low report a b → AskRight n full low report a b o
+asked_right n full low report a b o e = subst (AskRight n full low report a b) (sym e) (asking_right n full low report a b)
