@@ -1,4 +1,3 @@
-pub mod Rest
 pub mod Matching
 pub mod Fitting
 pub mod Cursors

@@ -3,24 +3,14 @@
 
 ghost use Rattle.std.specs.Prelude.{true, ◌&&◌, ◌≡◌, ℕ, ◌+◌, ◌/◌, ◌%◌, ◌<◌, ◌≤◌, eqb, leb, length, get_or};
 ghost use Rattle.model.specs.Basics.{all, up_to};
-ghost use Rattle.model.specs.Answers.{accept_answer};
+ghost use Rattle.model.specs.Answers.{outcome};
 ghost use Rattle.model.specs.Survey.{is_survey, accepting};
 ghost use Rattle.survey_neighbours.specs.Rows.{Rows};
 ghost use Rattle.survey_acceptance.specs.Matching.{row_fits, Moved};
+ghost use Rattle.survey_acceptance.specs.Surveyed.{Surveyed};
 
-use model::{Accepting, Refusal};
-
-// Puts each node's cursor at the start of its row.
-fn put_cursors(n: usize, starts: &[u32], cursors: &mut [u32])
-    requires { (n ≤ length starts.now) × (n ≤ length cursors.old) }
-    ensures { (x : ℕ) → x < n → get_or cursors.new x 0 ≡ get_or starts.now x 0 }
-{
-    let mut v = 0;
-    while v < n {
-        cursors[v] = starts[v];
-        v += 1;
-    }
-}
+use model::Refusal;
+use survey_neighbours::Survey;
 
 // Checks v's larger neighbours, which are `row`: they must ascend from v on and lie below n, and v must stand at the cursor of each, which
 // then moves on by one. The bits in which an entry differs from v are collected, not branched on, for speed.
@@ -38,23 +28,18 @@ fn match_row(
 {
     let mut before = v;
     let mut wrong = 0;
-    let mut i = 0;
-    while i < row.len() {
-        let x = row[i] as usize;
-        if x <= before {
-            return false;
-        }
-        if n <= x {
+    for x in row {
+        let x = usize::from(*x);
+        if x <= before || n <= x {
             return false;
         }
         let at = cursors[x] as usize;
         if last <= at {
             return false;
         }
-        wrong = wrong | (neighbours[at] as usize ^ v);
-        cursors[x] = (at + 1) as u32;
+        wrong |= usize::from(neighbours[at]) ^ v;
+        cursors[x] += 1;
         before = x;
-        i += 1;
     }
     wrong == 0
 }
@@ -67,17 +52,12 @@ fn match_rows(n: usize, starts: &[u32], neighbours: &[u16], cursors: &mut [u32])
     ensures { result ≡ is_survey n starts.now neighbours.now }
 {
     let last = starts[n] as usize;
-    let mut v = 0;
-    while v < n {
+    for v in 0..n {
         let at = cursors[v] as usize;
         let end = starts[v + 1] as usize;
-        if end < at {
+        if end < at || !match_row(n, last, v, &neighbours[at..end], neighbours, cursors) {
             return false;
         }
-        if !match_row(n, last, v, &neighbours[at..end], neighbours, cursors) {
-            return false;
-        }
-        v += 1;
     }
     true
 }
@@ -89,8 +69,8 @@ fn matched(n: usize, starts: &[u32], neighbours: &[u16]) -> bool
     requires { Rows n starts.now neighbours.now × (get_or starts.now n 0 % 2 ≡ 0) × (get_or starts.now n 0 / 2 ≤ 16384) }
     ensures { result ≡ is_survey n starts.now neighbours.now }
 {
-    let mut cursors = [0u32; 1024];
-    put_cursors(n, starts, &mut cursors);
+    let mut cursors = [0; 1024];
+    cursors[..n].copy_from_slice(&starts[..n]);
     match_rows(n, starts, neighbours, &mut cursors)
 }
 
@@ -100,13 +80,7 @@ fn starts_rise(n: usize, starts: &[u32]) -> bool
     ensures { result ≡ (eqb (get_or starts.now 0 0) 0
         && all (λ v. leb (get_or starts.now v 0) (get_or starts.now (v + 1) 0)) (up_to n)) }
 {
-    let mut good = starts[0] == 0;
-    let mut v = 0;
-    while v < n {
-        good = good & (starts[v] <= starts[v + 1]);
-        v += 1;
-    }
-    good
+    starts[0] == 0 && starts[..n + 1].is_sorted()
 }
 
 // Whether the lists are a survey's, for n from 1 to 1,024 and `starts` long enough. Linear in nodes and links.
@@ -118,30 +92,39 @@ pub fn is_survey(n: usize, starts: &[u32], neighbours: &[u16]) -> bool
         return false;
     }
     let last = starts[n] as usize;
-    if last % 2 != 0 {
-        return false;
-    }
-    if 16384 < last / 2 {
-        return false;
-    }
-    if neighbours.len() < last {
+    if last % 2 != 0 || 16384 < last / 2 || neighbours.len() < last {
         return false;
     }
     matched(n, starts, neighbours)
 }
 
+// The survey that the lists are, if they are one's.
+pub fn survey<'a>(n: usize, starts: &'a [u32], neighbours: &'a [u16]) -> Option<Survey<'a>>
+    requires { (1 ≤ n) × (n ≤ 1024) × (n + 1 ≤ length starts.now) }
+    ensures { Surveyed n starts.now neighbours.now result }
+{
+    if !is_survey(n, starts, neighbours) {
+        return None;
+    }
+    Some(Survey {
+        n,
+        starts,
+        neighbours,
+    })
+}
+
 // Acceptance of a survey: refused 2, 8 for `starts`, or 9.
-pub fn accept(n: usize, starts: &[u32], neighbours: &[u16]) -> Accepting
-    ensures { accept_answer result ≡ accepting n starts.now neighbours.now }
+pub fn accept(n: usize, starts: &[u32], neighbours: &[u16]) -> Result<(), Refusal>
+    ensures { outcome result ≡ accepting n starts.now neighbours.now }
 {
     if base_refusals::bad_size(n) {
-        return Accepting::Refused(Refusal::NodeCount);
+        return Err(Refusal::NodeCount);
     }
     if base_refusals::short_starts(n, starts.len()) {
-        return Accepting::Refused(Refusal::ShortList);
+        return Err(Refusal::ShortList);
     }
     if !is_survey(n, starts, neighbours) {
-        return Accepting::Refused(Refusal::NotSurvey);
+        return Err(Refusal::NotSurvey);
     }
-    Accepting::Accepted
+    Ok(())
 }
