@@ -1,8 +1,10 @@
 // The front of an input, read into a buffer.
 #![tactic(auto)]
 
-ghost use Rattle.std.specs.Prelude.{◌≡◌, ◌≤◌, length, take, IfSome, IsTrue};
+ghost use Rattle.std.specs.Prelude.{◌≡◌, List, ℕ, ◌≤◌, length, take, IfSome, IsTrue};
+ghost use Rattle.std.specs.Fn.{FnOnceReturnsAt};
 
+use std::io;
 use std::io::Read;
 
 // Reads as many bytes as fit into a buffer, or all where there are fewer. Answers how many, and whether none of them is missing: a read that
@@ -24,4 +26,17 @@ pub fn read_front<R: Read>(input: &mut R, buffer: &mut [u8]) -> (usize, bool)
         done += k;
     }
     (done, true)
+}
+
+// Reads the front of the input into a buffer and hands it on. A read that fails ends it.
+pub fn with_front<I: Input, F: FnOnce(&[u8]) -> io::Result<()>, const N: usize>(
+    rt: &I,
+    buffer: &mut [u8; N],
+    run: F,
+) -> io::Result<()>
+    requires { F.IsAlwaysCallable run }
+    ensures { (front : List ℕ) × (length front ≤ N) × FnOnceReturnsAt F.FnOnce run front result }
+{
+    let (length, _) = read_front(&mut rt.reader(), buffer);
+    run(&buffer[..length])
 }
