@@ -1,34 +1,22 @@
 // Report: for each two nodes 1 where they are linked, else the least of Low's entry and the sums of two entries of Full.
 #![tactic(auto)]
 
-ghost use Rattle.std.specs.Prelude.{◌≡◌, map, ℕ, ◌+◌, ◌*◌, ◌<◌, ◌≤◌, min, T, length};
-ghost use Rattle.model.specs.Basics.{none, up_to, has, over};
+ghost use Rattle.std.specs.Prelude.{◌≡◌, map, ℕ, ◌+◌, ◌*◌, ◌<◌, ◌≤◌, T, length};
+ghost use Rattle.model.specs.Basics.{up_to, has, over};
 ghost use Rattle.model.specs.Tables.{report_entry, report_of};
 ghost use Rattle.survey_neighbours.specs.SurveyGraph.{graph};
 ghost use Rattle.table_report.specs.Relaxed.{relaxed, links_set};
 
-use model::NONE;
 use survey_neighbours::Survey;
 
-// The sum of two numbers, or none where 16 bits cannot hold it. It is computed in 32 bits, so it never wraps. Because of the shift,
-// the compiler uses one instruction that adds eight entries at once.
-fn sum_or_none(a: u16, b: u16) -> u16
-    ensures { result ≡ min (a + b) none }
-{
-    let sum = a as u32 + b as u32;
-    if sum >> 16 != 0 {
-        return NONE;
-    }
-    sum as u16
-}
-
-// Each entry of a row becomes the lesser of itself and x + the entry of another row. A sum with a none in it is never the lesser.
+// Each entry of a row becomes the lesser of itself and x + the entry of another row. A sum that 16 bits cannot hold is none, so a sum with
+// a none in it is never the lesser. The compiler adds eight entries by one instruction.
 fn relax(row: &mut [u16], x: u16, other: &[u16])
     requires { length row.old ≡ length other.now }
     ensures { row.new ≡ relaxed x other.now row.old }
 {
     for (b, entry) in row.iter_mut().enumerate() {
-        *entry = sum_or_none(x, other[b]).min(*entry);
+        *entry = x.saturating_add(other[b]).min(*entry);
     }
 }
 
