@@ -1,10 +1,10 @@
 -- A search through the open nodes of a graph: how it starts, one turn of its loop, and what the row holds at the end.
 -- Assumes nothing.
-use mathlib.Core.Path.{◌≡◌, refl, sym, ap, ◌∙◌, subst, subst₂}
+use mathlib.Core.Path.{◌≡◌, refl, sym, ap, ap₂, ◌∙◌, subst, subst₂}
 use mathlib.Core.Logic.{◌⊎◌, inl, inr}
 use mathlib.Core.Bool.{Bool, ◌&&◌}
-use mathlib.Core.List.{List, [], ◌∷◌}
-use Prim.Native.Nat.{ℕ, zero, suc, ◌+◌, ◌≤◌, ◌<◌}
+use mathlib.Core.List.{List}
+use Prim.Native.Nat.{ℕ, ◌+◌, ◌≤◌, ◌<◌}
 use native.Mathlib.Nat.{not-suc-le-zero, le_refl}
 use native.Mathlib.Omega.{arith}
 use lib.Dec.{T, eqb→eq}
@@ -26,12 +26,6 @@ use Rattle.search_one_source.proofs.Bfs.{away, at, dist, Queued, Invariant, Kept
 pub few_open : (row : List ℕ) → unreached row ≤ length row
 unfolding unreached
 few_open row = keep_length _ row
-
--- the entry of an open node, written and then none again
-pub set_back : (row : List ℕ) (v d : ℕ) → get_or row v 0 ≡ none → row ≡ set (set row v d) v none
-set_back [] v d e = refl
-set_back (x ∷ row) zero d e = ap (λ (y : ℕ). y ∷ row) e
-set_back (x ∷ row) (suc v) d e = ap (λ (l : List ℕ). x ∷ l) (set_back row v d e)
 
 -- ---- the start: the source alone has got a distance
 
@@ -96,27 +90,44 @@ pub search_start : {n : ℕ} (G : Graph) {s : ℕ} (row₀ list : List ℕ) {c :
     → c ≡ unreached row₀ → 0 < length list → get_or list 0 0 ≡ s → Searching n G s row₀ c (progress (set row₀ s 0) list 1) 0
 search_start {n} G row₀ list long hs o few all room first = alone (edges n G row₀) _ n row₀ long hs o _ few all list room first
 
-module _ {n : ℕ} (G : Graph) {s : ℕ} {row₀ : List ℕ} {c : ℕ} {p : Progress} {head : ℕ} (S : Searching n G s row₀ c p head) where
-  -- a turn visits the neighbours of the node at the head
-  module _ (l : head < p.tail) (g : IsGraph n G) {own : List ℕ} (e : own ≡ G (at p head)) where
-    pub own_below : (w : ℕ) → T (has w own) → w < length p.row
-    own_below w h = rw S.row_length (g.below (at p head) w (S.node head l) (rw e at h))
+-- a turn of the loop, which visits the neighbours of the node at the head
+module _ {n : ℕ} (G : Graph) {s : ℕ} {row₀ row : List ℕ} (list : List ℕ) {c tail head : ℕ}
+    (S : Searching n G s row₀ c (progress row list tail) head) (l : head < tail) where
+  abbrev before : Progress
+  before = progress row list tail
+
+  abbrev v : ℕ
+  v = get_or list head 0
+
+  v_is : at before head ≡ v
+  v_is = get_or-take tail list head 0 l
+
+  pub head_below : v < n
+  head_below = rw (← v_is) (S.node head l)
+
+  pub head_near : get_or row v 0 ≤ head
+  head_near = rw (← v_is) (S.small head l)
+
+  module _ (g : IsGraph n G) {own : List ℕ} (e : own ≡ G v) where
+    pub own_below : (w : ℕ) → T (has w own) → w < length row
+    own_below w h = rw S.row_length (g.below v w head_below (rw e at h))
 
     -- and the search goes on to the next node of the queue, or ends where all open nodes are in it
-    module _ (o : get_or row₀ s 0 ≡ none) {q : Progress} (f : q ≡ visited_all (dist p head + 1) own p) where
-      kept : Kept (edges n G row₀) s n row₀ c p head (G (at p head)) q
+    module _ (o : get_or row₀ s 0 ≡ none) {q : Progress} (f : q ≡ visited_all (get_or row v 0 + 1) own before) where
+      kept : Kept (edges n G row₀) s n row₀ c before head (G v) q
       kept =
-          let v = at p head in
-          let tv : T (is_open row₀ v) = chain_allowed (is_open row₀) (linked n G) (S.chain head l) (eq_T _ none o) in
-          let h = S.node head l in
-          rw (f, e) (all_keep _ _ _ S l refl
-          (λ w m. (g.below v w h m, λ u. between_is (is_open row₀) (linked n G) v w tv (eq_T _ none u) (linked_of n G g v w h m))))
+          let from : T (is_open row₀ (at before head)) = chain_allowed (is_open row₀) (linked n G) (S.chain head l) (eq_T _ none o) in
+          let from_v : T (is_open row₀ v) = rw v_is at from in
+          let found : q ≡ visited_all (dist before head + 1) (G v) before =
+          f ∙ ap₂ (λ (x : ℕ) (ws : List ℕ). visited_all (get_or row x 0 + 1) ws before) (sym v_is) e in
+          rw found (all_keep _ _ _ S l refl
+          (λ w m. (g.below v w head_below m, λ u. rw (v_is) (between_is (is_open row₀) (linked n G) v w from_v (eq_T _ none u) (linked_of n G g v w head_below m)))))
 
       -- the links of the node at the head lead to nodes of the queue
       taken : (w : ℕ) → T (edges n G row₀ (at q head) w) → Queued q w
       taken w u =
-          let both = of_between (is_open row₀) (linked n G) (at p head) w (rw (kept.grown.same_at head l) at u) in
-          kept.found _ (linked_has n G (at p head) w both.1) (eqb→eq _ none both.0)
+          let both = of_between (is_open row₀) (linked n G) v w (rw (kept.grown.same_at head l ∙ v_is) at u) in
+          kept.found _ (linked_has n G v w both.1) (eqb→eq _ none both.0)
 
       -- and so do those of all nodes of the queue, where no open node is left
       all_taken_lem : q.tail ≡ c → (i w : ℕ) → i < q.tail → T (edges n G row₀ (at q i) w) → Queued q w
@@ -133,7 +144,8 @@ module _ {n : ℕ} (G : Graph) {s : ℕ} {row₀ : List ℕ} {c : ℕ} {p : Prog
       pub search_stop : q.tail ≡ c → Searching n G s row₀ c q q.tail
       search_stop z = advance kept.inv q.tail (omega (arith, kept.grown.longer)) (λ i w h k m u. all_taken_lem z i w m u)
 
-  -- the end
-  pub search_end : p.tail ≤ head → s < n → p.row ≡ searched n (linked n G) s row₀
-  unfolding searched
-  search_end l = distances S l (λ u v h t. linked_ends n G u v h (of_between (is_open row₀) (linked n G) u v t).1)
+-- the end
+pub search_end : {n : ℕ} (G : Graph) {s : ℕ} {row₀ : List ℕ} {c : ℕ} {p : Progress} {head : ℕ} → Searching n G s row₀ c p head
+    → p.tail ≤ head → s < n → p.row ≡ searched n (linked n G) s row₀
+unfolding searched
+search_end {n} G {row₀ = row₀} S l = distances S l (λ u v h t. linked_ends n G u v h (of_between (is_open row₀) (linked n G) u v t).1)

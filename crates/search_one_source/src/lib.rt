@@ -5,30 +5,21 @@ ghost use Rattle.std.specs.Prelude.{◌≡◌, map, ◌*◌, ◌<◌, ◌≤◌,
 ghost use Rattle.base_lists.specs.Written.{written};
 ghost use Rattle.model.specs.Basics.{up_to};
 ghost use Rattle.model.specs.Graph.{between, fewest, linked};
-ghost use Rattle.model.specs.Survey.{neighbours_of, Accepted};
+ghost use Rattle.survey_neighbours.specs.SurveyGraph.{graph};
 ghost use Rattle.base_nodeset.specs.NodeSet.{member};
 ghost use Rattle.search_queue.specs.Visiting.{unreached};
 ghost use Rattle.search_one_source.specs.OpenNodes.{is_open, searched};
 
 use model::NONE;
+use search_queue::{ByBranch, Visit, WithoutBranch};
+use survey_neighbours::Survey;
 
-// Breadth-first search from `source` through open nodes only: the `count` nodes whose entry in the row is none. Each gets the fewest links
-// to it, or keeps none. The other nodes keep their entries.
-pub fn search_open(
-    n: usize,
-    starts: &[u32],
-    neighbours: &[u16],
-    count: usize,
-    source: usize,
-    row: &mut [u16],
-)
-    requires accepted { Accepted n starts.now neighbours.now × (length row.old ≡ n) }
-    requires source_lt_n { (source < n) × T (is_open row.old source) × (count ≡ unreached row.old) }
-    ensures { row.new
-        ≡ searched n (linked n (neighbours_of starts.now neighbours.now)) source row.old }
+// The search of `search_open`, by visits of one kind.
+fn search_by<V: Visit>(survey: &Survey, count: usize, source: usize, row: &mut [u16])
+    requires row_length { length row.old ≡ survey.now.n }
+    requires source_lt_n { (source < survey.now.n) × T (is_open row.old source) × (count ≡ unreached row.old) }
+    ensures { row.new ≡ searched survey.now.n (linked survey.now.n (graph survey.now)) source row.old }
 {
-    // at most as many links as nodes
-    let few_links = starts[n] as usize <= 2 * n;
     row[source] = 0;
     let mut queue = [0u16; 1025];
     queue[0] = source as u16;
@@ -37,8 +28,8 @@ pub fn search_open(
     while head < tail {
         let v = queue[head] as usize;
         let d = row[v] + 1;
-        let own = survey_neighbours::own(n, starts, neighbours, v);
-        tail = search_queue::visit_all(own, d, few_links, count, row, &mut queue, tail);
+        let own = survey.own(v);
+        tail = search_queue::visit_all::<V>(own, d, count, row, &mut queue, tail);
         // every open node is found; a test and not a new head, so that the next node need not wait for the queue's end
         if tail == count {
             return;
@@ -47,46 +38,44 @@ pub fn search_open(
     }
 }
 
+// Breadth-first search from `source` through open nodes only: the `count` nodes whose entry in the row is none. Each gets the fewest links
+// to it, or keeps none. The other nodes keep their entries.
+pub fn search_open(survey: &Survey, count: usize, source: usize, row: &mut [u16])
+    requires row_length { length row.old ≡ survey.now.n }
+    requires source_lt_n { (source < survey.now.n) × T (is_open row.old source) × (count ≡ unreached row.old) }
+    ensures { row.new ≡ searched survey.now.n (linked survey.now.n (graph survey.now)) source row.old }
+{
+    // at most as many links as nodes
+    if survey.starts[survey.n] as usize <= 2 * survey.n {
+        search_by::<ByBranch>(survey, count, source, row);
+    } else {
+        search_by::<WithoutBranch>(survey, count, source, row);
+    }
+}
+
 // Breadth-first search from `source` through allowed nodes only. The row gets the fewest links to each node, or none.
-pub fn search(
-    n: usize,
-    starts: &[u32],
-    neighbours: &[u16],
-    allowed: &[u64],
-    source: usize,
-    row: &mut [u16],
-)
-    requires accepted { Accepted n starts.now neighbours.now × (length allowed.now ≡ 16) }
-    requires source_lt_n { (source < n) × T (member allowed.now source) × (length row.old ≡ n) }
+pub fn search(survey: &Survey, allowed: &[u64; 16], source: usize, row: &mut [u16])
+    requires { (source < survey.now.n) × T (member allowed.now source) × (length row.old ≡ survey.now.n) }
     ensures { row.new ≡ map (fewest (between (member allowed.now)
-        (linked n (neighbours_of starts.now neighbours.now))) n source) (up_to n) }
+        (linked survey.now.n (graph survey.now))) survey.now.n source) (up_to survey.now.n) }
 {
     let mut closed = [0u64; 16];
-    base_nodeset::insert_below(&mut closed, n);
+    base_nodeset::insert_below(&mut closed, survey.n);
     base_nodeset::subtract(&mut closed, allowed);
-    base_lists::fill16(row, NONE);
+    row.fill(NONE);
     // closed nodes look visited while the search runs
     base_nodeset::write_members(&closed, 0, row);
-    let count = n - base_nodeset::count(&closed);
-    search_open(n, starts, neighbours, count, source, row);
+    let count = survey.n - base_nodeset::count(&closed);
+    search_open(survey, count, source, row);
     base_nodeset::write_members(&closed, NONE, row);
 }
 
 // The same into row `source` of a table of n rows of n entries each.
-pub fn search_row(
-    n: usize,
-    starts: &[u32],
-    neighbours: &[u16],
-    allowed: &[u64],
-    source: usize,
-    table: &mut [u16],
-)
-    requires accepted { Accepted n starts.now neighbours.now × (length allowed.now ≡ 16) }
-    requires source_lt_n { (source < n) × T (member allowed.now source) × (n * n ≤ length table.old) }
-    ensures { table.new ≡ written table.old (source * n) (map (fewest (between (member allowed.now)
-        (linked n (neighbours_of starts.now neighbours.now))) n source) (up_to n)) }
+pub fn search_row(survey: &Survey, allowed: &[u64; 16], source: usize, table: &mut [u16])
+    requires { (source < survey.now.n) × T (member allowed.now source) × (survey.now.n * survey.now.n ≤ length table.old) }
+    ensures { table.new ≡ written table.old (source * survey.now.n) (map (fewest (between (member allowed.now)
+        (linked survey.now.n (graph survey.now))) survey.now.n source) (up_to survey.now.n)) }
 {
-    let a = source * n;
-    let e = a + n;
-    search(n, starts, neighbours, allowed, source, &mut table[a..e]);
+    let a = source * survey.n;
+    search(survey, allowed, source, &mut table[a..a + survey.n]);
 }
