@@ -1,14 +1,11 @@
 use mathlib.Core.Path.{◌≡◌, ap, ◌∙◌}
 use mathlib.Core.List.{List}
-use Prim.Native.Nat.{ℕ, ◌-◌, ◌<◌}
+use Prim.Native.Nat.{ℕ}
 use native.Mathlib.Omega.{arith}
-use lib.Dec.{T}
 use lib.ListN.{length, replicate}
 use borrow.Author.Rules.{rules}
 use Rattle.model.specs.Basics.{none}
 use Rattle.base_nodeset.specs.NodeSet.{member}
-use Rattle.search_queue.specs.Visiting.{unreached}
-use Rattle.search_one_source.specs.OpenNodes.{is_open}
 use Rattle.search_one_source.proofs.AllowedNodes.{closed_below, closed_few, open_is, open_count, search_allowed}
 use Rattle.search_one_source.proofs.search.Goals as goal
 
@@ -30,7 +27,7 @@ search_open-requires-clause-source_lt_n c =
     let filled = c.fill.ensures.after (λ y e. e) ∙ ap (λ (k : ℕ). replicate k none) c.requires.2 in
     let opened = open_is (member c.args.allowed.now) closed row filled long c.write_members.ensures in
     let counted = open_count (member c.args.allowed.now) closed row filled long c.write_members.ensures
-        c.args.survey.now.accepted.size (search rules) c.count.ensures in
+    c.args.survey.now.accepted.size (search rules) c.count.ensures in
     (c.requires.0, rw (opened _ c.requires.0) c.requires.1, counted)
 
 pub write_members-requires-2 : goal.write_members-requires-2

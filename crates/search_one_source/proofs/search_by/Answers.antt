@@ -19,9 +19,10 @@ overflow_add-d g c = omega (arith, head_near (graph c.args.survey.now) c.loop-he
 
 pub visit_all-tail-requires-clause-by_index : goal.visit_all-tail-requires-clause-by_index
 visit_all-tail-requires-clause-by_index g c =
-    let near = head_near (graph c.args.survey.now) c.loop-head.queue c.loop-head.invariant c.loop-head-test.true in
-    (own_below (graph c.args.survey.now) c.loop-head.queue c.loop-head.invariant c.loop-head-test.true c.args.survey.now.accepted.lists.graph c.own-own.ensures,
-      omega (arith, near))
+    let near = head_near (graph c.args.survey.now) c.loop-head.queue c.loop-head.invariant c.loop-head-test.true in (
+      own_below (graph c.args.survey.now) c.loop-head.queue c.loop-head.invariant c.loop-head-test.true c.args.survey.now.accepted.lists.graph c.own-own.ensures,
+      omega (arith, near),
+    )
 
 pub returns-then-tail-count : goal.returns-then-tail-count
 returns-then-tail-count g c =

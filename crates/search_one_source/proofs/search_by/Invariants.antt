@@ -1,6 +1,4 @@
-use mathlib.Core.Path.{◌≡◌}
 use Prim.Native.Nat.{◌-◌}
-use lib.ListN.{length}
 use Rattle.survey_neighbours.specs.SurveyGraph.{graph}
 use Rattle.search_queue.specs.Visiting.{progress}
 use Rattle.search_one_source.proofs.QueueTurns.{Searching}
