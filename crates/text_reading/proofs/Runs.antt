@@ -1,21 +1,20 @@
 -- The digits that a text begins with.
 -- Assumes nothing.
 use mathlib.Core.Path.{◌≡◌, refl, sym, ap, ◌∙◌}
-use mathlib.Core.Logic.{◌⊎◌, inl, inr, ⊎_elim}
-use mathlib.Core.Bool.{not, and-false}
+use mathlib.Core.Logic.{⊎_elim}
+use mathlib.Core.Bool.{true, false, not, ◌&&◌}
 use mathlib.Core.List.{List, [], ◌∷◌, ◌++◌}
 use Prim.Native.Nat.{ℕ, zero, suc, ◌+◌, ◌-◌, ◌*◌, ◌^◌, ◌≤◌, ◌<◌}
 use native.Mathlib.Nat.{pow-suc, pow-le-pow_right, zero-lt-suc, lt_of_lt_of_le}
 use native.Mathlib.Numerals.{add-one}
 use native.Mathlib.Omega.{arith}
-use borrow.Author.Tests.{lt-leb}
+use borrow.Author.Tests.{leb-true}
 use lib.Dec.{T, leb, not_T}
 use lib.ListN.{length, get_or, take, drop, drop_of_length-le}
 use Rattle.model.specs.Basics.{all}
 use Rattle.model.specs.Numbers.{is_digit, value_from, value_of}
 use Rattle.model.proofs.Loops.{drop_next}
-use Rattle.model.proofs.Tests.{and_l, and_r, and_i, passes, T_true, T_false}
-use Rattle.model.proofs.Numbers.{bounds_digit}
+use Rattle.model.proofs.Tests.{and_l, and_r, and_i, passes, T_true, true_T, T_false}
 use Rattle.text_reading.specs.Scan.{run}
 
 abbrev pub Digits : List ℕ → Type 0
@@ -82,10 +81,11 @@ run_take (suc k) (b ∷ t) =
 
 -- ---- by places: what a loop over some bytes asks
 
-not_digit : (b : ℕ) → (b < 48) ⊎ (57 < b) → T (not (is_digit b))
+digit_bounds : (b : ℕ) → is_digit b ≡ true → (48 ≤ b) × (b ≤ 57)
 unfolding is_digit
-not_digit b (inl h) = rw (lt-leb 48 b h) tt
-not_digit b (inr h) = rw (lt-leb b 57 h, and-false (leb 48 b)) tt
+digit_bounds b e =
+    let d = true_T (leb 48 b && leb b 57) e in
+    (leb-true 48 b (T_true (leb 48 b) (and_l (leb 48 b) (leb b 57) d)), leb-true b 57 (T_true (leb b 57) (and_r (leb 48 b) (leb b 57) d)))
 
 -- the first i of the bytes t are digits, of value v
 pub record Read (t : List ℕ) (v i : ℕ) : Type 0 where
@@ -103,13 +103,13 @@ module _ {t : List ℕ} {v i : ℕ} (r : Read t v i) where
   abbrev b : ℕ
   b = get_or t i 0
 
-  pub read_next : i < length t → 48 ≤ b → b ≤ 57 → Read t (v * 10 + (b - 48)) (i + 1)
+  pub read_next : i < length t → is_digit b ≡ true → Read t (v * 10 + (b - 48)) (i + 1)
   unfolding value_from
-  read_next h l g =
-      let next : run (drop i t) ≡ b ∷ run (drop (i + 1) t) = ap run (drop_next t i h) ∙ run_digit b (drop (i + 1) t) (bounds_digit b l g) in
+  read_next h d =
+      let next : run (drop i t) ≡ b ∷ run (drop (i + 1) t) = ap run (drop_next t i h) ∙ run_digit b (drop (i + 1) t) (true_T (is_digit b) d) in
       record {
         within = omega arith;
-        small = rw (add-one, pow-suc) (omega (arith, r.small));
+        small = let h = digit_bounds b d in rw (add-one, pow-suc) (omega (arith, r.small, h.0, h.1));
         says = ap (value_from v) (sym next) ∙ r.says;
         counts = omega (arith, r.counts, ap length next);
       }
@@ -119,11 +119,11 @@ module _ {t : List ℕ} {v i : ℕ} (r : Read t v i) where
   unfolding value_from
   all_read e = (ap (value_from v) (sym e) ∙ r.says, omega (arith, r.counts, ap length e))
 
-  pub read_stop_lem : i < length t → (b < 48) ⊎ (57 < b) → (v ≡ value_of (run t)) × (i ≡ length (run t))
-  read_stop_lem h s = all_read (ap run (drop_next t i h) ∙ run_stop b (drop (i + 1) t) (not_digit b s))
+  pub read_stop : i < length t → is_digit b ≡ false → (v ≡ value_of (run t)) × (i ≡ length (run t))
+  read_stop h s = all_read (ap run (drop_next t i h) ∙ run_stop b (drop (i + 1) t) (true_T (not (is_digit b)) (ap not s)))
 
-  pub read_end : length t ≤ i → (v ≡ value_of (run t)) × (i ≡ length (run t))
-  read_end h = all_read (ap run (drop_of_length-le t h) ∙ run_nil)
+  pub read_end : length t ≤ i → (v ≡ value_of (run t)) × (length t ≡ length (run t))
+  read_end h = let a = all_read (ap run (drop_of_length-le t h) ∙ run_nil) in (a.0, omega (arith, r.within, a.1))
 
   -- ten digits fit 64 bits, and one more does too
   pub read_small : i ≤ 10 → v < 10 ^ 10

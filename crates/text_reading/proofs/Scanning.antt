@@ -3,30 +3,35 @@
 -- Assumes nothing.
 use mathlib.Core.Path.{◌≡◌, refl, sym, ap, ◌∙◌, subst}
 use mathlib.Core.Logic.{⊎_elim, inl, inr}
-use mathlib.Core.Bool.{Bool, true, false, ◌&&◌}
+use mathlib.Core.Bool.{Bool, true, false}
 use mathlib.Core.List.{List, [], ◌∷◌, ◌++◌, append_assoc, append-nil}
 use Prim.Native.Nat.{ℕ, ◌+◌, ◌-◌, ◌≤◌, ◌<◌, min, zero-le}
-use native.Mathlib.Nat.{add-zero}
+use native.Mathlib.Nat.{le_refl}
 use native.Mathlib.Omega.{arith}
-use borrow.Author.Tests.{eq-eqb, ltb-true, eqb-true, lt-ltb}
-use lib.Dec.{T, ltb, eqb, not_T, T_not, eqb→eq, ltb→lt, lt→ltb}
+use borrow.Author.Tests.{eq-eqb, ltb-true, eqb-true, eqb-false, ne_eqb, lt-ltb}
+use lib.Dec.{T, ltb, eqb, not_T, T_not, eqb→eq}
 use lib.ListN.{length, get_or, take, drop, length-take, length-drop, take-append-drop, drop_of_length-le}
 use lib.ListN.{get_or-append}
-use lib.Seq.{get_or-drop}
 use Rattle.model.specs.Basics.{has}
 use Rattle.model.specs.Numbers.{is_number, value_of}
-use Rattle.model.proofs.Lists.{has_head, has_later, of_single, of_append, none_in}
+use Rattle.model.proofs.Lists.{of_single, of_append, none_in}
 use Rattle.model.proofs.Loops.{drop_next}
-use Rattle.model.proofs.Tests.{and_l, and_r, and_i, T_true, true_T, no_false, false_no, eq_T, lt_or}
+use Rattle.model.proofs.Tests.{T_true, no_false, eq_T, lt_or}
 use Rattle.model.proofs.Numbers.{number_text, text_number}
 use Rattle.text_reading.specs.Scan.{run, number_of, number_at, has_byte, LineEnd, begins}
-use Rattle.text_reading.specs.declared.Number.TheVariants as number
+use Rattle.std.specs.Prelude.{Option as Found, Some, None, nat_eq}
+use Rattle.std.specs.Borrow.{Bor}
+use Rattle.std.specs.Option.{option_eq}
+use Rattle.std.specs.List.{slice_range}
+use Rattle.std.specs.Slice.{IsItemAt}
+use Rattle.std.specs.List.{list_any, starts_with}
+use Rattle.std.specs.Cmp.Lexicographic.{pointwise}
 use Rattle.text_reading.proofs.Runs.{Digits, run_nil, run_all, run_split, run_take}
 
 -- ---- numbers
 
 -- what is found where a list of digits is a number
-of_number : (at : ℕ) (t : List ℕ) → T (is_number t) → number_of at t ≡ number.Value (value_of t) (at + length t)
+of_number : (at : ℕ) (t : List ℕ) → T (is_number t) → number_of at t ≡ Some (record { value = value_of t; end = at + length t })
 of_number at t n = rw (T_true (is_number t) n)
 
 -- ---- what the reader of a number tests
@@ -57,44 +62,65 @@ some_number (b ∷ c ∷ t) a h k f =
 take_all : (k : ℕ) (t : List ℕ) → length t ≤ k → take k t ≡ t
 take_all k t h = sym (append-nil (take k t)) ∙ ap (λ (r : List ℕ). take k t ++ r) (sym (drop_of_length-le t h)) ∙ take-append-drop k t
 
+eleven_first : (u : List ℕ) (m : ℕ) → m ≡ min (length u) 11 → take m u ≡ take 11 u
+eleven_first u m e = ⊎_elim
+    (λ l. take_all m u (omega arith) ∙ sym (take_all 11 u (omega arith)))
+    (λ l. let i : m ≡ 11 = omega arith in rw i refl)
+    (lt_or (length u) 11)
+
+-- the text from a place on, as `get` lends it
+rest_of : (s : List ℕ) (at : ℕ) {r : List ℕ} → r ≡ slice_range s at (length s) → r ≡ drop at s
+rest_of s at e = e ∙ take_all (length s - at) (drop at s) (omega (arith, length-drop at s))
+
 -- of the digits at a place of the text s at most eleven are read: their value is v, and their count k
-module _ (s : List ℕ) (at : ℕ) {v k : ℕ} (value : v ≡ value_of (take 11 (run (drop at s)))) (count : k ≡ length (take 11 (run (drop at s)))) where
+module _ (s : List ℕ) (at : ℕ) {r : List ℕ} {m v k : ℕ} (rest : r ≡ slice_range s at (length s)) (most : m ≡ min (length r) 11)
+    (read : (v ≡ value_of (run (take m r))) × (k ≡ length (run (take m r)))) where
   -- all of them
   abbrev t : List ℕ
   t = run (drop at s)
 
+  -- the first eleven
+  abbrev read_first : take m r ≡ take 11 (drop at s)
+  read_first = eleven_first r m most ∙ ap (take 11) (rest_of s at rest)
+
+  value : v ≡ value_of (take 11 t)
+  value = read.0 ∙ ap (λ u. value_of (run u)) read_first ∙ ap value_of (run_take 11 (drop at s))
+
+  count : k ≡ length (take 11 t)
+  count = read.1 ∙ ap (λ u. length (run u)) read_first ∙ ap length (run_take 11 (drop at s))
+
   few : k ≡ min 11 (length t)
   few = count ∙ length-take 11 t
 
-  none : is_number t ≡ false → number.Malformed ≡ number_at s at
+  none : is_number t ≡ false → None ≡ number_at s at
   unfolding number_at
   none h = rw h
 
-  pub read_empty : k ≡ 0 → number.Malformed ≡ number_at s at
+  pub read_empty : k ≡ 0 → None ≡ number_at s at
   read_empty h = none (none_short _ (omega (arith, few)))
 
-  pub read_long : 10 < k → number.Malformed ≡ number_at s at
+  pub read_long : 10 < k → None ≡ number_at s at
   read_long h = none (none_long _ (omega (arith, few)))
 
-  first : 0 < k → get_or t 0 0 ≡ get_or s at 0
+  first : 0 < k → get_or t 0 0 ≡ get_or r 0 0
   first h =
       sym (get_or-append t (drop (length t) (drop at s)) 0 0 (omega (arith, few)))
-      ∙ ap (λ (x : List ℕ). get_or x 0 0) (sym (run_split _))
-      ∙ get_or-drop at s 0 0
-      ∙ ap (λ (k : ℕ). get_or s k 0) (add-zero at)
+      ∙ ap (λ (x : List ℕ). get_or x 0 0) (sym (run_split _) ∙ sym (rest_of s at rest))
 
-  pub read_zero : (ltb 1 k && eqb (get_or s at 0) 48) ≡ true → number.Malformed ≡ number_at s at
-  read_zero e =
-      let i = true_T (ltb 1 k && eqb (get_or s at 0) 48) e in
-      let h = ltb→lt 1 k (and_l (ltb 1 k) (eqb (get_or s at 0) 48) i) in
-      let z = eqb→eq (get_or s at 0) 48 (and_r (ltb 1 k) (eqb (get_or s at 0) 48) i) in
-      none (none_zero _ (omega (arith, few)) (first (omega arith) ∙ z))
+  -- a digit was read, so the rest has a byte
+  pub read_within : 0 < k → 0 < length r
+  read_within h = go r refl
+    where
+      go : (u : List ℕ) → r ≡ u → 0 < length u
+      go [] e = absurd (omega (arith, h, few, ap (λ u. length (run u)) (sym (rest_of s at rest) ∙ e), ap length run_nil))
+      go (b ∷ u) e = omega arith
 
-  pub read_found : (k ≡ 0 → ⊥) → k ≤ 10 → (ltb 1 k && eqb (get_or s at 0) 48) ≡ false → number.Value v (at + k) ≡ number_at s at
+  pub read_zero : 1 < k → get_or r 0 0 ≡ 48 → None ≡ number_at s at
+  read_zero h z = none (none_zero _ (omega (arith, few)) (first (omega arith) ∙ z))
+
+  pub read_found : (k ≡ 0 → ⊥) → k ≤ 10 → (1 < k → get_or r 0 0 ≡ 48 → ⊥) → Some (record { value = v; end = at + k }) ≡ number_at s at
   unfolding number_at
-  read_found h l e =
-      let z : 1 < k → get_or s at 0 ≡ 48 → ⊥ =
-      λ m f. false_no (ltb 1 k && eqb (get_or s at 0) 48) e (and_i (ltb 1 k) (eqb (get_or s at 0) 48) (lt→ltb 1 k m) (eq_T (get_or s at 0) 48 f)) in
+  read_found h l z =
       let whole : take 11 t ≡ t = take_all 11 t (omega (arith, few)) in
       let long : k ≡ length t = count ∙ ap length whole in
       let no_zero : 1 < length t → get_or t 0 0 ≡ 48 → ⊥ = λ m f. z (omega arith) (sym (first (omega arith)) ∙ f) in
@@ -102,21 +128,18 @@ module _ (s : List ℕ) (at : ℕ) {v k : ℕ} (value : v ≡ value_of (take 11 
       rw (value ∙ ap value_of whole, long) (sym (of_number at t n))
 
 -- no digit stands past the text
-pub read_past : (s : List ℕ) (at : ℕ) → length s ≤ at → number.Malformed ≡ number_at s at
+pub read_past : (s : List ℕ) (at : ℕ) → length s < at → None ≡ number_at s at
 unfolding number_at is_number
-read_past s at h = rw (drop_of_length-le s h, run_nil)
-
--- the bytes that are looked at are the first eleven
-pub eleven_part : (s : List ℕ) (at : ℕ) → at < length s → run (take (at + min 11 (length s - at) - at) (drop at s)) ≡ take 11 (run (drop at s))
-eleven_part s at h = ap run (at_most (drop at s) (at + min 11 (length s - at) - at) (omega (arith, length-drop at s))) ∙ run_take 11 (drop at s)
-  where
-    at_most : (u : List ℕ) (k : ℕ) → k ≡ min 11 (length u) → take k u ≡ take 11 u
-    at_most u k e = ⊎_elim
-        (λ l. take_all k u (omega arith) ∙ sym (take_all 11 u (omega arith)))
-        (λ l. let i : k ≡ 11 = omega arith in rw i refl)
-        (lt_or (length u) 11)
+read_past s at h = let past : drop at s ≡ [] = let l : length s ≤ at = omega arith in drop_of_length-le s l in rw (past, run_nil)
 
 -- ---- a byte at a place
+
+-- the byte that `get` lends, compared
+pub byte_got : (s : List ℕ) (i : ℕ) (r : Found (Bor ℕ)) (b : Bor ℕ) → IsItemAt s i r
+    → option_eq (λ (x y : Bor ℕ). nat_eq x.now y.now) r (Some b) ≡ has_byte s i b.now
+unfolding has_byte
+byte_got s i None b l = rw (sym l.0) refl
+byte_got s i (Some x) b l = rw (sym l.0, sym (l.4 (le_refl i) 0)) refl
 
 -- a byte that stands at a place is within the text
 pub has_within : (s : List ℕ) (i b : ℕ) → has_byte s i b ≡ true → i < length s
@@ -150,33 +173,29 @@ first_has s i b h =
 
 -- ---- a word at a place
 
-module _ (s word : List ℕ) (at i : ℕ) (h : i < length word) where
-  -- the word's byte at its place, and the text from there on
-  abbrev byte : ℕ
-  byte = get_or word i 0
+eqb_comm : (a b : ℕ) → eqb a b ≡ eqb b a
+eqb_comm a b = go (eqb a b) refl
+  where
+    go : (t : Bool) → eqb a b ≡ t → t ≡ eqb b a
+    go true e = sym (eq-eqb b a (sym (eqb-true a b e)))
+    go false e = sym (ne_eqb b a (λ h. eqb-false a b e (sym h)))
 
-  pub word_not : has_byte s (at + i) byte ≡ false → begins (drop i word) (drop (at + i) s) ≡ false
-  unfolding has_byte begins
-  word_not n = rw (drop_next word i h) (⊎_elim here past (lt_or (at + i) (length s)))
-    where
-      here : at + i < length s → begins (byte ∷ drop (i + 1) word) (drop (at + i) s) ≡ false
-      here l =
-          let differs : eqb (get_or s (at + i) 0) byte ≡ false = rw (lt-ltb (at + i) (length s) l) at n in
-          rw (drop_next s (at + i) l, differs) refl
-
-      past : length s ≤ at + i → begins (byte ∷ drop (i + 1) word) (drop (at + i) s) ≡ false
-      past l = rw (drop_of_length-le s l) refl
-
-  pub word_next : has_byte s (at + i) byte ≡ true
-      → begins (drop (i + 1) word) (drop (at + (i + 1)) s) ≡ begins (drop i word) (drop (at + i) s)
-  unfolding begins
-  word_next n =
-      let place : at + (i + 1) ≡ at + i + 1 = omega arith in
-      rw (drop_next word i h, first_has s (at + i) byte n, T_true (eqb byte byte) (eq_T byte byte refl), place) refl
-
-pub word_end : (word : List ℕ) (i : ℕ) (t : List ℕ) → length word ≤ i → begins (drop i word) t ≡ true
+-- a text starts with a word
+word_first : (word t : List ℕ) → pointwise nat_eq word (take (length word) t) ≡ begins word t
 unfolding begins
-word_end word i t h = rw (drop_of_length-le word h) refl
+word_first [] t = refl
+word_first (w ∷ word) [] = refl
+word_first (w ∷ word) (x ∷ t) = rw (word_first word t, eqb_comm w x) refl
+
+pub word_at : (s word : List ℕ) (at : ℕ) {m : ℕ} → m ≡ min at (length s) → starts_with nat_eq (slice_range s m (length s)) word ≡ begins word (drop at s)
+word_at s word at {m} e =
+    word_first word (slice_range s m (length s)) ∙ ap (begins word) (rest_of s m refl ∙ ⊎_elim within past (lt_or at (length s)))
+  where
+    within : at < length s → drop m s ≡ drop at s
+    within l = let same : m ≡ at = omega arith in rw same refl
+
+    past : length s ≤ at → drop m s ≡ drop at s
+    past l = let end : length s ≤ m = omega arith in rw (drop_of_length-le s end, drop_of_length-le s l) refl
 
 -- ---- the end of a line
 
@@ -213,10 +232,8 @@ no_feed_left {s} l h f =
     l.free (subst (λ (r : List ℕ). T (has 10 r))
     (l.is_text ∙ ap (λ (r : List ℕ). l.line ++ r) (drop_of_length-le s h) ∙ append-nil l.line) f)
 
--- the bytes have a line feed, or none
-module _ (s : List ℕ) {e : ℕ} (l : LineEnd s 0 e) where
-  pub feed_within : e < length s → has 10 s ≡ true
-  feed_within h = ap (has 10) (after_line l h) ∙ T_true _ (has_later 10 l.line (10 ∷ drop (e + 1) s) (has_head 10 (drop (e + 1) s)))
-
-  pub feed_missing : length s ≤ e → has 10 s ≡ false
-  feed_missing h = no_false (has 10 s) (no_feed_left l h)
+-- `contains` looks for a byte
+pub contained : (x : ℕ) (xs : List ℕ) → list_any (λ y. nat_eq y x) xs ≡ has x xs
+unfolding has
+contained x [] = refl
+contained x (y ∷ xs) = rw (contained x xs, eqb_comm x y) refl

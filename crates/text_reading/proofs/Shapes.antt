@@ -23,7 +23,7 @@ use Rattle.model.proofs.Numbers.{digits_value, digits_number, digits_all, value_
 use Rattle.model.proofs.Lines.{AllSmall, behind_word, of_behind, number_complete, number_sound, line_text}
 use Rattle.text_reading.specs.Scan.{run, number_at, has_byte, begins, number_first, field_first, on_numbers, numbers_first, is_shape}
 use Rattle.text_reading.specs.Scan.{line_by, pair_by, found_number}
-use Rattle.text_reading.specs.declared.Number.TheVariants as number
+use Rattle.std.specs.Prelude.{Some, None}
 use Rattle.text_reading.proofs.Runs.{NoDigit, run_append, run_split}
 use Rattle.text_reading.proofs.Scanning.{first_has}
 
@@ -77,7 +77,7 @@ number_at_place s i = at (is_number (run (drop i s)))
     ds : List ℕ
     ds = run (drop i s)
 
-    at : (b : Bool) → found_number s (if b then number.Value (value_of ds) (i + length ds) else number.Malformed)
+    at : (b : Bool) → found_number s (if b then Some (record { value = value_of ds; end = i + length ds }) else None)
         ≡ (if◌then◌else◌ {A = Option (ℕ × List ℕ)} b (some (value_of ds, drop (length ds) (drop i s))) missing)
     at true = ap (λ (r : List ℕ). some (value_of ds, r)) (sym (drop-drop (length ds) i s))
     at false = refl

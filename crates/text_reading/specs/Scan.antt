@@ -2,17 +2,15 @@
 -- shape; and what its functions found.
 -- Assumes nothing.
 use Rattle.std.specs.Prelude.{◌≡◌, Bool, true, false, not, ◌&&◌, List, [], ◌∷◌, ◌++◌, ℕ, zero, suc, ◌+◌, ◌-◌, ◌<◌, T, ltb, leb, eqb, length, get_or, drop}
+use Rattle.std.specs.Prelude.{Option as Found, Some, None}
 use Rattle.std.proofs.Math.Option.{Option, none as missing, some, map, bind}
 use Rattle.model.specs.Basics.{has}
 use Rattle.std.specs.Prelude.{if◌then◌else◌}
 use Rattle.model.specs.Numbers.{is_digit, is_number, value_of}
 use Rattle.model.specs.Lines.{behind, number_line, two_line}
 use Rattle.text_reading.specs.declared.Number.{Number}
-use Rattle.text_reading.specs.declared.Number.TheVariants as number
 use Rattle.text_reading.specs.declared.Numbers.{Numbers}
-use Rattle.text_reading.specs.declared.Numbers.TheVariants as numbers
-use Rattle.text_reading.specs.declared.Line.{Line}
-use Rattle.text_reading.specs.declared.Line.TheVariants as pair
+use Rattle.text_reading.specs.declared.Pair.{Pair}
 
 -- the digits that a text begins with
 unfoldable pub run : List ℕ → List ℕ
@@ -20,10 +18,10 @@ run [] = []
 run (b ∷ t) = if is_digit b then b ∷ run t else []
 
 -- the number at a place, with the place after it: all the digits that follow, if the text rule admits them
-abbrev pub number_of : ℕ → List ℕ → Number
-number_of at t = if is_number t then number.Value (value_of t) (at + length t) else number.Malformed
+abbrev pub number_of : ℕ → List ℕ → Found Number
+number_of at t = if is_number t then Some (record { value = value_of t; end = at + length t }) else None
 
-unfoldable pub number_at : List ℕ → ℕ → Number
+unfoldable pub number_at : List ℕ → ℕ → Found Number
 number_at s at = number_of at (run (drop at s))
 
 -- byte b stands at place i
@@ -76,15 +74,15 @@ pair_by word separator t = if is_shape word separator 2 then two_line word separ
 
 -- ---- what was found in a text, as these definitions have it
 
-abbrev pub found_number : List ℕ → Number → Option (ℕ × List ℕ)
-found_number s (number.Value v e) = some (v, drop e s)
-found_number s number.Malformed = missing
+abbrev pub found_number : List ℕ → Found Number → Option (ℕ × List ℕ)
+found_number s (Some n) = some (n.value, drop n.end s)
+found_number s None = missing
 
 -- the last ones of three
-abbrev pub found_numbers : List ℕ → (count : ℕ) → Numbers → Option (List ℕ × List ℕ)
-found_numbers s count (numbers.Last x y z e) = some (drop (3 - count) (x ∷ y ∷ z ∷ []), drop e s)
-found_numbers s count numbers.Malformed = missing
+abbrev pub found_numbers : List ℕ → (count : ℕ) → Found Numbers → Option (List ℕ × List ℕ)
+found_numbers s count (Some n) = some (drop (3 - count) (n.third_last ∷ n.second_last ∷ n.last ∷ []), drop n.end s)
+found_numbers s count None = missing
 
-abbrev pub found : List ℕ → Line → Option (ℕ × ℕ × List ℕ)
-found s (pair.Pair a b e) = some (a, b, drop e s)
-found s pair.Malformed = missing
+abbrev pub found : List ℕ → Found (Pair ℕ) → Option (ℕ × ℕ × List ℕ)
+found s (Some p) = some (p.a, p.b, drop p.end s)
+found s None = missing

@@ -1,7 +1,7 @@
 // Numbers and lines, read from a text. A line has a shape: a first word, a separator in front of each number, and a count of numbers.
 #![tactic(auto)]
 
-ghost use Rattle.std.specs.Prelude.{◌≡◌, ◌+◌, ◌-◌, ◌≤◌, min, T, length, drop};
+ghost use Rattle.std.specs.Prelude.{◌≡◌, ◌≤◌, T, length, drop};
 ghost use Rattle.model.specs.Numbers.{value_of};
 ghost use Rattle.model.specs.Lines.{number_line};
 ghost use Rattle.text_reading.specs.Scan.{run, number_at, has_byte, LineEnd, begins, field_first, numbers_first, is_shape, line_by, pair_by};
@@ -9,9 +9,9 @@ ghost use Rattle.text_reading.specs.Scan.{found_number, found_numbers, found};
 
 // A number and the place after it.
 #[derive(Clone, Copy)]
-pub enum Number {
-    Value(u64, usize),
-    Malformed,
+pub struct Number {
+    pub value: u64,
+    pub end: usize,
 }
 
 // The value of some digits, and their count.
@@ -21,18 +21,21 @@ struct Digits {
     count: usize,
 }
 
-// The last three of some numbers, and the place after them. Where there are fewer, the first places say nothing.
+// The last three of some numbers, and the place after them. Where there are fewer, the first of the three say nothing.
 #[derive(Clone, Copy)]
-pub enum Numbers {
-    Last(u64, u64, u64, usize),
-    Malformed,
+pub struct Numbers {
+    pub third_last: u64,
+    pub second_last: u64,
+    pub last: u64,
+    pub end: usize,
 }
 
 // The two numbers of a line and the place after its line feed.
 #[derive(Clone, Copy)]
-pub enum Line {
-    Pair(u64, u64, usize),
-    Malformed,
+pub struct Pair<T> {
+    pub a: T,
+    pub b: T,
+    pub end: usize,
 }
 
 // The digits that at most eleven bytes begin with: their value and their count.
@@ -40,104 +43,78 @@ fn leading_digits(part: &[u8]) -> Digits
     requires { length part.now ≤ 11 }
     ensures { (result.value ≡ value_of (run part.now)) × (result.count ≡ length (run part.now)) }
 {
-    let mut value: u64 = 0;
-    let mut count = 0;
-    while count < part.len() {
-        let b = part[count];
-        if b < 48 {
+    let mut value = 0;
+    for (count, b) in part.iter().enumerate() {
+        if !b.is_ascii_digit() {
             return Digits { value, count };
         }
-        if 57 < b {
-            return Digits { value, count };
-        }
-        value = value * 10 + (b - 48) as u64;
-        count += 1;
+        value = value * 10 + (b - b'0') as u64;
     }
-    Digits { value, count }
-}
-
-// The place eleven bytes after a place, or the end of the text.
-fn eleven_on(length: usize, at: usize) -> usize
-    requires { at ≤ length }
-    ensures { result ≡ at + min 11 (length - at) }
-{
-    if length - at < 11 {
-        return length;
+    Digits {
+        value,
+        count: part.len(),
     }
-    at + 11
 }
 
 // The number at a place: one to ten digits without a leading zero, 0 itself excepted.
-pub fn parse_number(text: &[u8], at: usize) -> Number
+pub fn parse_number(text: &[u8], at: usize) -> Option<Number>
     ensures { result ≡ number_at text.now at }
 {
-    if text.len() <= at {
-        return Number::Malformed;
-    }
-    let digits = leading_digits(&text[at..eleven_on(text.len(), at)]);
+    let rest = text.get(at..)?;
+    let digits = leading_digits(&rest[..rest.len().min(11)]);
     if digits.count == 0 {
-        return Number::Malformed;
+        return None;
     }
     if 10 < digits.count {
-        return Number::Malformed;
+        return None;
     }
-    if (1 < digits.count) & (text[at] == 48) {
-        return Number::Malformed;
+    if 1 < digits.count && rest[0] == b'0' {
+        return None;
     }
-    Number::Value(digits.value, at + digits.count)
+    Some(Number {
+        value: digits.value,
+        end: at + digits.count,
+    })
 }
 
 // Whether byte b stands at a place.
 pub fn has_byte(text: &[u8], at: usize, b: u8) -> bool
     ensures { result ≡ has_byte text.now at b }
 {
-    if at < text.len() {
-        text[at] == b
-    } else {
-        false
-    }
+    text.get(at) == Some(&b)
 }
 
 // The place of the first line feed from a place on, or the end of the text.
 pub fn line_end(text: &[u8], at: usize) -> usize
     ensures { LineEnd text.now at result }
 {
-    let mut i = at;
-    while i < text.len() {
-        if text[i] == 10 {
+    for i in at..text.len() {
+        if text[i] == b'\n' {
             return i;
         }
-        i += 1;
     }
-    i
+    at.max(text.len())
 }
 
 // Whether a word stands at a place.
 pub fn has_word(text: &[u8], at: usize, word: &[u8]) -> bool
     ensures { result ≡ begins word.now (drop at text.now) }
 {
-    let mut i = 0;
-    while i < word.len() {
-        if !has_byte(text, at + i, word[i]) {
-            return false;
-        }
-        i += 1;
-    }
-    true
+    text[at.min(text.len())..].starts_with(word)
 }
 
 // The separator at a place, and the number after it.
-fn field_at(text: &[u8], at: usize, separator: u8) -> Number
+fn field_at(text: &[u8], at: usize, separator: u8) -> Option<Number>
     ensures { found_number text.now result ≡ field_first separator (drop at text.now) }
 {
     if !has_byte(text, at, separator) {
-        return Number::Malformed;
+        return None;
     }
     parse_number(text, at + 1)
 }
 
 // The numbers from a place on, at most three, each after the separator.
-fn numbers_at(text: &[u8], at: usize, separator: u8, count: usize) -> Numbers
+fn numbers_at(text: &[u8], at: usize, separator: u8, count: usize) -> Option<Numbers>
     requires { count ≤ 3 }
     ensures { found_numbers text.now count result ≡ numbers_first separator count (drop at text.now) }
 {
@@ -145,104 +122,82 @@ fn numbers_at(text: &[u8], at: usize, separator: u8, count: usize) -> Numbers
     let mut y = 0;
     let mut z = 0;
     let mut next = at;
-    let mut k = 0;
-    while k < count {
-        let Number::Value(v, end) = field_at(text, next, separator) else {
-            return Numbers::Malformed;
-        };
+    for _ in 0..count {
+        let number = field_at(text, next, separator)?;
         x = y;
         y = z;
-        z = v;
-        next = end;
-        k += 1;
+        z = number.value;
+        next = number.end;
     }
-    Numbers::Last(x, y, z, next)
+    Some(Numbers {
+        third_last: x,
+        second_last: y,
+        last: z,
+        end: next,
+    })
 }
 
 // The line at a place, by its shape: the numbers, and the place after the line feed.
-fn parse_line(text: &[u8], at: usize, word: &[u8], separator: u8, count: usize) -> Numbers
+fn parse_line(text: &[u8], at: usize, word: &[u8], separator: u8, count: usize) -> Option<Numbers>
     requires { T (is_shape word.now separator count) }
     ensures { found_numbers text.now count result ≡ number_line word.now separator count (drop at text.now) }
 {
     if !has_word(text, at, word) {
-        return Numbers::Malformed;
+        return None;
     }
-    let Numbers::Last(x, y, z, end) = numbers_at(text, at + word.len(), separator, count) else {
-        return Numbers::Malformed;
-    };
-    if !has_byte(text, end, 10) {
-        return Numbers::Malformed;
+    let numbers = numbers_at(text, at + word.len(), separator, count)?;
+    if !has_byte(text, numbers.end, b'\n') {
+        return None;
     }
-    Numbers::Last(x, y, z, end + 1)
+    Some(Numbers {
+        end: numbers.end + 1,
+        ..numbers
+    })
 }
 
 // Whether a line may have such a shape.
 fn is_shape(word: &[u8], separator: u8, count: usize) -> bool
     ensures { result ≡ is_shape word.now separator count }
 {
-    if line_end(word, 0) < word.len() {
-        return false;
-    }
-    (separator < 48) & (separator != 10) & (count <= 3)
-}
-
-// The same for any shape. A shape that no line may have finds none.
-pub fn scan_line<'a>(
-    text: &'a [u8],
-    at: usize,
-    word: &'a [u8],
-    separator: u8,
-    count: usize,
-) -> Numbers
-    ensures { found_numbers text.now count result ≡ line_by word.now separator count (drop at text.now) }
-{
-    if !is_shape(word, separator, count) {
-        return Numbers::Malformed;
-    }
-    parse_line(text, at, word, separator, count)
+    !word.contains(&b'\n') & (separator < b'0') & (separator != b'\n') & (count <= 3)
 }
 
 // The line reader: the text, and the start of the next line.
-#[derive(Drop)]
+#[derive(Clone, Copy)]
 pub struct LineReader<'a> {
     pub text: &'a [u8],
     pub at: usize,
 }
 
-// A reader of the lines from a place on.
-pub fn lines_from<'a>(text: &'a [u8], at: usize) -> LineReader<'a>
-    ensures { (result.text ≡ text.entry) × (result.at ≡ at) }
-{
-    LineReader { text, at }
-}
+impl<'a> LineReader<'a> {
+    // A reader of the lines from a place on.
+    pub fn at(text: &'a [u8], at: usize) -> Self
+        ensures { (result.text ≡ text.entry) × (result.at ≡ at) }
+    {
+        LineReader { text, at }
+    }
 
-// The next line, by its shape.
-pub fn next_line<'a>(r: LineReader<'a>, word: &'a [u8], separator: u8, count: usize) -> Numbers
-    ensures { found_numbers r.entry.text.now count result
-        ≡ line_by word.now separator count (drop r.entry.at r.entry.text.now) }
-{
-    scan_line(r.text, r.at, word, separator, count)
-}
-
-// The line at a place, through the reader: plain parameters, so that callers need no proof by hand.
-pub fn line_at<'a>(
-    text: &'a [u8],
-    at: usize,
-    word: &'a [u8],
-    separator: u8,
-    count: usize,
-) -> Numbers
-    ensures { found_numbers text.now count result ≡ line_by word.now separator count (drop at text.now) }
-{
-    next_line(lines_from(text, at), word, separator, count)
+    // The next line, by its shape. A shape that no line may have finds none.
+    pub fn next_line(&self, word: &[u8], separator: u8, count: usize) -> Option<Numbers>
+        ensures { found_numbers self.now.text.now count result
+            ≡ line_by word.now separator count (drop self.now.at self.now.text.now) }
+    {
+        if !is_shape(word, separator, count) {
+            return None;
+        }
+        parse_line(self.text, self.at, word, separator, count)
+    }
 }
 
 // The line of two numbers at a place.
-pub fn pair_at<'a>(text: &'a [u8], at: usize, word: &'a [u8], separator: u8) -> Line
+pub fn pair_at(text: &[u8], at: usize, word: &[u8], separator: u8) -> Option<Pair<u64>>
     ensures { found text.now result ≡ pair_by word.now separator (drop at text.now) }
 {
-    match line_at(text, at, word, separator, 2) {
-        Numbers::Last(_, a, b, end) => Line::Pair(a, b, end),
-        Numbers::Malformed => Line::Malformed,
-    }
+    let Numbers {
+        second_last: a,
+        last: b,
+        end,
+        ..
+    } = LineReader::at(text, at).next_line(word, separator, 2)?;
+    Some(Pair { a, b, end })
 }

@@ -6,12 +6,10 @@ use Rattle.text_reading.proofs.Shapes.{field_missing, field_found}
 use Rattle.text_reading.proofs.field_at.Goals as goal
 
 pub returns-then-not-has_byte : goal.returns-then-not-has_byte
-returns-then-not-has_byte c = field_missing _ _ _ (sym c.has_byte.ensures ∙ c.if-not-has_byte.true)
+returns-then-not-has_byte c = field_missing _ _ _ (sym c.if-not-has_byte.ensures)
 
 pub overflow_add-at : goal.overflow_add-at
-overflow_add-at c = omega (arith, has_within _ _ _ (sym c.has_byte.ensures ∙ c.if-not-has_byte.false))
+overflow_add-at c = omega (arith, has_within _ _ _ (sym c.if-not-has_byte.ensures))
 
 pub returns : goal.returns
-returns c =
-    ap (found_number _) c.parse_number.ensures
-    ∙ field_found _ _ _ (sym c.has_byte.ensures ∙ c.if-not-has_byte.false)
+returns c = ap (found_number _) c.parse_number.ensures ∙ field_found _ _ _ (sym c.if-not-has_byte.ensures)

@@ -1,43 +1,30 @@
-use mathlib.Core.Path.{◌≡◌, ap, ◌∙◌}
-use mathlib.Core.List.{List}
-use Prim.Native.Nat.{ℕ, ◌-◌}
-use lib.ListN.{length, take, drop}
-use Rattle.model.specs.Numbers.{value_of}
-use Rattle.text_reading.specs.Scan.{run}
-use Rattle.text_reading.proofs.Scanning.{read_past, eleven_part, read_empty, read_long, read_zero, read_found}
+use mathlib.Core.Path.{◌∙◌}
+use mathlib.Core.Logic.{⊎_elim}
+use native.Mathlib.Omega.{arith}
+use Rattle.text_reading.proofs.Scanning.{read_past, read_within, read_empty, read_long, read_zero, read_found}
 use Rattle.text_reading.proofs.parse_number.Goals as goal
+use Rattle.text_reading.proofs.parse_number.Goals.{else-digits-gt1-via-then-digits-gt1+else-rest-eq48, else-digits-gt1-via-else-digits-gt1}
 
-pub returns-then-text-at : goal.returns-then-text-at
-returns-then-text-at c = read_past _ _ c.if-text-at.true
+pub returns-in_err-rest : goal.returns-in_err-rest
+returns-in_err-rest c = c.from_residual.ensures ∙ read_past _ _ (⊎_elim (λ l. l) (λ l. absurd (omega arith)) c.in_err-rest.ensures.lookup.0)
 
 pub returns-then-digits-eq0 : goal.returns-then-digits-eq0
-returns-then-digits-eq0 c =
-    let digits : List ℕ = take 11 (run (drop c.args.at c.args.text.now)) in
-    let said : (c.leading_digits-digits.result.value ≡ value_of digits) × (c.leading_digits-digits.result.count ≡ length digits) = let eleven = ap (λ (e : ℕ). run (take (e - c.args.at) (drop c.args.at c.args.text.now))) c.eleven_on.ensures
-    ∙ eleven_part _ _ c.if-text-at.false in
-    (c.leading_digits-digits.ensures.0 ∙ ap value_of eleven, c.leading_digits-digits.ensures.1 ∙ ap length eleven) in
-    read_empty _ _ (said).0 (said).1 c.if-digits-eq0.true
+returns-then-digits-eq0 c = read_empty _ _ c.in_ok-rest.ensures.lookup.0.2 c.min.ensures c.leading_digits-digits.ensures c.if-digits-eq0.true
 
 pub returns-then-digits-gt10 : goal.returns-then-digits-gt10
-returns-then-digits-gt10 c =
-    let digits : List ℕ = take 11 (run (drop c.args.at c.args.text.now)) in
-    let said : (c.leading_digits-digits.result.value ≡ value_of digits) × (c.leading_digits-digits.result.count ≡ length digits) = let eleven = ap (λ (e : ℕ). run (take (e - c.args.at) (drop c.args.at c.args.text.now))) c.eleven_on.ensures
-    ∙ eleven_part _ _ c.if-text-at.false in
-    (c.leading_digits-digits.ensures.0 ∙ ap value_of eleven, c.leading_digits-digits.ensures.1 ∙ ap length eleven) in
-    read_long _ _ (said).0 (said).1 c.if-digits-gt10.true
+returns-then-digits-gt10 c = read_long _ _ c.in_ok-rest.ensures.lookup.0.2 c.min.ensures c.leading_digits-digits.ensures c.if-digits-gt10.true
 
-pub returns-then-digits-text : goal.returns-then-digits-text
-returns-then-digits-text c =
-    let digits : List ℕ = take 11 (run (drop c.args.at c.args.text.now)) in
-    let said : (c.leading_digits-digits.result.value ≡ value_of digits) × (c.leading_digits-digits.result.count ≡ length digits) = let eleven = ap (λ (e : ℕ). run (take (e - c.args.at) (drop c.args.at c.args.text.now))) c.eleven_on.ensures
-    ∙ eleven_part _ _ c.if-text-at.false in
-    (c.leading_digits-digits.ensures.0 ∙ ap value_of eleven, c.leading_digits-digits.ensures.1 ∙ ap length eleven) in
-    read_zero _ _ (said).0 (said).1 c.if-digits-text.true
+pub bounds-rest-0 : goal.bounds-rest-0
+bounds-rest-0 c = read_within c.args.text.now c.args.at c.in_ok-rest.ensures.lookup.0.2 c.min.ensures c.leading_digits-digits.ensures (omega arith)
+
+pub returns-then-rest-eq48 : goal.returns-then-rest-eq48
+returns-then-rest-eq48 c =
+    read_zero _ _ c.in_ok-rest.ensures.lookup.0.2 c.min.ensures c.leading_digits-digits.ensures c.if-digits-gt1.true c.if-rest-eq48.true
 
 pub returns : goal.returns
 returns c =
-    let digits : List ℕ = take 11 (run (drop c.args.at c.args.text.now)) in
-    let said : (c.leading_digits-digits.result.value ≡ value_of digits) × (c.leading_digits-digits.result.count ≡ length digits) = let eleven = ap (λ (e : ℕ). run (take (e - c.args.at) (drop c.args.at c.args.text.now))) c.eleven_on.ensures
-    ∙ eleven_part _ _ c.if-text-at.false in
-    (c.leading_digits-digits.ensures.0 ∙ ap value_of eleven, c.leading_digits-digits.ensures.1 ∙ ap length eleven) in
-    read_found _ _ (said).0 (said).1 c.if-digits-eq0.false c.if-digits-gt10.false c.if-digits-text.false
+    read_found _ _ c.in_ok-rest.ensures.lookup.0.2 c.min.ensures c.leading_digits-digits.ensures c.if-digits-eq0.false c.if-digits-gt10.false
+    (λ l z. elim c.else-digits-gt1.branch [
+      else-digits-gt1-via-then-digits-gt1+else-rest-eq48 w ↦ w.if-rest-eq48.false z |
+      else-digits-gt1-via-else-digits-gt1 w ↦ absurd (omega (arith, l, w.if-digits-gt1.false))
+    ])
