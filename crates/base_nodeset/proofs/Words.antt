@@ -6,18 +6,24 @@ use mathlib.Core.Bool.{Bool, true, false}
 use mathlib.Core.List.{List, [], ◌∷◌, ◌++◌}
 use Prim.Native.Nat.{ℕ, zero, suc, ◌+◌, ◌-◌, ◌*◌, ◌/◌, ◌%◌, ◌^◌, ◌≤◌, ◌<◌}
 use native.Mathlib.Nat.{pow-suc}
+use native.Mathlib.Numerals.{add-one}
 use native.Mathlib.Omega.{arith}
+use borrow.Author.Fill.{fill_more}
 use borrow.Author.Tests.{lt-ltb, le-ltb, eq-eqb}
 use lib.Bits.{bit_and}
 use lib.Count.{ones, count_trailing_zeros}
 use lib.Dec.{T, ltb}
-use lib.ListN.{length, get_or, set, length-set, length-append, replicate, get_or-eq_default}
+use lib.ListN.{length, get_or, set, drop, length-set, length-append, replicate, get_or-eq_default}
 use lib.Pow.{pow_pos}
 use lib.Seq.{get_or-set_other}
-use Rattle.model.specs.Basics.{from, up_to, keep, first_of}
-use Rattle.std.specs.Prelude.{if◌then◌else◌}
+use Rattle.model.specs.Basics.{from, up_to, has, keep}
+use Rattle.std.specs.Prelude.{if◌then◌else◌, cond, not, ◌==◌, Some, None}
+use Rattle.std.specs.List.{find, position, position_or_len}
+use Rattle.std.proofs.lemmas.Bool.Decides.{nat_tests}
+use Rattle.std.proofs.lemmas.List.Quantifiers.{position-Some}
+use Rattle.std.proofs.lemmas.List.Sums.{fails_before_first}
 use Rattle.model.proofs.Tests.{ltb_same, lt_or, eq_or}
-use Rattle.model.proofs.Lists.{First, found, nothing, first_of_lem, keep_append, keep_length, length_up_to, up_to_add}
+use Rattle.model.proofs.Lists.{keep_append, keep_length, length_up_to, up_to_add, has_head, has_keep, of_keep, has_up_to}
 use Rattle.base_nodeset.specs.NodeSet.{Nodes, bit, member, empty_set, intersection, difference, members_from}
 use Rattle.base_nodeset.proofs.Bits.{bit-bit_and, bit_not, bit_zero, bit_suc, bit_of_zero, shifted}
 use Rattle.base_nodeset.proofs.Bits.{word_bit, empty_words, word_changed, word_kept, set_word}
@@ -127,15 +133,23 @@ module _ {b a₀ a : List ℕ} {i : ℕ} (r : Removed b a₀ a i) where
 -- ---- the smallest member
 
 -- the first of a list that passes a test heads what the test keeps
-first_kept : (p : ℕ → Bool) (d : ℕ) (l : List ℕ) → first_of p d l ≡ get_or (keep p l) 0 d
-unfolding first_of keep
-first_kept p d [] = refl
-first_kept p d (x ∷ l) = at (p x) (first_kept p d l)
+find_none : (p : ℕ → Bool) (l : List ℕ) → keep p l ≡ [] → find p l ≡ None
+unfolding keep
+find_none p [] e = refl
+find_none p (x ∷ l) e = at (p x) (find_none p l) e
   where
-    at : (b : Bool) → first_of p d l ≡ get_or (keep p l) 0 d
-        → (if b then x else first_of p d l) ≡ get_or (if b then x ∷ keep p l else keep p l) 0 d
-    at true e = refl
-    at false e = e
+    at : (b : Bool) → (keep p l ≡ [] → find p l ≡ None) → (if b then x ∷ keep p l else keep p l) ≡ [] → cond b (Some x) (find p l) ≡ None
+    at true h e = cc
+    at false h e = h e
+
+find_some : (p : ℕ → Bool) (v : ℕ) (k l : List ℕ) → keep p l ≡ v ∷ k → find p l ≡ Some v
+unfolding keep
+find_some p v k [] e = cc
+find_some p v k (x ∷ l) e = at (p x) (find_some p v k l) e
+  where
+    at : (b : Bool) → (keep p l ≡ v ∷ k → find p l ≡ Some v) → (if b then x ∷ keep p l else keep p l) ≡ v ∷ k → cond b (Some x) (find p l) ≡ Some v
+    at true h e = cc
+    at false h e = h e
 
 -- no member in the first i words
 pub record Clear (ws : List ℕ) (i : ℕ) : Type 0 where
@@ -155,35 +169,81 @@ module _ {ws : List ℕ} {i : ℕ} (c : Clear ws i) where
   pub clear_more : i < length ws → get_or ws i 0 ≡ 0 → Clear ws (i + 1)
   clear_more h z = record { within = omega arith; none = here ∙ ap (members_from 64 (64 * i)) z ∙ bits_none _ _ }
 
-  pub clear_all : length ws ≤ i → 64 * i ≡ first_of (member ws) (64 * length ws) (up_to (64 * length ws))
+  pub clear_all : length ws ≤ i → find (member ws) (up_to (64 * length ws)) ≡ None
   clear_all h =
-      let e : length ws ≡ i = omega (arith, c.within) in
-      rw (e, first_kept, c.none)
+      let e : i ≡ length ws = omega (arith, c.within) in
+      find_none _ _ (rw e at c.none)
 
   -- the trailing zeros of the first word that is not 0 name the smallest member
   module _ (h : i < length ws) (p : get_or ws i 0 ≡ 0 → ⊥) (l : get_or ws i 0 < 2 ^ 64) where
     low : Lowest 64 (64 * i) (get_or ws i 0)
     low = lowest _ _ _ (omega arith) l
 
-    pub clear_below : count_trailing_zeros 64 (get_or ws i 0) < 64
-    clear_below = low.below
-
-    pub clear_first : 64 * i + count_trailing_zeros 64 (get_or ws i 0) ≡ first_of (member ws) (64 * length ws) (up_to (64 * length ws))
+    pub clear_first : find (member ws) (up_to (64 * length ws)) ≡ Some (64 * i + count_trailing_zeros 64 (get_or ws i 0))
     clear_first =
         let m = 64 * (i + 1) in
         let k = 64 * length ws - m in
         let e : up_to (64 * length ws) ≡ up_to m ++ from m k = up_to_add _ _ _ (omega arith) in
-        rw (first_kept, e, keep_append, here, low.first)
+        let first : keep (member ws) (up_to (64 * length ws))
+        ≡ (64 * i + count_trailing_zeros 64 (get_or ws i 0))
+        ∷ (members_from 64 (64 * i) (get_or ws i 0 - 2 ^ count_trailing_zeros 64 (get_or ws i 0)) ++ keep (member ws) (from m k)) =
+        rw (e, keep_append, here, low.first) in
+        find_some _ _ _ _ first
 
--- where the smallest member is n or more, no number below n is one
-pub past_smallest : (n : ℕ) (ws : List ℕ) → n ≤ 64 * length ws → (r : ℕ)
-    → r ≡ first_of (member ws) (64 * length ws) (up_to (64 * length ws)) → n ≤ r → (x : ℕ) → x < n → T (member ws x) → ⊥
-past_smallest n ws long r e h x l t =
-    at (first_of_lem _ _ _ e)
-  where
-    at : First (member ws) (64 * length ws) 0 (64 * length ws) r → ⊥
-    at (found lo hi s least) = least x (omega arith) (omega arith) t
-    at (nothing q miss) = miss x (omega arith) (omega arith) t
+-- a word that is not 0
+abbrev pub some_bit : ℕ → Bool
+some_bit word = not (word == 0)
+
+no_bit : (w : ℕ) → some_bit w ≡ false → w ≡ 0
+no_bit w e = grind (arith, nat_tests)
+
+any_bit : (w : ℕ) → some_bit w ≡ true → w ≡ 0 → ⊥
+any_bit w e z = grind (arith, nat_tests)
+
+module _ (ws : List ℕ) where
+  clear_words : (i : ℕ) → i ≤ length ws → ((k : ℕ) → k < i → some_bit (get_or ws k 0) ≡ false) → Clear ws i
+  clear_words zero h e = clear_none
+  clear_words (suc i) h e =
+      rw add-one at (clear_more (clear_words i (omega arith) (λ k l. e k (omega arith))) (omega arith) (no_bit _ (e i (omega arith))))
+
+  -- the smallest member is in the first word that is not 0
+  pub smallest_none : position some_bit ws ≡ None → find (member ws) (up_to (64 * length ws)) ≡ None
+  smallest_none e =
+      let past : length ws ≤ position_or_len some_bit ws = ⊎_elim (λ l. absurd (let t = lt-ltb _ _ l in cc)) (λ h. h) (lt_or _ _) in
+      clear_all (clear_words (length ws) (omega arith) (λ k l. fails_before_first some_bit ws k 0 (omega arith))) (omega arith)
+
+  pub smallest_some : (i : ℕ) → get_or ws i 0 < 2 ^ 64 → position some_bit ws ≡ Some i
+      → find (member ws) (up_to (64 * length ws)) ≡ Some (64 * i + count_trailing_zeros 64 (get_or ws i 0))
+  smallest_some i l e =
+      let at = position-Some some_bit ws i 0 e in
+      clear_first (clear_words i (omega (arith, at.0)) at.2) at.0 (any_bit _ at.1) l
+
+-- the smallest member is one, and where there is none, the set is empty
+module _ (ws : List ℕ) where
+  abbrev all_kept : List ℕ
+  all_kept = keep (member ws) (up_to (64 * length ws))
+
+  pub smallest_member : (v : ℕ) → find (member ws) (up_to (64 * length ws)) ≡ Some v → T (member ws v)
+  smallest_member v e = at all_kept refl
+    where
+      at : (k : List ℕ) → all_kept ≡ k → T (member ws v)
+      at [] q = let none = find_none _ _ q in absurd (cc)
+      at (u ∷ k) q =
+          let some = find_some _ _ _ _ q in
+          let same : u ≡ v = cc in
+          let here : T (has u all_kept) = rw q (has_head _ _) in
+          rw same at (of_keep _ _ _ here).1
+
+  pub smallest_of_none : find (member ws) (up_to (64 * length ws)) ≡ None → (x : ℕ) → T (member ws x) → ⊥
+  unfolding has
+  smallest_of_none e x t = ⊎_elim
+      (λ h. at all_kept refl (has_keep (member ws) (up_to (64 * length ws)) x (has_up_to _ x h) t))
+      (λ h. rw (member_past ws x (omega arith)) at t)
+      (lt_or x (64 * length ws))
+    where
+      at : (k : List ℕ) → all_kept ≡ k → T (has x all_kept) → ⊥
+      at [] q h = rw q at h
+      at (u ∷ k) q h = let some = find_some _ _ _ _ q in cc
 
 -- ---- the nodes below n
 
@@ -218,11 +278,13 @@ below_more {ws} i k h q b = record {
       (λ x d. ap (λ (f : Nodes). f x) b.says ∙ ltb_same x (64 * i) x (64 * i + k) (λ l. omega arith) (λ l. omega arith));
 }
 
--- a full word
-pub below_word : {ws : List ℕ} {i : ℕ} → i < 16 → Below ws (64 * i) → Below (set ws i (2 ^ 64 - 1)) (64 * (i + 1))
-below_word {i = i} h b =
-    let e : 64 * i + 64 ≡ 64 * (i + 1) = omega arith in
-    rw e at (below_more i 64 h (omega arith) b)
+-- the first m words are full
+pub below_words : (m : ℕ) → m ≤ 16 → {ws : List ℕ} → ws ≡ replicate 16 0 → Below (replicate m (2 ^ 64 - 1) ++ drop m ws) (64 * m)
+below_words zero h e = below_none e
+below_words (suc m) h {ws} e =
+    let next : 64 * m + 64 ≡ 64 * (m + 1) = omega arith in
+    let more = below_more m 64 (omega arith) (omega arith) (below_words m (omega arith) e) in
+    rw (next, fill_more m (2 ^ 64 - 1) ws (omega (arith, ap length e)), add-one) at more
 
 -- after the full words, the low bits of one more, or nothing
 module _ {ws : List ℕ} (n : ℕ) (small : n ≤ 1024) (b : Below ws (64 * (n / 64))) where

@@ -1,19 +1,22 @@
-use Prim.Native.Nat.{ℕ, ◌^◌, ◌<◌}
-use lib.ListN.{get_or}
-use Rattle.base_nodeset.proofs.Words.{clear_none, clear_more, clear_all, clear_first}
+use Rattle.std.proofs.Common.{rules, tests, ◌≡◌, ◌∙◌, sym}
+use Rattle.std.proofs.lemmas.Iterator.{YieldsList-from_slice}
+use Rattle.std.proofs.lemmas.Iterator.Search.{position_from_yields_List}
+use Rattle.std.specs.List.{position}
+use Rattle.base_nodeset.proofs.Words.{some_bit, smallest_none, smallest_some}
+use Rattle.base_nodeset.proofs.smallest.Goals.{After-position}
 use Rattle.base_nodeset.proofs.smallest.Goals as goal
 
-pub loop-i-init : goal.loop-i-init
-loop-i-init c = clear_none
+at : (c : After-position) → c.position.result ≡ position some_bit c.args.words.now
+at c =
+    position_from_yields_List some_bit _ _ c.position.result c.position.ensures.ran (YieldsList-from_slice c.args.words.now cc)
+    (λ x b q k. search (rules, tests))
 
-pub returns-then-word-ne0 : goal.returns-then-word-ne0
-returns-then-word-ne0 c =
-    let word : ℕ = get_or c.args.words.now c.loop-i.i 0 in
-    let fits : word < 2 ^ 64 = (c.type_inv.words _).fits in
-    clear_first c.loop-i.invariant c.loop-i-test.true c.if-word-ne0.true (fits)
-
-pub loop-i-preserved : goal.loop-i-preserved
-loop-i-preserved c = clear_more c.loop-i.invariant c.loop-i-test.true c.if-word-ne0.false
+pub returns-in_err-i : goal.returns-in_err-i
+returns-in_err-i c =
+    let none = sym (at (goal.at.returns-in_err-i c).After-position) ∙ c.in_err-i.was in
+    c.from_residual.ensures ∙ sym (smallest_none _ none)
 
 pub returns : goal.returns
-returns c = clear_all c.loop-i.invariant c.loop-i-test.false
+returns c =
+    let some = sym (at (goal.at.returns c).After-position) ∙ c.in_ok-i.was in
+    sym (smallest_some _ _ (c.type_inv.words _).fits some)

@@ -8,20 +8,20 @@ use Rattle.base_nodeset.proofs.Members.{Lowest}
 use Rattle.base_nodeset.proofs.MemberEntries.{word_all, low, low_inside, word_more}
 use Rattle.base_nodeset.proofs.write_word.Goals as goal
 
-pub overflow_add-v : goal.overflow_add-v
-overflow_add-v c =
+pub overflow_add-list : goal.overflow_add-list
+overflow_add-list c =
     let left : ℕ = c.loop-left.left in
     let inside : c.args.base + count_trailing_zeros 64 left < length c.loop-left.list = low_inside c.loop-left.invariant (omega arith) in
     omega (arith, inside)
 
-pub offset_bounds-list-v : goal.offset_bounds-list-v
-offset_bounds-list-v c =
+pub offset_bounds-list-base : goal.offset_bounds-list-base
+offset_bounds-list-base c =
     let left : ℕ = c.loop-left.left in
     let inside : c.args.base + count_trailing_zeros 64 left < length c.loop-left.list = low_inside c.loop-left.invariant (omega arith) in
     omega (arith, inside)
 
-pub bounds-list-v : goal.bounds-list-v
-bounds-list-v c =
+pub bounds-list-base : goal.bounds-list-base
+bounds-list-base c =
     let left : ℕ = c.loop-left.left in
     let inside : c.args.base + count_trailing_zeros 64 left < length c.loop-left.list = low_inside c.loop-left.invariant (omega arith) in
     inside
