@@ -1,11 +1,10 @@
 -- The greatest of the distances, search by search.
 -- Assumes nothing.
-use mathlib.Core.Path.{◌≡◌, sym, ap, ◌∙◌}
+use mathlib.Core.Path.{◌≡◌, ap, ◌∙◌}
 use mathlib.Core.List.{List, [], ◌∷◌, ◌++◌, map}
 use Prim.Native.Nat.{ℕ, ◌+◌, ◌≤◌, ◌<◌, max}
 use native.Mathlib.Omega.{arith}
-use lib.ListN.{length, get_or, take, drop, replicate, drop_of_length-le, length-replicate, get_or-replicate}
-use lib.Seq.{ext_get_or, get_or-take, length-take-le}
+use lib.ListN.{length, get_or, drop, drop_of_length-le}
 use Rattle.model.specs.Basics.{none, up_to, gather}
 use Rattle.model.specs.Graph.{Edges, fewest, linked}
 use Rattle.model.specs.Survey.{Graph}
@@ -38,59 +37,36 @@ pub fewest_small : (E : Edges) (n a b : ℕ) → n ≤ none → fewest E n a b �
 unfolding fewest
 fewest_small E n a b h = first_most _ _ _ h
 
--- ---- loops: the greatest so far, and that of what is left, are the greatest of all
+-- ---- loops: the greatest of what is left of a list
 
-pub record RowMost (row : List ℕ) (i most : ℕ) : Type 0 where
-  pub within : i ≤ length row
-  pub all : max most (greatest (drop i row)) ≡ greatest row
-
-module _ {row : List ℕ} {i most : ℕ} (m : RowMost row i most) where
-  pub row_turn : i < length row → {most' : ℕ} → most' ≡ max most (get_or row i 0) → RowMost row (i + 1) most'
+module _ (l : List ℕ) (i : ℕ) where
+  pub greatest_next : i < length l → greatest (drop i l) ≡ max (get_or l i 0) (greatest (drop (i + 1) l))
   unfolding greatest
-  row_turn h e = record { within = omega arith; all = omega (arith, ap greatest (drop_next row i h)) }
+  greatest_next h = ap greatest (drop_next l i h)
 
-  pub row_end : length row ≤ i → most ≡ greatest row
+  pub greatest_end : length l ≤ i → greatest (drop i l) ≡ 0
   unfolding greatest
-  row_end h = omega (arith, ap greatest (drop_of_length-le row h))
+  greatest_end h = ap greatest (drop_of_length-le l h)
 
--- the distances of all nodes from each source
-abbrev rows : ℕ → Graph → List ℕ → List ℕ
-rows n G hs = rows_of n (fewest (linked n G) n) hs
+-- the greatest distance from the nodes of a list
+abbrev pub deepest : ℕ → Graph → List ℕ → ℕ
+deepest n G hs = greatest (rows_of n (fewest (linked n G) n) hs)
 
--- the first source, and the others
-pub greatest_first : (n : ℕ) (G : Graph) (h : ℕ) (hs : List ℕ)
-    → greatest (rows_of n (fewest (linked n G) n) (h ∷ hs))
-    ≡ max (greatest (map (fewest (linked n G) n h) (up_to n))) (greatest (rows_of n (fewest (linked n G) n) hs))
-unfolding rows_of gather
-greatest_first n G h hs = greatest_append (map (fewest (linked n G) n h) (up_to n)) (rows n G hs)
+module _ (n : ℕ) (G : Graph) where
+  -- the first source, and the others
+  pub deepest_first : (h : ℕ) (hs : List ℕ) → deepest n G (h ∷ hs) ≡ max (greatest (map (fewest (linked n G) n h) (up_to n))) (deepest n G hs)
+  unfolding rows_of gather
+  deepest_first h hs = greatest_append (map (fewest (linked n G) n h) (up_to n)) (rows_of n (fewest (linked n G) n) hs)
 
-pub record SearchMost (n : ℕ) (G : Graph) (most₀ : ℕ) (hs : List ℕ) (i most : ℕ) : Type 0 where
-  pub within : i ≤ length hs
-  pub all : max most (greatest (rows n G (drop i hs))) ≡ max most₀ (greatest (rows n G hs))
+  module _ (hs : List ℕ) (i : ℕ) where
+    pub deepest_next : i < length hs
+        → deepest n G (drop i hs) ≡ max (greatest (map (fewest (linked n G) n (get_or hs i 0)) (up_to n))) (deepest n G (drop (i + 1) hs))
+    deepest_next h = ap (deepest n G) (drop_next hs i h) ∙ deepest_first (get_or hs i 0) (drop (i + 1) hs)
 
-module _ {n : ℕ} {G : Graph} {most₀ : ℕ} {hs : List ℕ} {i most : ℕ} (m : SearchMost n G most₀ hs i most) where
-  pub search_turn : i < length hs → {deep most' : ℕ} → deep ≡ greatest (map (fewest (linked n G) n (get_or hs i 0)) (up_to n))
-      → most' ≡ max most deep → SearchMost n G most₀ hs (i + 1) most'
-  search_turn h e f =
-      let next = ap (λ (l : List ℕ). greatest (rows n G l)) (drop_next hs i h) ∙ greatest_first n G (get_or hs i 0) (drop (i + 1) hs) in
-      record { within = omega arith; all = omega (arith, next, m.all) }
+    pub deepest_end : length hs ≤ i → deepest n G (drop i hs) ≡ 0
+    unfolding rows_of gather greatest
+    deepest_end h = ap (deepest n G) (drop_of_length-le hs h)
 
-  pub search_end : length hs ≤ i → most ≡ max most₀ (greatest (rows n G hs))
-  unfolding rows_of gather greatest
-  search_end h = omega (arith, ap (λ (l : List ℕ). greatest (rows n G l)) (drop_of_length-le hs h), m.all)
-
-  -- once a node is missed, no other search finds a greater distance
-  pub search_none : n ≤ 1024 → most ≡ none → none ≡ max most₀ (greatest (rows n G hs))
-  search_none size e =
-      omega (arith, greatest_bounded n (fewest (linked n G) n) (λ a b. fewest_small _ _ _ _ (omega arith)) (drop i hs), m.all)
-
--- ---- a search fills the front of a row of none
-
-pub front_none : (n m : ℕ) → n ≤ m → take n (replicate m none) ≡ replicate n none
-front_none n m h =
-    let long : length (take n (replicate m none)) ≡ n = length-take-le n (replicate m none) (rw length-replicate h) in
-    ext_get_or 0 _ _ (long ∙ sym (length-replicate n none))
-    (λ i l.
-    get_or-take n _ i 0 (omega (arith, long))
-    ∙ get_or-replicate m i none 0 (omega (arith, long))
-    ∙ sym (get_or-replicate n i none 0 (omega (arith, long))))
+  -- no search finds a greater distance than none
+  pub deepest_bounded : n ≤ 1024 → (hs : List ℕ) → deepest n G hs ≤ none
+  deepest_bounded size = greatest_bounded n (fewest (linked n G) n) (λ a b. fewest_small (linked n G) n a b (omega arith))

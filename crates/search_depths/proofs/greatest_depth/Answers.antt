@@ -1,15 +1,20 @@
+use native.Mathlib.Omega.{arith}
+use lib.ListN.{drop}
 use Rattle.model.proofs.Ascending.{get_d_has}
-use Rattle.search_depths.proofs.Depths.{search_turn, search_end, search_none}
+use Rattle.survey_neighbours.specs.SurveyGraph.{graph}
+use Rattle.search_depths.proofs.Depths.{deepest_next, deepest_end, deepest_bounded}
 use Rattle.search_depths.proofs.greatest_depth.Goals as goal
 
 pub returns-then-depth : goal.returns-then-depth
-returns-then-depth c = search_none c.loop-i.invariant c.requires.0.size c.if-depth.true
+returns-then-depth c =
+    let bounded = deepest_bounded c.args.survey.now.n (graph c.args.survey.now) c.args.survey.now.accepted.size in
+    omega (arith, bounded (drop c.loop-source.source-index c.args.sources.now))
 
 pub depth_from-requires : goal.depth_from-requires
-depth_from-requires c = (c.requires.0, c.requires.1 _ (get_d_has _ _ c.loop-i-test.true))
+depth_from-requires c = c.requires _ (get_d_has _ _ c.loop-source-test.true)
 
-pub loop-i-preserved : goal.loop-i-preserved
-loop-i-preserved c = search_turn c.loop-i.invariant c.loop-i-test.true c.depth_from.ensures c.greater-depth.ensures
+pub loop-source-preserved : goal.loop-source-preserved
+loop-source-preserved c = omega (arith, deepest_next c.args.survey.now.n (graph c.args.survey.now) c.args.sources.now c.loop-source.source-index c.loop-source-test.true)
 
 pub returns : goal.returns
-returns c = search_end c.loop-i.invariant c.loop-i-test.false
+returns c = omega (arith, deepest_end c.args.survey.now.n (graph c.args.survey.now) c.args.sources.now c.loop-source.source-index c.loop-source-test.false)

@@ -1,11 +1,10 @@
-use Prim.Native.Nat.{◌-◌}
-use lib.ListN.{length}
-use Rattle.model.specs.Survey.{neighbours_of}
-use Rattle.search_depths.proofs.Depths.{SearchMost}
+use mathlib.Core.Path.{◌≡◌}
+use Prim.Native.Nat.{max}
+use lib.ListN.{drop}
+use Rattle.survey_neighbours.specs.SurveyGraph.{graph}
+use Rattle.search_depths.proofs.Depths.{deepest}
 use Rattle.search_depths.proofs.greatest_depth.Given as goal
 
-abbrev pub invariant-loop-i : goal.invariant-loop-i
-invariant-loop-i l = SearchMost l.n (neighbours_of l.starts l.neighbours) l.most l.sources l.i l.depth
-
-abbrev pub decreases-loop-i : goal.decreases-loop-i
-decreases-loop-i l = length l.sources - l.i
+abbrev pub invariant-loop-source : goal.invariant-loop-source
+invariant-loop-source l =
+    max l.depth (deepest l.survey.n (graph l.survey) (drop l.source-index l.sources)) ≡ max l.most (deepest l.survey.n (graph l.survey) l.sources)

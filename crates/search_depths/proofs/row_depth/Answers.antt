@@ -1,8 +1,9 @@
-use Rattle.search_depths.proofs.Depths.{row_turn, row_end}
+use native.Mathlib.Omega.{arith}
+use Rattle.search_depths.proofs.Depths.{greatest_next, greatest_end}
 use Rattle.search_depths.proofs.row_depth.Goals as goal
 
-pub loop-i-preserved : goal.loop-i-preserved
-loop-i-preserved c = row_turn c.loop-i.invariant c.loop-i-test.true c.greater-most.ensures
+pub loop-entry-preserved : goal.loop-entry-preserved
+loop-entry-preserved c = omega (arith, greatest_next c.args.row.now c.loop-entry.entry-index c.loop-entry-test.true)
 
 pub returns : goal.returns
-returns c = row_end c.loop-i.invariant c.loop-i-test.false
+returns c = omega (arith, greatest_end c.args.row.now c.loop-entry.entry-index c.loop-entry-test.false)

@@ -1,10 +1,8 @@
-use Prim.Native.Nat.{◌-◌}
-use lib.ListN.{length}
-use Rattle.search_depths.proofs.Depths.{RowMost}
+use mathlib.Core.Path.{◌≡◌}
+use Prim.Native.Nat.{max}
+use lib.ListN.{drop}
+use Rattle.search_depths.specs.Depth.{greatest}
 use Rattle.search_depths.proofs.row_depth.Given as goal
 
-abbrev pub invariant-loop-i : goal.invariant-loop-i
-invariant-loop-i l = RowMost l.row l.i l.most
-
-abbrev pub decreases-loop-i : goal.decreases-loop-i
-decreases-loop-i l = length l.row - l.i
+abbrev pub invariant-loop-entry : goal.invariant-loop-entry
+invariant-loop-entry l = max l.most (greatest (drop l.entry-index l.row)) ≡ greatest l.row
