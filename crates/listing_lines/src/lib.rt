@@ -1,15 +1,17 @@
 // The lines of a listing: the report and the route of each pair, from the three tables.
 #![tactic(auto)]
 
-ghost use Rattle.std.specs.Prelude.{◌∷◌, ◌+◌, ◌*◌, ◌≤◌, ◌<◌, length};
+ghost use Rattle.std.specs.Prelude.{◌∷◌, ◌+◌, ◌≤◌, ◌<◌, length};
 ghost use Rattle.base_lists.specs.Written.{Wrote};
 ghost use Rattle.model.specs.Answers.{answered};
 ghost use Rattle.model.specs.Listing.{report_text, route_text, pair_line, pair_lines};
 ghost use Rattle.listing_lines.specs.RowText.{answer_text, row_text};
 
-use model::{Answer, Asking, NONE, Route};
+use answer_pair::Tables;
+use model::{Answer, NONE, Route};
 
 // Writes a comma and a report at a place, and returns the place after them.
+#[tactic(auto, unfolding(model::specs::Listing::report_text))]
 fn write_report(buffer: &mut [u8], at: usize, report: u16) -> usize
     requires { at + length (44 ∷ report_text report) ≤ length buffer.old }
     ensures { Wrote buffer.old buffer.new at result (44 ∷ report_text report) }
@@ -17,10 +19,11 @@ fn write_report(buffer: &mut [u8], at: usize, report: u16) -> usize
     if report == NONE {
         return text_writing::write_text(buffer, at, b",-");
     }
-    text_writing::write_field(buffer, at, 44, report as u32)
+    text_writing::write_field(buffer, at, b',', report as u32)
 }
 
 // Writes a comma and a route at a place, and returns the place after them.
+#[tactic(auto, unfolding(model::specs::Listing::route_text))]
 fn write_route(buffer: &mut [u8], at: usize, route: Route) -> usize
     requires { at + length (44 ∷ route_text route) ≤ length buffer.old }
     ensures { Wrote buffer.old buffer.new at result (44 ∷ route_text route) }
@@ -28,7 +31,7 @@ fn write_route(buffer: &mut [u8], at: usize, route: Route) -> usize
     match route {
         Route::Itself => text_writing::write_text(buffer, at, b","),
         Route::Low => text_writing::write_text(buffer, at, b",low"),
-        Route::Through(h) => text_writing::write_field(buffer, at, 44, h as u32),
+        Route::Through(h) => text_writing::write_field(buffer, at, b',', h as u32),
         Route::NoRoute => text_writing::write_text(buffer, at, b",-"),
         Route::Link => text_writing::write_text(buffer, at, b",link"),
     }
@@ -39,81 +42,51 @@ fn write_pair(buffer: &mut [u8], at: usize, a: u32, b: u32, answer: Answer) -> u
     requires { at + length (pair_line (a, b) (answered answer)) ≤ length buffer.old }
     ensures { Wrote buffer.old buffer.new at result (pair_line (a, b) (answered answer)) }
 {
-    let route = answer.route;
-    let i = text_writing::write_byte(buffer, at, 80);
-    let i = text_writing::write_field(buffer, i, 44, a);
-    let i = text_writing::write_field(buffer, i, 44, b);
+    let i = text_writing::write_byte(buffer, at, b'P');
+    let i = text_writing::write_field(buffer, i, b',', a);
+    let i = text_writing::write_field(buffer, i, b',', b);
     let i = write_report(buffer, i, answer.report);
-    let i = write_route(buffer, i, route);
-    text_writing::write_byte(buffer, i, 10)
+    let i = write_route(buffer, i, answer.route);
+    text_writing::write_byte(buffer, i, b'\n')
 }
 
 // Writes the line that the tables give for a pair at a place, and returns the place after it.
-fn write_answer(
-    n: usize,
-    full: &[u16],
-    low: &[u16],
-    report: &[u16],
-    a: usize,
-    b: usize,
-    buffer: &mut [u8],
-    at: usize,
-) -> usize
-    requires n_bound { (n ≤ 1024) × (n * n ≤ length full.now) × (n * n ≤ length low.now) × (n * n ≤ length report.now)
-        × (a < n) × (b < n) }
-    requires b_in_bounds { at + length (answer_text n full.now low.now report.now a b) ≤ length buffer.old }
+#[tactic(auto, using(base_lists::proofs::Written::wrote_none), unfolding(model::specs::Listing::pair_line))]
+fn write_answer(tables: &Tables<'_>, a: usize, b: usize, buffer: &mut [u8], at: usize) -> usize
+    requires nodes { (a < tables.now.n) × (b < tables.now.n) }
+    requires room { at + length (answer_text tables.now.n tables.now.full.now tables.now.low.now tables.now.report.now a b) ≤ length buffer.old }
     ensures { Wrote buffer.old buffer.new at result
-        (answer_text n full.now low.now report.now a b) }
+        (answer_text tables.now.n tables.now.full.now tables.now.low.now tables.now.report.now a b) }
 {
-    match answer_pair::pair_answer(n, full, low, report, a, b) {
-        Asking::Refused(_) => at,
-        Asking::Answered(x) => write_pair(buffer, at, a as u32, b as u32, x),
+    match answer_pair::pair_answer(tables, a, b) {
+        Ok(answer) => write_pair(buffer, at, a as u32, b as u32, answer),
+        Err(_) => at,
     }
 }
 
 // Writes the lines of node a with each larger node at a place, and returns the place after them.
-fn write_row(
-    n: usize,
-    full: &[u16],
-    low: &[u16],
-    report: &[u16],
-    a: usize,
-    buffer: &mut [u8],
-    at: usize,
-) -> usize
-    requires n_bound { (n ≤ 1024) × (n * n ≤ length full.now) × (n * n ≤ length low.now) × (n * n ≤ length report.now) × (a < n) }
-    requires a_in_bounds { at + length (row_text n full.now low.now report.now a (a + 1)) ≤ length buffer.old }
+fn write_row(tables: &Tables<'_>, a: usize, buffer: &mut [u8], at: usize) -> usize
+    requires node { a < tables.now.n }
+    requires room { at + length (row_text tables.now.n tables.now.full.now tables.now.low.now tables.now.report.now a (a + 1)) ≤ length buffer.old }
     ensures { Wrote buffer.old buffer.new at result
-        (row_text n full.now low.now report.now a (a + 1)) }
+        (row_text tables.now.n tables.now.full.now tables.now.low.now tables.now.report.now a (a + 1)) }
 {
     let mut i = at;
-    let mut b = a + 1;
-    while b < n {
-        i = write_answer(n, full, low, report, a, b, buffer, i);
-        b += 1;
+    for b in a + 1..tables.n {
+        i = write_answer(tables, a, b, buffer, i);
     }
     i
 }
 
 // Writes the lines of all pairs at a place, and returns the place after them.
-pub fn write_pairs(
-    n: usize,
-    full: &[u16],
-    low: &[u16],
-    report: &[u16],
-    buffer: &mut [u8],
-    at: usize,
-) -> usize
-    requires n_bound { (n ≤ 1024) × (n * n ≤ length full.now) × (n * n ≤ length low.now) × (n * n ≤ length report.now) }
-    requires report_in_bounds { at + length (pair_lines n full.now low.now report.now) ≤ length buffer.old }
+pub fn write_pairs(tables: &Tables<'_>, buffer: &mut [u8], at: usize) -> usize
+    requires { at + length (pair_lines tables.now.n tables.now.full.now tables.now.low.now tables.now.report.now) ≤ length buffer.old }
     ensures { Wrote buffer.old buffer.new at result
-        (pair_lines n full.now low.now report.now) }
+        (pair_lines tables.now.n tables.now.full.now tables.now.low.now tables.now.report.now) }
 {
     let mut i = at;
-    let mut a = 0;
-    while a < n {
-        i = write_row(n, full, low, report, a, buffer, i);
-        a += 1;
+    for a in 0..tables.n {
+        i = write_row(tables, a, buffer, i);
     }
     i
 }
