@@ -74,7 +74,8 @@ fn read_text(rt: &impl Input, command: Command, text: &mut [u8]) -> usize
     ensures { result ≤ length text.new }
 {
     if desk_words::reads_text(command) {
-        return base_input::read_front(&mut rt.reader(), text).0;
+        let (Ok(length) | Err(length)) = base_input::read_front(&mut rt.reader(), text);
+        return length;
     }
     0
 }

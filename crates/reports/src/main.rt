@@ -6,7 +6,7 @@ use std::io;
 
 // Reads a text, writes its listing into a buffer, and prints what was written. A read that fails ends the text.
 fn list(rt: &(impl Input + Print), text: &mut [u8], lines: &mut [u8]) -> io::Result<()> {
-    let length = base_input::read_front(&mut rt.reader(), text).0;
+    let (Ok(length) | Err(length)) = base_input::read_front(&mut rt.reader(), text);
     match listing_writing::write_listing(&text[..length], lines) {
         Counting::Refused(_) => Ok(()),
         Counting::Count(k) => rt.write_all(&lines[..k]),

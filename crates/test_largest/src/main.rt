@@ -75,7 +75,7 @@ fn run(rt: &impl Print, text: &[u8]) -> io::Result<()> {
 }
 
 fn read_and_run(rt: &(impl Input + Print), input: &mut [u8]) -> io::Result<()> {
-    let length = base_input::read_front(&mut rt.reader(), input).0;
+    let (Ok(length) | Err(length)) = base_input::read_front(&mut rt.reader(), input);
     run(rt, &input[..length])
 }
 
