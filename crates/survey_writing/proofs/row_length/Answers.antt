@@ -1,8 +1,12 @@
-use Rattle.survey_writing.proofs.LineLaws.{row_more, row_done}
+use Rattle.survey_writing.proofs.LineLaws.{row_more, row_same, row_done}
+use Rattle.survey_writing.proofs.row_length.Goals.{then-a-b, else-a-b}
 use Rattle.survey_writing.proofs.row_length.Goals as goal
 
-pub loop-i-preserved : goal.loop-i-preserved
-loop-i-preserved c = row_more c.loop-i.invariant c.loop-i-test.true c.link_length-total.ensures
+pub loop-b-preserved : goal.loop-b-preserved
+loop-b-preserved g c = elim c.if-a-b.branch [
+  | then-a-b w ↦ rw (w.total-is) (row_more c.loop-b.invariant c.loop-b-test.true c.from-b.ensures w.if-a-b.true w.link_length-total.ensures)
+  | else-a-b w ↦ rw (w.total-is) (row_same c.loop-b.invariant c.loop-b-test.true c.from-b.ensures w.if-a-b.false)
+]
 
 pub returns : goal.returns
-returns c = row_done c.loop-i.invariant c.loop-i-test.false
+returns g c = row_done c.loop-b.invariant c.loop-b-test.false

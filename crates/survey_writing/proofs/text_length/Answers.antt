@@ -5,22 +5,20 @@ use Rattle.survey_writing.proofs.LineLaws.{own_few, text_none, total_few, text_m
 use Rattle.survey_writing.proofs.text_length.Goals as goal
 
 pub loop-v-init : goal.loop-v-init
-loop-v-init c = text_none c.requires c.first_length-total.ensures
+loop-v-init g c = text_none c.args.survey.now.accepted c.first_length-total.ensures
 
 pub row_length-total-requires : goal.row_length-total-requires
-row_length-total-requires c =
-    let row-few : length c.own.result.now ≤ 32768 = rw c.own.ensures (own_few c.requires c.loop-v-test.true) in
-    (omega arith, row-few)
+row_length-total-requires g c =
+    (omega (arith, c.args.survey.now.accepted.size), rw c.own.ensures (own_few c.args.survey.now.accepted c.loop-v-test.true))
 
 pub overflow_add-total : goal.overflow_add-total
-overflow_add-total c =
-    let row-few : length c.own.result.now ≤ 32768 = rw c.own.ensures (own_few c.requires c.loop-v-test.true) in
-    omega (arith, row-few, total_few c.requires c.loop-v.invariant)
+overflow_add-total g c =
+    let row-few : length c.own.result.now ≤ 32768 = rw c.own.ensures (own_few c.args.survey.now.accepted c.loop-v-test.true) in
+    omega (arith, row-few, total_few c.args.survey.now.accepted c.loop-v.invariant)
 
 pub loop-v-preserved : goal.loop-v-preserved
-loop-v-preserved c =
-    let counted = rw c.own.ensures at c.row_length-total.ensures in
-    text_more c.requires c.loop-v.invariant c.loop-v-test.true counted
+loop-v-preserved g c =
+    text_more c.args.survey.now.accepted c.loop-v.invariant c.loop-v-test.true (rw c.own.ensures at c.row_length-total.ensures)
 
 pub returns : goal.returns
-returns c = text_done c.requires c.loop-v.invariant c.loop-v-test.false
+returns g c = text_done c.args.survey.now.accepted c.loop-v.invariant c.loop-v-test.false

@@ -1,32 +1,20 @@
-use mathlib.Core.Path.{◌≡◌, sym}
+use mathlib.Core.Path.{sym}
 use native.Mathlib.Omega.{arith}
-use Rattle.model.specs.Answers.{answered}
-use Rattle.model.specs.Survey.{accepting, Accepted}
+use Rattle.std.proofs.lemmas.Result.{err_from_is_err_and}
 use Rattle.model.proofs.Acceptance.{accepting_facts}
 use Rattle.survey_writing.proofs.LineLaws.{text_refused_lem, text_short, text_whole}
 use Rattle.survey_writing.proofs.write_as.Goals as goal
 
-pub text_length-length-requires : goal.text_length-length-requires
-text_length-length-requires c =
-    let answers : answered tt ≡ accepting c.args.n c.args.starts.now c.args.neighbours.now = c.in-Accepted.ensures in
-    let accepted : Accepted c.args.n c.args.starts.now c.args.neighbours.now = accepting_facts _ _ _ tt (sym answers) in
-    accepted
+pub returns-in_err-accept : goal.returns-in_err-accept
+returns-in_err-accept g c =
+    let refused = err_from_is_err_and c.from_residual.result c.from_residual.ensures.1 in
+    rw (refused.1, refused.2) (text_refused_lem _ _ c.in_err-accept.field-0.0 c.in_err-accept.ensures)
+
+pub invariant_of-survey : goal.invariant_of-survey
+invariant_of-survey g c = record { accepted = accepting_facts _ _ _ tt (sym c.in_ok-accept.ensures) }
 
 pub returns-then-buffer-length : goal.returns-then-buffer-length
-returns-then-buffer-length c =
-    let answers : answered tt ≡ accepting c.args.n c.args.starts.now c.args.neighbours.now = c.in-Accepted.ensures in
-    text_short _ _ answers (omega arith)
+returns-then-buffer-length g c = text_short _ _ c.in_ok-accept.ensures (omega arith)
 
-pub write_text-requires : goal.write_text-requires
-write_text-requires c =
-    let answers : answered tt ≡ accepting c.args.n c.args.starts.now c.args.neighbours.now = c.in-Accepted.ensures in
-    let accepted : Accepted c.args.n c.args.starts.now c.args.neighbours.now = accepting_facts _ _ _ tt (sym answers) in
-    (accepted, omega arith)
-
-pub returns-in-Refused : goal.returns-in-Refused
-returns-in-Refused c = text_refused_lem _ _ c.in-Refused.r c.in-Refused.ensures
-
-pub returns-else-buffer-length : goal.returns-else-buffer-length
-returns-else-buffer-length c =
-    let answers : answered tt ≡ accepting c.args.n c.args.starts.now c.args.neighbours.now = c.in-Accepted.ensures in
-    text_whole _ _ answers (omega arith) c.write_text.ensures c.text_length-length.ensures
+pub returns : goal.returns
+returns g c = text_whole _ _ c.in_ok-accept.ensures (omega arith) c.write_text.ensures c.text_length-length.ensures

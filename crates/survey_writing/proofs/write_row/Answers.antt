@@ -1,30 +1,27 @@
-use mathlib.Core.List.{List, [], ◌∷◌, ◌++◌}
-use Prim.Native.Nat.{ℕ, ◌+◌}
 use native.Mathlib.Omega.{arith}
-use lib.ListN.{get_or, drop}
-use Rattle.base_lists.proofs.Written.{Left, left_all, left_fits, left_more, left_none}
-use Rattle.survey_writing.specs.LinkLines.{lines_of}
-use Rattle.survey_writing.proofs.LineLaws.{line_next, line_end}
+use Rattle.base_lists.proofs.Written.{left_all, left_fits, left_more, left_none}
+use Rattle.survey_writing.proofs.LineLaws.{line_next, line_passed, line_end}
+use Rattle.survey_writing.proofs.write_row.Goals.{then-b-a, else-b-a}
 use Rattle.survey_writing.proofs.write_row.Goals as goal
 
-pub loop-i-init : goal.loop-i-init
-loop-i-init c = (omega arith, left_all c.requires.1)
+pub loop-b-init : goal.loop-b-init
+loop-b-init g c = left_all c.requires.1
 
 pub write_link-pos-requires : goal.write_link-pos-requires
-write_link-pos-requires c =
-    let row : List ℕ = c.args.row.now in
-    let line : List ℕ = lines_of c.args.form c.args.a (get_or row c.loop-i.i 0 ∷ []) in
-    let rest : List ℕ = lines_of c.args.form c.args.a (drop (c.loop-i.i + 1) row) in
-    let next : Left c.args.buffer.now c.loop-i.buffer c.args.at c.loop-i.pos (lines_of c.args.form c.args.a row) (line ++ rest) = rw (line_next _ _ _ _ c.loop-i-test.true) at c.loop-i.invariant.1 in
-    (c.requires.0, left_fits line rest next)
+write_link-pos-requires g c =
+    let line = g.F.Form.link_line in
+    let next = rw (line_next line _ _ _ c.loop-b-test.true c.from-b.ensures c.if-b-a.true) at c.loop-b.invariant in
+    (c.requires.0, omega (arith, c.from-b.ensures, c.type_inv.row c.loop-b.b-index), left_fits (line c.args.a c.from-b.result) _ next)
 
-pub loop-i-preserved : goal.loop-i-preserved
-loop-i-preserved c =
-    let row : List ℕ = c.args.row.now in
-    let line : List ℕ = lines_of c.args.form c.args.a (get_or row c.loop-i.i 0 ∷ []) in
-    let rest : List ℕ = lines_of c.args.form c.args.a (drop (c.loop-i.i + 1) row) in
-    let next : Left c.args.buffer.now c.loop-i.buffer c.args.at c.loop-i.pos (lines_of c.args.form c.args.a row) (line ++ rest) = rw (line_next _ _ _ _ c.loop-i-test.true) at c.loop-i.invariant.1 in
-    (omega arith, left_more next c.write_link-pos.ensures)
+pub loop-b-preserved : goal.loop-b-preserved
+loop-b-preserved g c = elim c.if-b-a.branch [
+  | then-b-a w ↦
+      let next = rw (line_next g.F.Form.link_line _ _ _ c.loop-b-test.true c.from-b.ensures w.if-b-a.true) at c.loop-b.invariant in
+      rw (w.pos-is, w.buffer-is) (left_more next w.write_link-pos.ensures)
+  | else-b-a w ↦
+      rw (w.pos-is, w.buffer-is)
+      (rw (line_passed g.F.Form.link_line _ _ _ c.loop-b-test.true c.from-b.ensures w.if-b-a.false) at c.loop-b.invariant)
+]
 
 pub returns : goal.returns
-returns c = left_none (rw (line_end _ _ _ _ c.loop-i-test.false) at c.loop-i.invariant.1)
+returns g c = left_none (rw (line_end g.F.Form.link_line _ _ _ c.loop-b-test.false) at c.loop-b.invariant)

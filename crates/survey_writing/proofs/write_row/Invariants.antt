@@ -1,11 +1,9 @@
-use Prim.Native.Nat.{◌-◌, ◌≤◌}
-use lib.ListN.{length, drop}
 use Rattle.base_lists.proofs.Written.{Left}
+use lib.ListN.{drop}
 use Rattle.survey_writing.specs.LinkLines.{lines_of}
 use Rattle.survey_writing.proofs.write_row.Given as goal
 
-abbrev pub invariant-loop-i : goal.invariant-loop-i
-invariant-loop-i l = (l.i ≤ length l.row) × Left l.initial.buffer l.buffer l.at l.pos (lines_of l.form l.a l.row) (lines_of l.form l.a (drop l.i l.row))
-
-abbrev pub decreases-loop-i : goal.decreases-loop-i
-decreases-loop-i l = length l.row - l.i
+abbrev pub invariant-loop-b : goal.invariant-loop-b
+invariant-loop-b g l =
+    let lines = lines_of g.F.Form.link_line l.a in
+    Left l.initial.buffer l.buffer l.at l.pos (lines l.row) (lines (drop l.b-index l.row))
