@@ -2,25 +2,28 @@
 -- Assumes nothing.
 use mathlib.Core.Path.{◌≡◌, refl, sym, ap, ap₂, ◌∙◌, subst}
 use mathlib.Core.Logic.{⊎_elim}
-use mathlib.Core.Bool.{not, ◌&&◌}
+use mathlib.Core.Bool.{Bool, true, false, not, ◌&&◌}
 use mathlib.Core.List.{List, [], ◌∷◌, ◌++◌, append_assoc}
 use Prim.Native.Nat.{ℕ, zero, suc, ◌+◌, ◌-◌, ◌*◌, ◌≤◌, ◌<◌}
 use native.Mathlib.Nat.{le_refl}
 use native.Mathlib.Omega.{arith}
-use borrow.Rule.Slice.PartMut.{mid_of, put_mid, mid_len, same_len_mid}
+use borrow.Rule.Slice.PartMut.{mid_of, put_mid, mid_len}
+use borrow.Author.Tests.{ltb-true}
+use Rattle.std.specs.Prelude.{Option, is_some}
+use Rattle.std.specs.List.{find}
 use lib.Dec.{T, ltb}
 use lib.ListN.{length, get_or, set, take, drop, replicate, length-replicate, length-append, length-set, get_or-replicate}
 use lib.Seq.{take_at, get_or-set_same, get_or-set_other}
 use Rattle.base_lists.specs.Written.{Wrote}
 use Rattle.base_lists.proofs.Written.{wrote_one, wrote_then, wrote_over, wrote_part, Left, left_all, left_length, left_more, left_none}
-use Rattle.model.specs.Basics.{none, up_to, has, keep, over, first_of}
+use Rattle.model.specs.Basics.{none, up_to, has, keep, over}
 use Rattle.model.specs.Survey.{Graph}
 use Rattle.model.specs.Hubs.{is_high, closed, gain, best, greedy, hubs}
 use Rattle.model.specs.Tables.{hub_list}
 use Rattle.model.proofs.Covering.{best_is, best_of, best_gains, hubs_length}
-use Rattle.model.proofs.Lists.{has_head, of_keep, of_up_to, keep_split, keep_keep, keep_mono, length_pos}
+use Rattle.model.proofs.Lists.{has_head, of_keep, of_up_to, keep_split, keep_keep, keep_mono}
 use Rattle.model.proofs.Loops.{below_next}
-use Rattle.model.proofs.Tests.{eq_or, and_r}
+use Rattle.model.proofs.Tests.{eq_or, and_l, and_r, T_true}
 use Rattle.base_nodeset.specs.NodeSet.{Nodes, member, difference}
 use Rattle.table_hubs.specs.Bounds.{Bounded}
 use Rattle.table_hubs.proofs.Sets.{uncovered, gain_few, some_left, none_left, high_kept, covered_kept}
@@ -161,9 +164,16 @@ pub record Choosing (n s : ℕ) (G : Graph) (list₀ list us : List ℕ) (count 
   pub size : n ≤ 1024
   pub entries : n ≤ length list₀
   pub long : length us ≡ 16
+  pub below : (x : ℕ) → T (member us x) → x < n
   pub turns : ℕ
   pub enough : length (uncovered n us) ≤ turns
   pub written : Left list₀ list 0 count (hubs n s G) (greedy n G turns (uncovered n us))
+
+-- the best node, and the place where it is written
+pub record ChosenHub (n : ℕ) (list : List ℕ) (count hub : ℕ) : Type 0 where
+  pub below : hub < n
+  pub fewer : count < n
+  pub room : count < length list
 
 pub choosing_none : {n s : ℕ} {G : Graph} {list us : List ℕ} → n ≤ 1024 → n ≤ length list → length us ≡ 16
     → member us ≡ (λ x. ltb x n && is_high s G x) → Choosing n s G list list us 0
@@ -175,6 +185,7 @@ choosing_none {n} {s} {G} {list} {us} size entries long e =
       size = size;
       entries = entries;
       long = long;
+      below = λ x t. ltb-true x n (T_true _ (and_l (ltb x n) (is_high s G x) (subst (λ (p : Nodes). T (p x)) e t)));
       turns = length U;
       enough = omega (arith, ap length high);
       written = rw high (left_all (omega (arith, hubs_length n G s)));
@@ -200,27 +211,22 @@ module _ {n s : ℕ} {G : Graph} {list₀ list us : List ℕ} {count : ℕ} (c :
   pub choosing_part : (count ≤ n) × (n ≤ length list)
   choosing_part = (omega (arith, counted), omega (arith, choosing_long, c.entries))
 
-  pub choosing_same : (t : List ℕ) → length t ≡ length (mid_of count (n - count) list)
-      → length (put_mid count (n - count) list t) ≡ length list₀
-  choosing_same t e = same_len_mid count (n - count) list t e ∙ choosing_long
-
-  -- where the smallest member is below n, some node is uncovered
-  pub choosing_some : {r : ℕ} → r ≡ first_of (member us) (64 * length us) (up_to (64 * length us)) → r < n → 0 < length (uncovered n us)
-  choosing_some {r} e h = length_pos r W (some_left _ _ c.long c.size e h)
+  -- where there is a smallest member, some node is uncovered
+  choosing_some : {r : Option ℕ} {b : Bool} → r ≡ find (member us) (up_to (64 * length us)) → b ≡ is_some r → b ≡ true
+      → 0 < length (uncovered n us)
+  choosing_some e q t = some_left n us c.long c.size c.below e q t
 
   -- then the best node is written
   module _ (some : 0 < length (uncovered n us)) where
     next : greedy n G c.turns W ≡ best n G W ∷ greedy n G (c.turns - 1) (left n G W)
     next = greedy_more n G c.turns W some c.enough
 
-    pub choosing_room : (count < n) × (count < length list)
-    choosing_room = let l : count < n = omega (arith, counted, ap length next) in (l, omega (arith, choosing_part.1))
+    room : (count < n) × (count < length list)
+    room = let l : count < n = omega (arith, counted, ap length next) in (l, omega (arith, choosing_part.1))
 
-    pub choosing_node : {hub : ℕ} → hub ≡ best n G (uncovered n us) → hub < n
-    choosing_node q = omega (arith, q, (best_is n G W (omega (arith, choosing_room.0))).below)
-
-    chosen : (us' : List ℕ) → length us' ≡ length us → member us' ≡ difference (member us) (λ x. has x (closed G (best n G W)))
+    chosen : (us' : List ℕ) → length us' ≡ 16 → member us' ≡ difference (member us) (λ x. has x (closed G (best n G W)))
         → Choosing n s G list₀ (set list count (best n G W)) us' (count + 1)
+    unfolding difference
     chosen us' l m =
         let hub = best n G W in
         let k : uncovered n us' ≡ left n G W = covered_kept n (member us) (λ x. has x (closed G hub)) m in
@@ -230,34 +236,46 @@ module _ {n s : ℕ} {G : Graph} {list₀ list us : List ℕ} {count : ℕ} (c :
         record {
           size = c.size;
           entries = c.entries;
-          long = l ∙ c.long;
+          long = l;
+          below = λ x t. c.below x (and_l (member us x) _ (subst (λ (p : Nodes). T (p x)) m t));
           turns = c.turns - 1;
           enough = omega (arith, ap length k, less, c.enough);
           written = left_more {t = hub ∷ []} (subst (Left list₀ list 0 count hs) others c.written)
-              (wrote_one list count hub (omega (arith, choosing_room.1)));
+              (wrote_one list count hub (omega (arith, room.1)));
         }
 
-    pub choosing_more : {hub : ℕ} {us' : List ℕ} → hub ≡ best n G (uncovered n us) → length us' ≡ length us
-        → member us' ≡ difference (member us) (λ x. has x (closed G hub)) → Choosing n s G list₀ (set list count hub) us' (count + 1)
-    choosing_more {us' = us'} q l m =
-        subst (λ (v : ℕ). Choosing n s G list₀ (set list count v) us' (count + 1)) (sym q)
-        (chosen us' l (m ∙ ap (λ (v : ℕ). difference (member us) (λ x. has x (closed G v))) q))
+  module _ {r : Option ℕ} {b : Bool} (e : r ≡ find (member us) (up_to (64 * length us))) (q : b ≡ is_some r) (t : b ≡ true)
+      {hub : ℕ} (h : hub ≡ best n G (uncovered n us)) where
+    pub choosing_hub : ChosenHub n list count hub
+    choosing_hub =
+        let some : 0 < length W = choosing_some e q t in
+        record {
+          below = omega (arith, h, (best_is n G W (omega (arith, (room some).0))).below);
+          fewer = (room some).0;
+          room = (room some).1;
+        }
+
+    pub choosing_more : {us' : List ℕ} → length us' ≡ 16 → member us' ≡ difference (member us) (λ x. has x (closed G hub))
+        → Choosing n s G list₀ (set list count hub) us' (count + 1)
+    choosing_more {us'} l m =
+        subst (λ (v : ℕ). Choosing n s G list₀ (set list count v) us' (count + 1)) (sym h)
+        (chosen (choosing_some e q t) us' l (m ∙ ap (λ (v : ℕ). difference (member us) (λ x. has x (closed G v))) h))
 
   -- where it is not, the hubs are written, and none behind them
-  module _ {r : ℕ} (e : r ≡ first_of (member us) (64 * length us) (up_to (64 * length us))) (h : n ≤ r) where
+  module _ {r : Option ℕ} {b : Bool} (e : r ≡ find (member us) (up_to (64 * length us))) (q : b ≡ is_some r) (f : b ≡ false) where
     whole : Wrote list₀ list 0 count hs
     whole =
         let no_more : greedy n G c.turns W ≡ [] =
-        ap (greedy n G c.turns) (none_left _ _ c.long c.size e h) ∙ greedy_none n G c.turns in
+        ap (greedy n G c.turns) (none_left n us c.long c.size c.below e q f) ∙ greedy_none n G c.turns in
         left_none (subst (Left list₀ list 0 count hs) no_more c.written)
 
     pub choosing_all : {t : List ℕ} → t ≡ replicate (length (mid_of count (n - count) list)) none
         → (count ≡ length (hubs n s G)) × (put_mid count (n - count) list t ≡ over (hub_list n s G) list₀)
     unfolding hub_list
-    choosing_all {t} q =
+    choosing_all {t} filled =
         let k : count ≡ length hs = (wrote_over _ whole).1 in
         let f : length (mid_of count (n - count) list) ≡ n - count = mid_len _ _ _ choosing_part.1 in
-        let nones : t ≡ replicate (n - count) none = q ∙ ap (λ (j : ℕ). replicate j none) f in
+        let nones : t ≡ replicate (n - count) none = filled ∙ ap (λ (j : ℕ). replicate j none) f in
         let l : length t ≡ n - count = ap length nones ∙ length-replicate (n - count) _ in
         let both = wrote_then (omega (arith, choosing_part.0, c.entries)) whole (wrote_part list count n t choosing_part.0 l) in (
           k,

@@ -3,22 +3,24 @@
 use mathlib.Core.Path.{◌≡◌, refl, sym, ap, ap₂, ◌∙◌, subst, fun_ext}
 use mathlib.Core.Logic.{⊎_elim}
 use mathlib.Core.Bool.{Bool, true, false, not, ◌&&◌, ◌||◌, and_comm, or_comm, or-false}
-use mathlib.Core.List.{List, []}
+use mathlib.Core.List.{List, [], ◌∷◌}
 use Prim.Native.Nat.{ℕ, ◌+◌, ◌*◌, ◌≤◌, ◌<◌}
 use native.Mathlib.Omega.{arith}
-use borrow.Author.Tests.{lt-ltb}
+use borrow.Author.Tests.{lt-ltb, ltb-true, ltb-false}
+use Rattle.std.specs.Prelude.{Option, Some, is_some, cond, if◌then◌else◌}
+use Rattle.std.specs.List.{find}
+use Rattle.std.proofs.lemmas.List.{nil_from_length}
 use lib.Dec.{T, eqb, ltb}
 use lib.ListN.{length, get_or, drop, replicate, drop_of_length-le}
-use Rattle.model.specs.Basics.{up_to, has, keep, first_of}
+use Rattle.model.specs.Basics.{up_to, has, keep}
 use Rattle.model.specs.Survey.{Graph, IsGraph, Accepted, neighbours_of}
 use Rattle.model.specs.Hubs.{is_high, closed, gain}
 use Rattle.model.proofs.Tests.{and_r, or_turned}
-use Rattle.model.proofs.Lists.{of_cons, has_keep, has_up_to, of_up_to, keep_same, keep_keep, keep_none, keep_below, keep_length, length_up_to}
-use Rattle.model.proofs.Lists.{First, found, nothing, first_of_lem}
+use Rattle.model.proofs.Lists.{of_cons, of_up_to, keep_same, keep_keep, keep_below, keep_length, length_up_to}
+use Rattle.model.proofs.Ascending.{get_d_has}
 use Rattle.model.proofs.Loops.{drop_next}
 use Rattle.base_nodeset.specs.NodeSet.{Nodes, member, empty_set, inserted, intersection, difference}
 use Rattle.base_nodeset.proofs.Bits.{empty_words}
-use Rattle.base_nodeset.proofs.Words.{past_smallest}
 
 -- ---- a list of nodes, one more at a time
 
@@ -45,16 +47,23 @@ module _ {list w₀ ws : List ℕ} {i : ℕ} (h : Inserted list w₀ ws i) where
 
 -- ---- the closed neighbourhood of a node
 
--- the node is put into the empty set w₀, which gives p, and then its neighbours, which gives q
-pub closed_set : (G : Graph) {v : ℕ} {w₀ row : List ℕ} {p q : Nodes} → w₀ ≡ replicate 16 0 → p ≡ inserted (member w₀) v
+-- the node is put into the empty set, which gives p, and then its neighbours, which gives q
+pub closed_lem : (G : Graph) {v : ℕ} {row : List ℕ} {p q : Nodes} → p ≡ inserted (member (replicate 16 0)) v
     → row ≡ G v → q ≡ (λ x. has x row || p x) → q ≡ (λ x. has x (closed G v))
 unfolding closed has inserted empty_set
-closed_set G {v} {p = p} empty node own all =
-    let alone : p ≡ inserted empty_set v = node ∙ ap (λ (m : Nodes). inserted m v) (ap member empty ∙ empty_words 16) in
+closed_lem G {v} {p = p} node own all =
+    let alone : p ≡ inserted empty_set v = node ∙ ap (λ (m : Nodes). inserted m v) (empty_words 16) in
     all ∙ fun_ext (λ x.
     ap₂ (λ (l : List ℕ) (m : Nodes). has x l || m x) own alone
     ∙ ap (λ (b : Bool). has x (G v) || b) (or-false _)
     ∙ or_comm (has x (G v)) (eqb x v))
+
+-- each neighbour has a bit among 16 words
+pub neighbour_inside : {n : ℕ} {starts neighbours : List ℕ} → Accepted n starts neighbours → {v i : ℕ} → v < n
+    → {row : List ℕ} → row ≡ neighbours_of starts neighbours v → i < length row → get_or row i 0 < 1024
+neighbour_inside {starts = starts} {neighbours} a {v} {i} h {row} own l =
+    let below : get_or row i 0 < _ = a.lists.graph.below v _ h (subst (λ (r : List ℕ). T (has (get_or row i 0) r)) own (get_d_has row i l)) in
+    omega (arith, below, a.size)
 
 closed_below : {n : ℕ} {G : Graph} → IsGraph n G → (v : ℕ) → v < n → (x : ℕ) → T (has x (closed G v)) → x < n
 unfolding closed
@@ -96,18 +105,32 @@ covered_newly near us e l = l ∙ rw e (fun_ext (λ x. at (us x) (near x)))
     at true false = refl
     at false b = refl
 
--- where the smallest member is below n, some node is uncovered; where it is not, none is
-module _ (n : ℕ) (us : List ℕ) (long : length us ≡ 16) (size : n ≤ 1024)
-    {r : ℕ} (e : r ≡ first_of (member us) (64 * length us) (up_to (64 * length us))) where
-  pub some_left : r < n → T (has r (uncovered n us))
-  some_left h = at (first_of_lem _ _ _ e)
-    where
-      at : First (member us) (64 * length us) 0 (64 * length us) r → T (has r (uncovered n us))
-      at (found lo hi t least) = has_keep (member us) (up_to n) r (has_up_to n r h) t
-      at (nothing q miss) = absurd (omega arith)
+-- a test finds an element where it keeps one
+kept_some : (p : ℕ → Bool) (l : List ℕ) → is_some (find p l) ≡ ltb 0 (length (keep p l))
+unfolding keep
+kept_some p [] = refl
+kept_some p (x ∷ l) = at (p x) (kept_some p l)
+  where
+    at : (b : Bool) → is_some (find p l) ≡ ltb 0 (length (keep p l))
+        → is_some (cond b (Some x) (find p l)) ≡ ltb 0 (length (if b then x ∷ keep p l else keep p l))
+    at true e = sym (lt-ltb 0 (length (x ∷ keep p l)) (omega arith))
+    at false e = e
 
-  pub none_left : n ≤ r → uncovered n us ≡ []
-  none_left h = keep_none _ _ (λ x m t. past_smallest n us (omega arith) r e h x (of_up_to _ _ m) t)
+-- where all members are below n, some node is uncovered exactly if there is a smallest member
+module _ (n : ℕ) (us : List ℕ) (long : length us ≡ 16) (size : n ≤ 1024) (below : (x : ℕ) → T (member us x) → x < n)
+    {r : Option ℕ} (e : r ≡ find (member us) (up_to (64 * length us))) where
+  some_test : is_some r ≡ ltb 0 (length (uncovered n us))
+  some_test =
+      let k : 64 * length us ≡ 1024 = omega arith in
+      ap is_some e ∙ kept_some (member us) _
+      ∙ ap (λ (m : ℕ). ltb 0 (length (keep (member us) (up_to m)))) k
+      ∙ ap (λ (l : List ℕ). ltb 0 (length l)) (keep_below (member us) n 1024 size below)
+
+  pub some_left : {b : Bool} → b ≡ is_some r → b ≡ true → 0 < length (uncovered n us)
+  some_left q t = ltb-true _ _ (sym some_test ∙ sym q ∙ t)
+
+  pub none_left : {b : Bool} → b ≡ is_some r → b ≡ false → uncovered n us ≡ []
+  none_left q f = nil_from_length _ (omega (arith, ltb-false _ _ (sym some_test ∙ sym q ∙ f)))
 
 -- at first the high nodes are uncovered
 pub high_kept : (n s : ℕ) (G : Graph) {p : Nodes} → p ≡ (λ x. ltb x n && is_high s G x)

@@ -1,7 +1,5 @@
-use mathlib.Core.Path.{◌≡◌}
 use Prim.Native.Nat.{◌-◌}
-use lib.ListN.{length}
-use Rattle.model.specs.Survey.{neighbours_of}
+use Rattle.survey_neighbours.specs.SurveyGraph.{graph}
 use Rattle.table_hubs.specs.Bounds.{Bounded}
 use Rattle.table_hubs.proofs.Sets.{uncovered}
 use Rattle.table_hubs.proofs.Greedy.{Choosing}
@@ -9,9 +7,8 @@ use Rattle.table_hubs.proofs.choose_hubs.Given as goal
 
 abbrev pub invariant-loop-uncovered : goal.invariant-loop-uncovered
 invariant-loop-uncovered l =
-    Choosing l.n l.s (neighbours_of l.starts l.neighbours) l.initial.list l.list l.uncovered l.count
-    × Bounded l.n (neighbours_of l.starts l.neighbours) (uncovered l.n l.uncovered) l.bounds
-    × (length l.bounds ≡ 1024)
+    Choosing l.survey.n l.s (graph l.survey) l.initial.list l.list l.uncovered l.count
+    × Bounded l.survey.n (graph l.survey) (uncovered l.survey.n l.uncovered) l.bounds
 
 abbrev pub decreases-loop-uncovered : goal.decreases-loop-uncovered
-decreases-loop-uncovered l = l.n - l.count
+decreases-loop-uncovered l = l.survey.n - l.count
