@@ -1,125 +1,99 @@
--- A sentence, of which some is written: i bytes of its form, and k of its numbers.
+-- A sentence and some nodes, of which the rest is still to be written: its next piece, and how long it may be.
 -- Assumes nothing.
-use mathlib.Core.Path.{◌≡◌, refl, sym, ap, ◌∙◌}
-use mathlib.Core.Bool.{Bool, true, false, ◌&&◌}
-use mathlib.Core.List.{List, [], ◌∷◌, ◌++◌, append_assoc, append-nil}
-use Prim.Native.Nat.{ℕ, ◌+◌, ◌-◌, ◌*◌, ◌^◌, ◌≤◌, ◌<◌}
+use mathlib.Core.Path.{◌≡◌, refl, sym, ap}
+use mathlib.Core.Bool.{Bool, true, false}
+use mathlib.Core.List.{List, [], ◌∷◌, ◌++◌, append_assoc}
+use Prim.Native.Nat.{ℕ, suc, ◌+◌, ◌-◌, ◌*◌, ◌^◌, ◌≤◌, ◌<◌}
 use native.Mathlib.Omega.{arith}
-use borrow.Author.Tests.{ltb-false}
-use lib.Dec.{eqb, ltb, ltb→lt}
-use lib.ListN.{length, get_or, drop, drop_of_length-le}
+use borrow.Author.Tests.{ne_eqb}
+use lib.Dec.{eqb}
+use lib.ListN.{length, get_or, take, drop, drop_of_length-le, length-append}
+use Rattle.std.proofs.lemmas.List.{take_all}
+use Rattle.std.specs.Prelude.{if◌then◌else◌}
 use Rattle.model.specs.Numbers.{digits}
-use Rattle.model.proofs.Tests.{and_l, and_r, true_T, T_true}
+use Rattle.model.specs.Basics.{gather, bytes}
 use Rattle.model.proofs.Numbers.{length_le}
 use Rattle.model.proofs.Loops.{drop_next}
-use Rattle.base_lists.specs.Written.{Wrote}
-use Rattle.base_lists.proofs.Written.{wrote_none, wrote_then, wrote_length}
-use Rattle.desk_sentences.specs.Sentences.{sentence}
+use Rattle.desk_sentences.specs.Sentences.{sentence, counted, nodes_end, hubs_line}
 
--- ---- the next byte of the form
+-- ---- a sentence
 
-sentence_end : (xs : List ℕ) → sentence [] xs ≡ []
+-- all numbers but the first
+abbrev rest : List ℕ → List ℕ
+rest left = take (length left - 1) (drop 1 left)
+
+sentence_number : (form left : List ℕ) → 1 ≤ length left → sentence (35 ∷ form) left ≡ digits (get_or left 0 0) ++ sentence form (rest left)
 unfolding sentence
-sentence_end [] = refl
-sentence_end (x ∷ xs) = refl
+sentence_number form [] j = absurd (omega (arith, j))
+sentence_number form (x ∷ left) j = ap (λ (l : List ℕ). digits x ++ sentence form l) (sym (take_all _ _ (omega arith)))
 
--- a byte that is no `#`, or stands behind the last number
-sentence_kept : (c : ℕ) (form xs : List ℕ) → (eqb c 35 ≡ false) → sentence (c ∷ form) xs ≡ c ∷ sentence form xs
+sentence_byte : (c : ℕ) (form left : List ℕ) → (1 ≤ length left → c ≡ 35 → ⊥) → sentence (c ∷ form) left ≡ c ∷ sentence form left
 unfolding sentence
-sentence_kept c form [] e = refl
-sentence_kept c form (x ∷ xs) e = rw e
+sentence_byte c form [] d = refl
+sentence_byte c form (x ∷ left) d = rw (ne_eqb c 35 (d (omega arith)))
 
-sentence_bare : (c : ℕ) (form : List ℕ) → sentence (c ∷ form) [] ≡ c ∷ sentence form []
+module _ (form left : List ℕ) (i : ℕ) (h : i < length form) where
+  -- a `#` with a number left
+  pub number_next : get_or form i 0 ≡ 35 → 1 ≤ length left
+      → sentence (drop i form) left ≡ digits (get_or left 0 0) ++ sentence (drop (i + 1) form) (rest left)
+  number_next e j = rw (drop_next form i h, e) (sentence_number _ _ j)
+
+  -- any other byte, or no number left
+  pub byte_next : (1 ≤ length left → get_or form i 0 ≡ 35 → ⊥)
+      → sentence (drop i form) left ≡ (get_or form i 0 ∷ []) ++ sentence (drop (i + 1) form) left
+  byte_next d = rw (drop_next form i h) (sentence_byte _ _ _ d)
+
+pub sentence_end : (form left : List ℕ) (i : ℕ) → length form ≤ i → sentence (drop i form) left ≡ []
 unfolding sentence
-sentence_bare c form = refl
+sentence_end form left i h = rw (drop_of_length-le form h) (at left)
+  where
+    at : (left : List ℕ) → sentence [] left ≡ []
+    at [] = refl
+    at (x ∷ left) = refl
 
-module _ (form xs : List ℕ) (i k : ℕ) (h : i < length form) where
-  number_next : eqb (get_or form i 0) 35 ≡ true → k < length xs
-      → sentence (drop i form) (drop k xs) ≡ digits (get_or xs k 0) ++ sentence (drop (i + 1) form) (drop (k + 1) xs)
-  unfolding sentence
-  number_next e j = rw (drop_next form i h, drop_next xs k j, e)
+-- a number of 64 bits has at most 20 digits
+pub sentence_few : (form xs : List ℕ) → ((k : ℕ) → get_or xs k 0 < 2 ^ 64) → length (sentence form xs) ≤ length form + 20 * length xs
+unfolding sentence
+sentence_few form [] small = omega arith
+sentence_few [] (x ∷ xs) small = omega arith
+sentence_few (c ∷ form) (x ∷ xs) small = at (eqb c 35) (sentence_few form xs (λ k. small (suc k))) (sentence_few form (x ∷ xs) small)
+  where
+    at : (b : Bool) → length (sentence form xs) ≤ length form + 20 * length xs → length (sentence form (x ∷ xs)) ≤ length form + 20 * length (x ∷ xs)
+        → length (if b then digits x ++ sentence form xs else c ∷ sentence form (x ∷ xs)) ≤ length (c ∷ form) + 20 * length (x ∷ xs)
+    at true few others = omega (arith, length-append (digits x) (sentence form xs), length_le 19 x (omega (arith, small 0)), few)
+    at false few others = omega (arith, others)
 
-  byte_next : (eqb (get_or form i 0) 35 && ltb k (length xs)) ≡ false
-      → sentence (drop i form) (drop k xs) ≡ (get_or form i 0 ∷ []) ++ sentence (drop (i + 1) form) (drop k xs)
-  byte_next e = rw (drop_next form i h) (at (eqb (get_or form i 0) 35) refl e)
-    where
-      at : (b : Bool) → eqb (get_or form i 0) 35 ≡ b → (b && ltb k (length xs)) ≡ false
-          → sentence (get_or form i 0 ∷ drop (i + 1) form) (drop k xs) ≡ get_or form i 0 ∷ sentence (drop (i + 1) form) (drop k xs)
-      at true q f = rw (drop_of_length-le xs (ltb-false k (length xs) f)) (sentence_bare _ _)
-      at false q f = sentence_kept _ _ _ q
+-- ---- nodes
 
--- ---- what the loop over the form keeps
+pub node_next : (vs : List ℕ) (i : ℕ) → i < length vs → nodes_end (drop i vs) ≡ (32 ∷ digits (get_or vs i 0)) ++ nodes_end (drop (i + 1) vs)
+unfolding nodes_end gather
+node_next vs i h = rw (drop_next vs i h) (append_assoc (32 ∷ digits (get_or vs i 0)) _ _)
 
-pub record Saying (form xs buf₀ buf : List ℕ) (at pos k i : ℕ) : Type 0 where
-  pub room : at + length form + 20 * length xs ≤ length buf₀
-  pub said : List ℕ
-  pub wrote : Wrote buf₀ buf at pos said
-  pub all : said ++ sentence (drop i form) (drop k xs) ≡ sentence form xs
-  pub forms : i ≤ length form
-  pub numbers : k ≤ length xs
-  pub few : pos + (length form - i) + 20 * (length xs - k) ≤ at + length form + 20 * length xs
+pub nodes_done : (vs : List ℕ) (i : ℕ) → length vs ≤ i → nodes_end (drop i vs) ≡ (10 ∷ []) ++ []
+unfolding nodes_end gather bytes
+nodes_done vs i h = rw (drop_of_length-le vs h)
 
-pub saying_none : {form xs buf : List ℕ} {at : ℕ} → at + length form + 20 * length xs ≤ length buf → Saying form xs buf buf at at 0 0
-saying_none {buf = buf} {at = at} h = record {
-  room = h;
-  said = [];
-  wrote = wrote_none buf at;
-  all = refl;
-  forms = omega arith;
-  numbers = omega arith;
-  few = omega arith;
-}
+-- a node of 16 bits has at most five digits
+pub nodes_few : (vs : List ℕ) → ((k : ℕ) → get_or vs k 0 < 2 ^ 16) → length (nodes_end vs) ≤ 6 * length vs + 1
+unfolding nodes_end gather bytes
+nodes_few [] small = omega arith
+nodes_few (v ∷ vs) small = omega (
+  arith,
+  ap length (append_assoc (32 ∷ digits v) (gather (λ u. 32 ∷ digits u) vs) (10 ∷ [])),
+  length-append (32 ∷ digits v) (nodes_end vs),
+  length_le 4 v (omega (arith, small 0)),
+  nodes_few vs (λ k. small (suc k)),
+)
 
-module _ {form xs buf₀ buf : List ℕ} {at pos k i : ℕ} (s : Saying form xs buf₀ buf at pos k i) where
-  pub saying_length : length buf ≡ length buf₀
-  saying_length = wrote_length (omega (arith, s.few, s.room, s.wrote.ends)) s.wrote
+-- ---- the hubs: none, or some
 
-  -- room for a number, and for a byte
-  pub number_room : k < length xs → get_or xs k 0 < 2 ^ 64 → pos + length (digits (get_or xs k 0)) ≤ length buf
-  number_room j small = omega (arith, s.few, s.room, j, saying_length, length_le 19 (get_or xs k 0) (omega (arith, small)))
+pub hubs_none : (vs : List ℕ) → length vs ≡ 0 → hubs_line vs ≡ bytes "0 hubs\n"
+unfolding hubs_line
+hubs_none [] e = refl
+hubs_none (v ∷ vs) e = absurd (omega (arith, e))
 
-  pub byte_room : i < length form → pos + 1 ≤ length buf
-  byte_room h = omega (arith, s.few, s.room, h, saying_length)
-
-  -- where the form asks for a number, there is one
-  pub saying_within : (eqb (get_or form i 0) 35 && ltb k (length xs)) ≡ true → k < length xs
-  saying_within t = ltb→lt k (length xs) (and_r (eqb (get_or form i 0) 35) (ltb k (length xs)) (true_T _ t))
-
-  module _ {buf' : List ℕ} {pos' : ℕ} (h : i < length form) where
-    pub saying_number : (eqb (get_or form i 0) 35 && ltb k (length xs)) ≡ true → get_or xs k 0 < 2 ^ 64
-        → Wrote buf buf' pos pos' (digits (get_or xs k 0)) → Saying form xs buf₀ buf' at pos' (k + 1) (i + 1)
-    saying_number t small w =
-        let e : eqb (get_or form i 0) 35 ≡ true = T_true _ (and_l (eqb (get_or form i 0) 35) _ (true_T _ t)) in
-        let j = saying_within t in
-        let l = length_le 19 (get_or xs k 0) (omega (arith, small)) in
-        let d = number_room j small in record {
-          room = s.room;
-          said = s.said ++ digits (get_or xs k 0);
-          wrote = wrote_then (omega (arith, d, saying_length, s.wrote.ends)) s.wrote w;
-          all = append_assoc s.said _ _ ∙ ap (λ (t : List ℕ). s.said ++ t) (sym (number_next form xs i k h e j)) ∙ s.all;
-          forms = omega (arith, h);
-          numbers = omega (arith, j);
-          few = omega (arith, s.few, w.ends, l, h, j);
-        }
-
-    pub saying_byte : (eqb (get_or form i 0) 35 && ltb k (length xs)) ≡ false
-        → Wrote buf buf' pos pos' (get_or form i 0 ∷ []) → Saying form xs buf₀ buf' at pos' k (i + 1)
-    saying_byte e w = let d = byte_room h in record {
-      room = s.room;
-      said = s.said ++ (get_or form i 0 ∷ []);
-      wrote = wrote_then (omega (arith, d, saying_length, s.wrote.ends)) s.wrote w;
-      all = append_assoc s.said _ _ ∙ ap (λ (t : List ℕ). s.said ++ t) (sym (byte_next form xs i k h e)) ∙ s.all;
-      forms = omega (arith, h);
-      numbers = s.numbers;
-      few = omega (arith, s.few, w.ends, h);
-    }
-
-  pub saying_done : length form ≤ i
-      → Wrote buf₀ buf at pos (sentence form xs) × (pos ≤ at + length form + 20 * length xs)
-  saying_done h = (rw (← whole) s.wrote, omega (arith, s.few))
-    where
-      whole : s.said ≡ sentence form xs
-      whole =
-          sym (append-nil s.said)
-          ∙ ap (λ (t : List ℕ). s.said ++ t) (sym (ap (λ (f : List ℕ). sentence f (drop k xs)) (drop_of_length-le form h) ∙ sentence_end _))
-          ∙ s.all
+pub hubs_some : (vs : List ℕ) → (length vs ≡ 0 → ⊥)
+    → hubs_line vs ≡ counted (length vs) (bytes "1 hub:") (bytes "# hubs:") ++ nodes_end vs
+unfolding hubs_line
+hubs_some [] d = absurd (d refl)
+hubs_some (v ∷ vs) d = refl

@@ -9,6 +9,7 @@ ghost use Rattle.desk_sentences.specs.Sentences.{verdict_word, verdict_says, ver
 ghost use Rattle.desk_sentences.specs.Sentences.{accepted_line};
 
 use model::{Answer, NONE, Route, TestResult, Verdict};
+use text_writing::{write_byte, write_digits, write_field, write_text};
 
 // Writes a sentence by its form at a place, and returns the place after it.
 pub fn write_sentence(buf: &mut [u8], at: usize, form: &[u8], numbers: &[u64]) -> usize
@@ -17,30 +18,28 @@ pub fn write_sentence(buf: &mut [u8], at: usize, form: &[u8], numbers: &[u64]) -
     ensures upper_bound { result ≤ at + length form.now + 20 * length numbers.now }
 {
     let mut pos = at;
-    let mut k = 0;
-    let mut i = 0;
-    while i < form.len() {
-        let c = form[i];
-        let number = (c == b'#') & (k < numbers.len());
-        if number {
-            pos = text_writing::write_digits(buf, pos, numbers[k]);
-            k += 1;
-        } else {
-            pos = text_writing::write_byte(buf, pos, c);
+    let mut left = numbers;
+    for &c in form {
+        match left {
+            [x, rest @ ..] if c == b'#' => {
+                pos = write_digits(buf, pos, *x);
+                left = rest;
+            }
+            _ => pos = write_byte(buf, pos, c),
         }
-        i += 1;
     }
     pos
 }
 
 // Writes a count of one, or by the form for others, at a place, and returns the place after it.
+#[tactic(auto, unfolding(crate::specs::Sentences::counted))]
 fn write_counted(buf: &mut [u8], at: usize, count: u64, one: &[u8], others: &[u8]) -> usize
     requires { (length one.now ≤ 20) × (length others.now ≤ 20) × (at + 40 ≤ length buf.old) }
     ensures wrote { Wrote buf.old buf.new at result (counted count one.now others.now) }
     ensures upper_bound { result ≤ at + 40 }
 {
     if count == 1 {
-        return text_writing::write_text(buf, at, one);
+        return write_text(buf, at, one);
     }
     write_sentence(buf, at, others, &[count])
 }
@@ -52,15 +51,14 @@ fn write_nodes(buf: &mut [u8], at: usize, nodes: &[u16]) -> usize
     ensures upper_bound { result ≤ at + 6 * length nodes.now + 1 }
 {
     let mut pos = at;
-    let mut i = 0;
-    while i < nodes.len() {
-        pos = text_writing::write_field(buf, pos, b' ', nodes[i] as u32);
-        i += 1;
+    for &node in nodes {
+        pos = write_field(buf, pos, b' ', u32::from(node));
     }
-    text_writing::write_byte(buf, pos, 10)
+    write_byte(buf, pos, b'\n')
 }
 
 // Writes the report of a pair and how it is attained at a place, and returns the place after it.
+#[tactic(auto, unfolding(crate::specs::Sentences::report_line, model::specs::Basics::bytes))]
 fn write_report(buf: &mut [u8], at: usize, a: u64, b: u64, r: u64, route: Route) -> usize
     requires { at + 150 ≤ length buf.old }
     ensures wrote { Wrote buf.old buf.new at result (report_line a b r route) }
@@ -86,29 +84,29 @@ fn write_report(buf: &mut [u8], at: usize, a: u64, b: u64, r: u64, route: Route)
 }
 
 // The least that a report leaves open.
+#[tactic(auto, unfolding(model::specs::Demand::least_needed))]
 fn least_needed(report: u64) -> u64
     ensures { result ≡ least_needed report }
 {
-    if report <= 2 {
-        return report;
+    match report {
+        0..=2 => report,
+        3..=4 => 2,
+        _ => report - 2,
     }
-    if report <= 4 {
-        return 2;
-    }
-    report - 2
 }
 
 // Writes what a report says at a place, and returns the place after it.
+#[tactic(auto, unfolding(crate::specs::Sentences::needed_line, model::specs::Basics::bytes))]
 fn write_needed(buf: &mut [u8], at: usize, report: u16) -> usize
     requires { at + 100 ≤ length buf.old }
     ensures wrote { Wrote buf.old buf.new at result (needed_line report) }
     ensures upper_bound { result ≤ at + 100 }
 {
     if report == NONE {
-        return text_writing::write_text(buf, at, b"no chain of links joins them\n");
+        return write_text(buf, at, b"no chain of links joins them\n");
     }
     if report == 1 {
-        return text_writing::write_text(buf, at, b"exactly 1 link is needed\n");
+        return write_text(buf, at, b"exactly 1 link is needed\n");
     }
     let r = report as u64;
     if report <= 2 {
@@ -140,45 +138,39 @@ pub fn write_walk(buf: &mut [u8], at: usize, nodes: &[u16]) -> usize
     ensures wrote { Wrote buf.old buf.new at result (walk_line nodes.now) }
     ensures upper_bound { result ≤ at + 6 * length nodes.now + 5 }
 {
-    let i = text_writing::write_text(buf, at, b"walk");
+    let i = write_text(buf, at, b"walk");
     write_nodes(buf, i, nodes)
 }
 
 // Writes a verdict's word at a place, and returns the place after it.
+#[tactic(auto, unfolding(crate::specs::Sentences::verdict_word, model::specs::Basics::bytes))]
 fn write_word(buf: &mut [u8], at: usize, verdict: Verdict) -> usize
     requires { at + 6 ≤ length buf.old }
     ensures wrote { Wrote buf.old buf.new at result (verdict_word verdict) }
     ensures upper_bound { result ≤ at + 6 }
 {
     match verdict {
-        Verdict::Parted => text_writing::write_text(buf, at, b"parted"),
-        Verdict::Long => text_writing::write_text(buf, at, b"long"),
-        Verdict::Short => text_writing::write_text(buf, at, b"short"),
+        Verdict::Parted => write_text(buf, at, b"parted"),
+        Verdict::Long => write_text(buf, at, b"long"),
+        Verdict::Short => write_text(buf, at, b"short"),
     }
 }
 
 // Writes what a verdict says at a place, and returns the place after it.
+#[tactic(auto, unfolding(crate::specs::Sentences::verdict_says, model::specs::Basics::bytes))]
 fn write_says(buf: &mut [u8], at: usize, verdict: Verdict) -> usize
     requires { at + 70 ≤ length buf.old }
     ensures wrote { Wrote buf.old buf.new at result (verdict_says verdict) }
     ensures upper_bound { result ≤ at + 70 }
 {
     match verdict {
-        Verdict::Parted => text_writing::write_text(
-            buf,
-            at,
-            b"some two nodes are joined by no chain of links\n",
-        ),
-        Verdict::Long => text_writing::write_text(
+        Verdict::Parted => write_text(buf, at, b"some two nodes are joined by no chain of links\n"),
+        Verdict::Long => write_text(
             buf,
             at,
             b"every two nodes are joined, and some two are 3 or more links apart\n",
         ),
-        Verdict::Short => text_writing::write_text(
-            buf,
-            at,
-            b"every two nodes are at most 3 links apart\n",
-        ),
+        Verdict::Short => write_text(buf, at, b"every two nodes are at most 3 links apart\n"),
     }
 }
 
@@ -201,14 +193,15 @@ pub fn write_hubs(buf: &mut [u8], at: usize, hubs: &[u16]) -> usize
     ensures wrote { Wrote buf.old buf.new at result (hubs_line hubs.now) }
     ensures upper_bound { result ≤ at + 6 * length hubs.now + 41 }
 {
-    if hubs.len() == 0 {
-        return text_writing::write_text(buf, at, b"0 hubs\n");
+    if hubs.is_empty() {
+        return write_text(buf, at, b"0 hubs\n");
     }
     let i = write_counted(buf, at, hubs.len() as u64, b"1 hub:", b"# hubs:");
     write_nodes(buf, i, hubs)
 }
 
 // Writes how many of n nodes are high by threshold s at a place, and returns the place after it.
+#[tactic(auto, unfolding(crate::specs::Sentences::high_line, model::specs::Basics::bytes))]
 pub fn write_high(buf: &mut [u8], at: usize, high: u64, n: u64, s: u64) -> usize
     requires { at + 110 ≤ length buf.old }
     ensures wrote { Wrote buf.old buf.new at result (high_line high n s) }
@@ -223,6 +216,7 @@ pub fn write_high(buf: &mut [u8], at: usize, high: u64, n: u64, s: u64) -> usize
 }
 
 // Writes the counts of a survey that is accepted at a place, and returns the place after them.
+#[tactic(auto, unfolding(crate::specs::Sentences::accepted_line, model::specs::Basics::bytes))]
 pub fn write_accepted(buf: &mut [u8], at: usize, n: u64, m: u64) -> usize
     requires { at + 70 ≤ length buf.old }
     ensures wrote { Wrote buf.old buf.new at result (accepted_line n m) }

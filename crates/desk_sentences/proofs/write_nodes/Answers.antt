@@ -1,24 +1,26 @@
-use Prim.Native.Nat.{◌+◌, ◌*◌, ◌≤◌, ◌<◌}
-use lib.ListN.{length, get_or}
-use Rattle.base_lists.specs.Written.{Wrote}
-use Rattle.desk_sentences.specs.Sentences.{nodes_end}
-use Rattle.desk_sentences.proofs.Naming.{naming_none, naming_more, naming_done, node_room}
+use mathlib.Core.List.{[], ◌∷◌}
+use native.Mathlib.Omega.{arith}
+use lib.ListN.{get_or}
+use Rattle.base_lists.proofs.Written.{left_all, left_fits, left_more, left_none}
+use Rattle.model.specs.Numbers.{digits}
+use Rattle.desk_sentences.proofs.Saying.{node_next, nodes_done, nodes_few}
 use Rattle.desk_sentences.proofs.write_nodes.Goals as goal
 
-pub loop-i-init : goal.loop-i-init
-loop-i-init c = naming_none c.requires
+pub loop-node-init : goal.loop-node-init
+loop-node-init c = left_all (omega (arith, c.requires, nodes_few c.args.nodes.now (λ k. (c.type_inv.nodes k).fits)))
 
 pub write_field-pos-requires : goal.write_field-pos-requires
 write_field-pos-requires c =
-    let entry : get_or c.args.nodes.now c.loop-i.i 0 < 65536 = (c.type_inv.nodes c.loop-i.i).fits in
-    node_room c.loop-i.invariant c.loop-i-test.true (entry)
+    rw c.from.ensures (left_fits (32 ∷ digits (get_or c.args.nodes.now c.loop-node.node-index 0)) _ (rw (node_next _ _ c.loop-node-test.true) at c.loop-node.invariant))
 
-pub loop-i-preserved : goal.loop-i-preserved
-loop-i-preserved c =
-    let entry : get_or c.args.nodes.now c.loop-i.i 0 < 65536 = (c.type_inv.nodes c.loop-i.i).fits in
-    naming_more c.loop-i.invariant c.loop-i-test.true (entry) c.write_field-pos.ensures
+pub loop-node-preserved : goal.loop-node-preserved
+loop-node-preserved c =
+    left_more (rw (node_next _ _ c.loop-node-test.true) at c.loop-node.invariant) (rw c.from.ensures at c.write_field-pos.ensures)
 
-pub returns-clause-wrote : goal.returns-clause-wrote
-returns-clause-wrote c =
-    let done : (Wrote c.args.buf.now c.write_byte.new.buf c.args.at c.write_byte.result (nodes_end c.args.nodes.now) × (c.write_byte.result ≤ c.args.at + 6 * length c.args.nodes.now + 1)) = naming_done c.loop-i.invariant c.loop-i-test.false c.write_byte.ensures in
-    (done).0
+pub write_byte-requires : goal.write_byte-requires
+write_byte-requires c = left_fits (10 ∷ []) [] (rw (nodes_done _ _ c.loop-node-test.false) at c.loop-node.invariant)
+
+pub returns : goal.returns
+returns c =
+    let wrote = left_none (left_more (rw (nodes_done _ _ c.loop-node-test.false) at c.loop-node.invariant) c.write_byte.ensures) in
+    record { wrote = wrote; upper_bound = omega (arith, wrote.ends, nodes_few c.args.nodes.now (λ k. (c.type_inv.nodes k).fits)) }

@@ -1,10 +1,7 @@
-use Prim.Native.Nat.{◌-◌}
-use lib.ListN.{length}
-use Rattle.desk_sentences.proofs.Naming.{Naming}
+use lib.ListN.{drop}
+use Rattle.base_lists.proofs.Written.{Left}
+use Rattle.desk_sentences.specs.Sentences.{nodes_end}
 use Rattle.desk_sentences.proofs.write_nodes.Given as goal
 
-abbrev pub invariant-loop-i : goal.invariant-loop-i
-invariant-loop-i l = Naming l.nodes l.initial.buf l.buf l.at l.pos l.i
-
-abbrev pub decreases-loop-i : goal.decreases-loop-i
-decreases-loop-i l = length l.nodes - l.i
+abbrev pub invariant-loop-node : goal.invariant-loop-node
+invariant-loop-node l = Left l.initial.buf l.buf l.at l.pos (nodes_end l.nodes) (nodes_end (drop l.node-index l.nodes))

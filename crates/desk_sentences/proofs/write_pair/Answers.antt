@@ -5,5 +5,4 @@ use Rattle.desk_sentences.proofs.write_pair.Goals as goal
 
 pub returns-clause-wrote : goal.returns-clause-wrote
 unfolding pair_lines
-returns-clause-wrote c =
-    wrote_then (omega (arith, c.write_needed.ensures.wrote.ends, c.write_needed.ensures.upper_bound, c.write_report-i.ensures.wrote.ends, c.write_report-i.ensures.upper_bound, c.requires)) c.write_report-i.ensures.wrote c.write_needed.ensures.wrote
+returns-clause-wrote c = wrote_then (omega arith) c.write_report-i.ensures.wrote c.write_needed.ensures.wrote

@@ -7,5 +7,6 @@ use Rattle.desk_sentences.proofs.write_verdict.Goals as goal
 pub returns-clause-wrote : goal.returns-clause-wrote
 unfolding verdict_lines bytes
 returns-clause-wrote c =
-    let kept = wrote_length (omega (arith, c.requires, c.write_word-i.ensures.wrote.ends, c.write_word-i.ensures.upper_bound)) c.write_word-i.ensures.wrote in
-    let end = wrote_then (omega (arith, c.requires, kept, c.write_word-i.ensures.upper_bound, c.write_counted-i.ensures.wrote.ends, c.write_counted-i.ensures.upper_bound, c.write_says.ensures.wrote.ends, c.write_says.ensures.upper_bound)) c.write_counted-i.ensures.wrote c.write_says.ensures.wrote in wrote_then (omega (arith, c.requires, c.write_word-i.ensures.wrote.ends, c.write_word-i.ensures.upper_bound, c.write_counted-i.ensures.upper_bound, c.write_says.ensures.upper_bound, end.ends)) c.write_word-i.ensures.wrote end
+    let kept = wrote_length (omega arith) c.write_word-i.ensures.wrote in
+    let end = wrote_then (omega arith) c.write_counted-i.ensures.wrote c.write_says.ensures.wrote in
+    wrote_then (omega arith) c.write_word-i.ensures.wrote end

@@ -6,6 +6,4 @@ use Rattle.desk_sentences.proofs.write_walk.Goals as goal
 
 pub returns-clause-wrote : goal.returns-clause-wrote
 unfolding walk_line bytes
-returns-clause-wrote c =
-    wrote_then (omega (arith, c.write_nodes.ensures.wrote.ends, c.write_nodes.ensures.upper_bound, c.write_text-i.ensures.ends, c.requires))
-    c.write_text-i.ensures c.write_nodes.ensures.wrote
+returns-clause-wrote c = wrote_then (omega arith) c.write_text-i.ensures c.write_nodes.ensures.wrote
