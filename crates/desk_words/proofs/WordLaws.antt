@@ -1,4 +1,4 @@
--- When two words are the same, what a name finds, and when a word is a number.
+-- When two words are the same, and when a word is a number.
 -- Assumes nothing.
 use mathlib.Core.Path.{◌≡◌, refl, sym, ap, ◌∙◌}
 use mathlib.Core.Bool.{Bool, true, false, not, ◌&&◌, ◌||◌}
@@ -8,41 +8,25 @@ use native.Mathlib.Nat.{le_refl}
 use native.Mathlib.Omega.{arith}
 use lib.Dec.{T, eqb, leb}
 use lib.ListN.{length, drop, drop_of_length-le}
+use Rattle.std.specs.Cmp.Lexicographic.{pointwise}
+use Rattle.std.specs.Prelude.{Option, Some, None}
+use Rattle.std.proofs.Common.{nat_eq}
+use Rattle.std.proofs.lemmas.Option.{same_Some}
 use Rattle.model.specs.Basics.{same, all}
-use Rattle.std.specs.Prelude.{if◌then◌else◌}
 use Rattle.model.specs.Numbers.{is_digit, is_number, value_of}
 use Rattle.model.proofs.Tests.{true_T, and_l, and_r}
-use Rattle.desk_words.specs.declared.Command.{Command}
-use Rattle.desk_words.specs.declared.Named.{Named}
-use Rattle.desk_words.specs.Words.{if_named}
 use Rattle.text_reading.specs.declared.Number.{Number}
-use Rattle.text_reading.specs.declared.Number.TheVariants as number
-use Rattle.text_reading.specs.Scan.{run, number_of, number_at, begins}
+use Rattle.text_reading.specs.Scan.{run, number_of, number_at}
 use Rattle.text_reading.proofs.Runs.{run_digit, run_split}
 
 -- ---- words
 
-pub words_differ : (w v : List ℕ) → (length w ≡ length v → ⊥) → false ≡ same w v
+pub words_compared : (w v : List ℕ) → same w v ≡ pointwise nat_eq w v
 unfolding same
-words_differ [] [] d = absurd (d refl)
-words_differ [] (y ∷ v) d = refl
-words_differ (x ∷ w) [] d = refl
-words_differ (x ∷ w) (y ∷ v) d = at (eqb x y) (words_differ w v (λ e. d (omega (arith, e))))
-  where
-    at : (t : Bool) → false ≡ same w v → false ≡ (t && same w v)
-    at true e = e
-    at false e = refl
-
-pub words_begin : (w v : List ℕ) → length w ≡ length v → begins v w ≡ same w v
-unfolding same begins
-words_begin [] [] e = refl
-words_begin [] (y ∷ v) e = absurd (omega (arith, e))
-words_begin (x ∷ w) [] e = absurd (omega (arith, e))
-words_begin (x ∷ w) (y ∷ v) e = ap (λ (t : Bool). eqb x y && t) (words_begin w v (omega (arith, e)))
-
--- what is found otherwise may be replaced by what it equals
-pub if_named_else : (w name : List ℕ) (c : Command) {r x y : Named} → r ≡ if_named w name c x → x ≡ y → r ≡ if_named w name c y
-if_named_else w name c e i = e ∙ ap (if_named w name c) i
+words_compared [] [] = refl
+words_compared [] (y ∷ v) = refl
+words_compared (x ∷ w) [] = refl
+words_compared (x ∷ w) (y ∷ v) = ap (λ (t : Bool). eqb x y && t) (words_compared w v)
 
 -- ---- numbers
 
@@ -60,55 +44,33 @@ number_run (d ∷ ds) e =
     let short = and_l (all is_digit (d ∷ ds) && leb (length ds) 9) (eqb (length ds) 0 || not (eqb d 48)) (true_T _ e) in
     all_run (d ∷ ds) (and_l (all is_digit (d ∷ ds)) (leb (length ds) 9) short)
 
--- what is found: the place after it, or 0 where there is none; and the value
-abbrev place : Number → ℕ
-place (number.Value v e) = e + 1
-place number.Malformed = 0
-
-abbrev value : Number → ℕ
-value (number.Value v e) = v
-value number.Malformed = 0
-
-module _ (w : List ℕ) where
-  found : number_at w 0 ≡ number_of 0 (run w)
+module _ (w : List ℕ) {found : Option Number} (is-found : found ≡ number_at w 0) where
+  number_found : found ≡ number_of 0 (run w)
   unfolding number_at
-  found = refl
+  number_found = is-found
 
-  number_found : is_number w ≡ true → number_at w 0 ≡ number.Value (value_of w) (0 + length w)
-  number_found e = found ∙ rw (number_run w e, e)
-
-  pub number_none : number.Malformed ≡ number_at w 0 → is_number w ≡ false
-  number_none q = at (is_number w) refl
+  -- what is found is the whole word, and so the word is that number
+  pub number_whole : {x : Number} → found ≡ Some x → x.end ≡ length w → (is_number w ≡ true) × (value_of w ≡ x.value)
+  number_whole {x} q d = at (is_number (run w)) refl
     where
-      at : (t : Bool) → is_number w ≡ t → t ≡ false
-      at true e = absurd (omega (arith, ap place (q ∙ number_found e)))
-      at false e = refl
-
-  pub number_part : {v e : ℕ} → number.Value v e ≡ number_at w 0 → (e ≡ length w → ⊥) → is_number w ≡ false
-  number_part {v} {e} q d = at (is_number w) refl
-    where
-      at : (t : Bool) → is_number w ≡ t → t ≡ false
-      at true f = absurd (d (omega (arith, ap place (q ∙ number_found f))))
-      at false f = refl
-
-  pub number_whole : {v e : ℕ} → number.Value v e ≡ number_at w 0 → e ≡ length w → (is_number w ≡ true) × (value_of w ≡ v)
-  number_whole {v} {e} q d = at (is_number (run w)) refl
-    where
-      at : (t : Bool) → is_number (run w) ≡ t → (is_number w ≡ true) × (value_of w ≡ v)
+      at : (t : Bool) → is_number (run w) ≡ t → (is_number w ≡ true) × (value_of w ≡ x.value)
       at false f =
-          let none : number_of 0 (run w) ≡ number.Malformed = rw f in
-          absurd (omega (arith, ap place (q ∙ found ∙ none)))
+          let none : number_of 0 (run w) ≡ None = rw f in
+          absurd (cc (sym q ∙ number_found ∙ none))
       at true f =
-          let some : number_of 0 (run w) ≡ number.Value (value_of (run w)) (0 + length (run w)) = rw f in
-          let same_place = ap place (q ∙ found ∙ some) in
-          let fits : length w ≡ length (run w) = omega (arith, d, same_place) in
+          let some : number_of 0 (run w) ≡ Some (record { value = value_of (run w); end = 0 + length (run w) }) = rw f in
+          let same : x ≡ record { value = value_of (run w); end = 0 + length (run w) } = same_Some _ _ (sym q ∙ number_found ∙ some) in
+          let fits : length w ≡ length (run w) = omega (arith, d, ap (λ (n : Number). n.end) same) in
           let none_left : drop (length (run w)) w ≡ [] = ap (λ (k : ℕ). drop k w) (sym fits) ∙ drop_of_length-le w (le_refl _) in
           let whole : run w ≡ w = sym (append-nil (run w)) ∙ ap (λ (u : List ℕ). run w ++ u) (sym none_left) ∙ sym (run_split w) in
-          (ap is_number (sym whole) ∙ f, ap value_of (sym whole) ∙ sym (ap value (q ∙ found ∙ some)))
+          (ap is_number (sym whole) ∙ f, ap value_of (sym whole) ∙ sym (ap (λ (n : Number). n.value) same))
 
--- ---- the second of three choices
-
-pub second : {A : Type 0} (b d : Bool) (x y z : A) → b ≡ false → d ≡ true → x ≡ (if b then y else if d then x else z)
-second true d x y z e f = absurd (true_T false (sym e))
-second false true x y z e f = refl
-second false false x y z e f = absurd (true_T false f)
+  -- the whole word is not found, and so it is no number
+  pub number_not : ((x : Number) → found ≡ Some x → x.end ≡ length w → ⊥) → is_number w ≡ false
+  number_not d = at (is_number w) refl
+    where
+      at : (t : Bool) → is_number w ≡ t → t ≡ false
+      at true e =
+          let some : number_of 0 (run w) ≡ Some (record { value = value_of w; end = 0 + length w }) = rw (number_run w e, e) in
+          absurd (d _ (number_found ∙ some) (omega arith))
+      at false e = refl

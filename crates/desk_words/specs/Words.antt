@@ -1,24 +1,24 @@
 -- What a word says, the first one and those behind it, and what all of them ask (docs/COMMANDS.md).
 -- Assumes nothing.
-use Rattle.std.specs.Prelude.{Bool, true, false, not, ◌&&◌, List, [], ◌∷◌, ℕ, eqb, ltb}
+use Rattle.std.specs.Prelude.{Bool, true, false, not, ◌&&◌, List, [], ◌∷◌, ℕ, ◌+◌, eqb, ltb, Option, Some, None, Result, Ok, Err}
 use Rattle.model.specs.Basics.{same, bytes}
 use Rattle.std.specs.Prelude.{if◌then◌else◌}
 use Rattle.model.specs.Numbers.{is_number, value_of}
 use Rattle.desk_words.specs.declared.Command.{Command}
 use Rattle.desk_words.specs.declared.Command.TheVariants.{Pair, Walk, Test, Hubs, Reports, Check, Write, Export, Import, Help}
-use Rattle.desk_words.specs.declared.Named.{Named}
-use Rattle.desk_words.specs.declared.Named.TheVariants.{Is, Unknown}
 use Rattle.desk_words.specs.declared.Word.{Word}
 use Rattle.desk_words.specs.declared.Word.TheVariants as word
+use Rattle.desk_words.specs.declared.Threshold.{Threshold}
+use Rattle.desk_words.specs.declared.Threshold.TheVariants.{Unnamed, NumberNext, Given}
 use Rattle.desk_words.specs.declared.Question.{Question}
-use Rattle.desk_words.specs.declared.Taken.{Taken}
-use Rattle.desk_words.specs.declared.Taken.TheVariants.{Asks, NoNumber, TooMany}
+use Rattle.desk_words.specs.declared.WordFault.{WordFault}
+use Rattle.desk_words.specs.declared.WordFault.TheVariants.{NoNumber, TooMany}
 
--- the command whose name a word is, or what is found otherwise
-unfoldable pub if_named : (w name : List ℕ) → Command → Named → Named
-if_named w name c found = if same w name then Is c else found
+-- the command whose name a word is, or what is found otherwise, or what is found otherwise
+unfoldable pub if_named : (w name : List ℕ) → Command → Option Command → Option Command
+if_named w name c found = if same w name then Some c else found
 
-unfoldable pub command_of : List ℕ → Named
+unfoldable pub command_of : List ℕ → Option Command
 command_of w =
     if_named w (bytes "pair") Pair
     (if_named w (bytes "walk") Walk
@@ -29,7 +29,7 @@ command_of w =
     (if_named w (bytes "write") Write
     (if_named w (bytes "export") Export
     (if_named w (bytes "import") Import
-    (if_named w (bytes "help") Help Unknown)))))))))
+    (if_named w (bytes "help") Help None)))))))))
 
 unfoldable pub word_of : List ℕ → Word
 word_of w =
@@ -78,49 +78,69 @@ reads_text Help = false
 -- ---- words, from left to right: what each makes of the question so far, or what is wrong with it
 
 abbrev pub nothing_yet : Question
-nothing_yet = record { nodes = 0; a = 0; b = 0; threshold = 0; named = false; number_next = false }
+nothing_yet = record { a = None; b = None; threshold = Unnamed }
+
+-- 1 for a node, 0 for none
+abbrev pub one_of : Option ℕ → ℕ
+one_of None = 0
+one_of (Some v) = 1
+
+abbrev pub node_count : Question → ℕ
+node_count q = one_of q.a + one_of q.b
+
+-- the option is named; and its number comes next
+abbrev pub is_named : Threshold → Bool
+is_named Unnamed = false
+is_named NumberNext = true
+is_named (Given t) = true
+
+abbrev pub is_next : Threshold → Bool
+is_next Unnamed = false
+is_next NumberNext = true
+is_next (Given t) = false
 
 abbrev pub with_threshold : Question → ℕ → Question
-with_threshold q t = record { nodes = q.nodes; a = q.a; b = q.b; threshold = t; named = q.named; number_next = false }
+with_threshold q t = record { a = q.a; b = q.b; threshold = Given t }
 
 abbrev pub with_node : Question → ℕ → Question
 with_node q v =
-    if eqb q.nodes 0
-    then record { nodes = 1; a = v; b = q.b; threshold = q.threshold; named = q.named; number_next = q.number_next }
-    else record { nodes = 2; a = q.a; b = v; threshold = q.threshold; named = q.named; number_next = q.number_next }
+    if eqb (one_of q.a) 0 then record { a = Some v; b = q.b; threshold = q.threshold }
+    else record { a = q.a; b = Some v; threshold = q.threshold }
 
 abbrev pub with_option : Question → Question
-with_option q = record { nodes = q.nodes; a = q.a; b = q.b; threshold = q.threshold; named = true; number_next = true }
+with_option q = record { a = q.a; b = q.b; threshold = NumberNext }
 
 -- a number is the threshold where one comes next, then a node while the command lacks one
-abbrev pub number_taken : Command → Question → ℕ → Taken
+abbrev pub number_taken : Command → Question → ℕ → Result Question WordFault
 number_taken c q v =
-    if q.number_next then Asks (with_threshold q v)
-    else if ltb q.nodes (nodes_of c) then Asks (with_node q v)
-    else TooMany
+    if is_next q.threshold then Ok (with_threshold q v)
+    else if ltb (node_count q) (nodes_of c) then Ok (with_node q v)
+    else Err TooMany
 
 -- any other word is no number where one is needed, and else one too many
-abbrev pub other_taken : Command → Question → Taken
-other_taken c q = if q.number_next then NoNumber else if ltb q.nodes (nodes_of c) then NoNumber else TooMany
+abbrev pub fault_of : Command → Question → WordFault
+fault_of c q = if is_next q.threshold then NoNumber else if ltb (node_count q) (nodes_of c) then NoNumber else TooMany
+
+abbrev pub other_taken : Command → Question → Result Question WordFault
+other_taken c q = Err (fault_of c q)
 
 -- the option is taken once, by a command that splits nodes
-abbrev pub option_taken : Command → Question → Taken
-option_taken c q = if splits_nodes c && not q.named then Asks (with_option q) else other_taken c q
+abbrev pub option_taken : Command → Question → Result Question WordFault
+option_taken c q = if splits_nodes c && not (is_named q.threshold) then Ok (with_option q) else other_taken c q
 
-abbrev pub word_taken : Command → Question → Word → Taken
+abbrev pub word_taken : Command → Question → Word → Result Question WordFault
 word_taken c q word.Option = option_taken c q
 word_taken c q (word.Number v) = number_taken c q v
 word_taken c q word.Other = other_taken c q
 
 -- all is there that the command asks for
 abbrev pub is_whole : Command → Question → Bool
-is_whole c q = not q.number_next && eqb q.nodes (nodes_of c)
+is_whole c q = not (is_next q.threshold) && eqb (node_count q) (nodes_of c)
 
-abbrev pub on_taken : (Question → Taken) → Taken → Taken
-on_taken next (Asks q) = next q
-on_taken next NoNumber = NoNumber
-on_taken next TooMany = TooMany
+abbrev pub on_taken : (Question → Result Question WordFault) → Result Question WordFault → Result Question WordFault
+on_taken next (Ok q) = next q
+on_taken next (Err f) = Err f
 
-unfoldable pub all_taken : Command → Question → List Word → Taken
-all_taken c q [] = Asks q
+unfoldable pub all_taken : Command → Question → List Word → Result Question WordFault
+all_taken c q [] = Ok q
 all_taken c q (w ∷ ws) = on_taken (λ r. all_taken c r ws) (word_taken c q w)

@@ -2,14 +2,11 @@
 #![tactic(auto)]
 
 ghost use Rattle.std.specs.Prelude.{◌≡◌};
-ghost use Rattle.model.specs.Basics.{same};
-ghost use Rattle.desk_words.specs.Words.{if_named, command_of, word_of, nodes_of, splits_nodes, reads_text};
-ghost use Rattle.desk_words.specs.Words.{nothing_yet, with_threshold, with_node, with_option};
-ghost use Rattle.desk_words.specs.Words.{number_taken, other_taken, option_taken, word_taken, is_whole};
+ghost use Rattle.desk_words.specs.Words.{command_of, word_of, nodes_of, splits_nodes, reads_text};
+ghost use Rattle.desk_words.specs.Words.{nothing_yet, node_count, with_node};
+ghost use Rattle.desk_words.specs.Words.{number_taken, fault_of, option_taken, word_taken, is_whole};
 
-use text_reading::Number;
-
-#[derive(Clone, Copy)]
+#[derive(Clone, Copy, PartialEq, Eq)]
 pub enum Command {
     Pair,
     Walk,
@@ -23,92 +20,86 @@ pub enum Command {
     Help,
 }
 
-// What the first word says.
-#[derive(Clone, Copy)]
-pub enum Named {
-    Is(Command),
-    Unknown,
-}
-
 // What a word behind the first says: the option `--threshold`, a number, or neither.
-#[derive(Clone, Copy)]
+#[derive(Clone, Copy, PartialEq, Eq)]
 pub enum Word {
     Option,
     Number(u64),
     Other,
 }
 
-// What the words up to one of them ask: how many nodes, which, and the threshold, 0 where there is none; whether a threshold was named,
-// and whether its number comes next.
-#[derive(Clone, Copy)]
-pub struct Question {
-    pub nodes: usize,
-    pub a: u64,
-    pub b: u64,
-    pub threshold: u64,
-    pub named: bool,
-    pub number_next: bool,
+// What the words up to one of them say of the threshold: nothing; that its number comes next; or the number.
+#[derive(Clone, Copy, PartialEq, Eq)]
+pub enum Threshold {
+    Unnamed,
+    NumberNext,
+    Given(u64),
 }
 
-// What a further word makes of a question, or what is wrong with it.
-#[derive(Clone, Copy)]
-pub enum Taken {
-    Asks(Question),
+// What the words up to one of them ask: nodes A and B, and the threshold.
+#[derive(Clone, Copy, PartialEq, Eq)]
+pub struct Question {
+    pub a: Option<u64>,
+    pub b: Option<u64>,
+    pub threshold: Threshold,
+}
+
+// What is wrong with a word: it is no number where one is needed, or one too many.
+#[derive(Clone, Copy, PartialEq, Eq)]
+pub enum WordFault {
     NoNumber,
     TooMany,
 }
 
-// Whether a word is this one.
-fn is_word(word: &[u8], name: &[u8]) -> bool
-    ensures { result ≡ same word.now name.now }
-{
-    if word.len() != name.len() {
-        return false;
-    }
-    text_reading::has_word(word, 0, name)
-}
-
-// The command, if the word is its name, else what was found otherwise.
-fn if_named(word: &[u8], name: &[u8], command: Command, found: Named) -> Named
-    ensures { result ≡ if_named word.now name.now command found }
-{
-    if is_word(word, name) {
-        return Named::Is(command);
-    }
-    found
-}
-
-// The command that a word names, tried from the last to the first.
-pub fn command_of(word: &[u8]) -> Named
+// The command that a word names.
+#[tactic(auto, using(crate::proofs::WordLaws::words_compared), unfolding(crate::specs::Words::command_of, crate::specs::Words::if_named, model::specs::Basics::bytes))]
+pub fn command_of(word: &[u8]) -> Option<Command>
     ensures { result ≡ command_of word.now }
 {
-    let found = Named::Unknown;
-    let found = if_named(word, b"help", Command::Help, found);
-    let found = if_named(word, b"import", Command::Import, found);
-    let found = if_named(word, b"export", Command::Export, found);
-    let found = if_named(word, b"write", Command::Write, found);
-    let found = if_named(word, b"check", Command::Check, found);
-    let found = if_named(word, b"reports", Command::Reports, found);
-    let found = if_named(word, b"hubs", Command::Hubs, found);
-    let found = if_named(word, b"test", Command::Test, found);
-    let found = if_named(word, b"walk", Command::Walk, found);
-    if_named(word, b"pair", Command::Pair, found)
+    if word == b"pair".as_slice() {
+        return Some(Command::Pair);
+    }
+    if word == b"walk".as_slice() {
+        return Some(Command::Walk);
+    }
+    if word == b"test".as_slice() {
+        return Some(Command::Test);
+    }
+    if word == b"hubs".as_slice() {
+        return Some(Command::Hubs);
+    }
+    if word == b"reports".as_slice() {
+        return Some(Command::Reports);
+    }
+    if word == b"check".as_slice() {
+        return Some(Command::Check);
+    }
+    if word == b"write".as_slice() {
+        return Some(Command::Write);
+    }
+    if word == b"export".as_slice() {
+        return Some(Command::Export);
+    }
+    if word == b"import".as_slice() {
+        return Some(Command::Import);
+    }
+    if word == b"help".as_slice() {
+        return Some(Command::Help);
+    }
+    None
 }
 
 // What a word after the command says.
 pub fn word_of(word: &[u8]) -> Word
     ensures { result ≡ word_of word.now }
 {
-    if is_word(word, b"--threshold") {
+    if word == b"--threshold".as_slice() {
         return Word::Option;
     }
-    let Number::Value(v, end) = text_reading::parse_number(word, 0) else {
-        return Word::Other;
-    };
-    if end != word.len() {
-        return Word::Other;
+    match text_reading::parse_number(word, 0) {
+        Some(number) if number.end == word.len() => Word::Number(number.value),
+        _ => Word::Other,
     }
-    Word::Number(v)
 }
 
 // How many nodes a command asks for.
@@ -116,16 +107,8 @@ fn nodes_of(command: Command) -> usize
     ensures { result ≡ nodes_of command }
 {
     match command {
-        Command::Pair => 2,
-        Command::Walk => 2,
-        Command::Test => 0,
-        Command::Hubs => 0,
-        Command::Reports => 0,
-        Command::Check => 0,
-        Command::Write => 0,
-        Command::Export => 0,
-        Command::Import => 0,
-        Command::Help => 0,
+        Command::Pair | Command::Walk => 2,
+        _ => 0,
     }
 }
 
@@ -133,18 +116,17 @@ fn nodes_of(command: Command) -> usize
 fn splits(command: Command) -> bool
     ensures { result ≡ splits_nodes command }
 {
-    match command {
-        Command::Pair => true,
-        Command::Walk => true,
-        Command::Test => true,
-        Command::Hubs => true,
-        Command::Reports => true,
-        Command::Check => false,
-        Command::Write => false,
-        Command::Export => false,
-        Command::Import => false,
-        Command::Help => false,
-    }
+    matches!(
+        command,
+        Command::Pair | Command::Walk | Command::Test | Command::Hubs | Command::Reports
+    )
+}
+
+// Whether a command reads a text.
+pub fn reads_text(command: Command) -> bool
+    ensures { result ≡ reads_text command }
+{
+    command != Command::Help
 }
 
 // The question before the first word after the command.
@@ -152,112 +134,78 @@ pub fn nothing_yet() -> Question
     ensures { result ≡ nothing_yet }
 {
     Question {
-        nodes: 0,
-        a: 0,
-        b: 0,
-        threshold: 0,
-        named: false,
-        number_next: false,
+        a: None,
+        b: None,
+        threshold: Threshold::Unnamed,
     }
 }
 
-// A question with a threshold, whose number was waited for.
-fn with_threshold(q: Question, t: u64) -> Question
-    ensures { result ≡ with_threshold q t }
+// How many nodes a question has.
+fn node_count(q: Question) -> usize
+    ensures { result ≡ node_count q }
 {
-    Question {
-        nodes: q.nodes,
-        a: q.a,
-        b: q.b,
-        threshold: t,
-        named: q.named,
-        number_next: false,
-    }
+    usize::from(q.a.is_some()) + usize::from(q.b.is_some())
 }
 
 // A question with a node more: A, or B behind it.
 fn with_node(q: Question, v: u64) -> Question
     ensures { result ≡ with_node q v }
 {
-    if q.nodes == 0 {
-        return Question {
-            nodes: 1,
-            a: v,
-            b: q.b,
-            threshold: q.threshold,
-            named: q.named,
-            number_next: q.number_next,
-        };
-    }
-    Question {
-        nodes: 2,
-        a: q.a,
-        b: v,
-        threshold: q.threshold,
-        named: q.named,
-        number_next: q.number_next,
-    }
-}
-
-// A question in which a threshold is named, and its number waited for.
-fn with_option(q: Question) -> Question
-    ensures { result ≡ with_option q }
-{
-    Question {
-        nodes: q.nodes,
-        a: q.a,
-        b: q.b,
-        threshold: q.threshold,
-        named: true,
-        number_next: true,
+    if q.a.is_none() {
+        Question { a: Some(v), ..q }
+    } else {
+        Question { b: Some(v), ..q }
     }
 }
 
 // What a number makes of a question.
-fn take_number(command: Command, q: Question, v: u64) -> Taken
+fn take_number(command: Command, q: Question, v: u64) -> Result<Question, WordFault>
     ensures { result ≡ number_taken command q v }
 {
-    if q.number_next {
-        return Taken::Asks(with_threshold(q, v));
+    if q.threshold == Threshold::NumberNext {
+        return Ok(Question {
+            threshold: Threshold::Given(v),
+            ..q
+        });
     }
-    if q.nodes < nodes_of(command) {
-        return Taken::Asks(with_node(q, v));
+    if node_count(q) < nodes_of(command) {
+        return Ok(with_node(q, v));
     }
-    Taken::TooMany
+    Err(WordFault::TooMany)
 }
 
-// What another word makes of a question: no number where one is needed.
-fn take_other(command: Command, q: Question) -> Taken
-    ensures { result ≡ other_taken command q }
+// What is wrong with another word: it is no number where one is needed, or one too many.
+fn fault_of(command: Command, q: Question) -> WordFault
+    ensures { result ≡ fault_of command q }
 {
-    if q.number_next {
-        return Taken::NoNumber;
+    if q.threshold == Threshold::NumberNext || node_count(q) < nodes_of(command) {
+        WordFault::NoNumber
+    } else {
+        WordFault::TooMany
     }
-    if q.nodes < nodes_of(command) {
-        return Taken::NoNumber;
-    }
-    Taken::TooMany
 }
 
 // What `--threshold` makes of a question.
-fn take_option(command: Command, q: Question) -> Taken
+fn take_option(command: Command, q: Question) -> Result<Question, WordFault>
     ensures { result ≡ option_taken command q }
 {
-    let first = splits(command) & !q.named;
-    if first {
-        return Taken::Asks(with_option(q));
+    if splits(command) && q.threshold == Threshold::Unnamed {
+        return Ok(Question {
+            threshold: Threshold::NumberNext,
+            ..q
+        });
     }
-    take_other(command, q)
+    Err(fault_of(command, q))
 }
 
 // What a word after the command makes of a question.
-pub fn take_word(command: Command, q: Question, word: Word) -> Taken
+pub fn take_word(command: Command, q: Question, word: Word) -> Result<Question, WordFault>
     ensures { result ≡ word_taken command q word }
 {
     match word {
         Word::Option => take_option(command, q),
         Word::Number(v) => take_number(command, q, v),
-        Word::Other => take_other(command, q),
+        Word::Other => Err(fault_of(command, q)),
     }
 }
 
@@ -265,23 +213,5 @@ pub fn take_word(command: Command, q: Question, word: Word) -> Taken
 pub fn is_whole(command: Command, q: Question) -> bool
     ensures { result ≡ is_whole command q }
 {
-    !q.number_next & (q.nodes == nodes_of(command))
-}
-
-// Whether a command reads a text.
-pub fn reads_text(command: Command) -> bool
-    ensures { result ≡ reads_text command }
-{
-    match command {
-        Command::Pair => true,
-        Command::Walk => true,
-        Command::Test => true,
-        Command::Hubs => true,
-        Command::Reports => true,
-        Command::Check => true,
-        Command::Write => true,
-        Command::Export => true,
-        Command::Import => true,
-        Command::Help => false,
-    }
+    q.threshold != Threshold::NumberNext && node_count(q) == nodes_of(command)
 }

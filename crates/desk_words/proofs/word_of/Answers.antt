@@ -1,33 +1,27 @@
-use mathlib.Core.Path.{sym, ◌∙◌}
+use mathlib.Core.Path.{sym}
 use Rattle.model.specs.Basics.{bytes}
 use Rattle.desk_words.specs.Words.{word_of}
-use Rattle.desk_words.proofs.WordLaws.{number_none, number_part, number_whole}
+use Rattle.desk_words.proofs.WordLaws.{words_compared, number_whole, number_not}
 use Rattle.desk_words.proofs.word_of.Goals as goal
 
-pub returns-then-is_word : goal.returns-then-is_word
+pub returns-then-eq : goal.returns-then-eq
 unfolding word_of bytes
-returns-then-is_word c = rw (sym c.is_word.ensures ∙ c.if-is_word.true)
+returns-then-eq c = rw (words_compared, sym (rw c.as_slice.ensures at c.eq.ensures), c.if-eq.true)
+
+pub returns-in-Some : goal.returns-in-Some
+unfolding word_of bytes
+returns-in-Some c =
+    let whole = number_whole _ c.parse_number.ensures c.in-Some.is c.if-number-word.true in
+    rw (words_compared, sym (rw c.as_slice.ensures at c.eq.ensures), c.if-eq.false, whole.0, whole.1)
 
 pub returns-in_default : goal.returns-in_default
 unfolding word_of bytes
 returns-in_default c =
-    rw (
-      sym c.is_word.ensures ∙ c.if-is_word.false,
-      number_none _
-          (sym c.in_default.is ∙ c.parse_number.ensures),
-    )
+    let part = number_not _ c.parse_number.ensures (λ x e d. c.if-number-word.false (cc)) in
+    rw (words_compared, sym (rw c.as_slice.ensures at c.eq.ensures), c.if-eq.false, part)
 
-pub returns-then-end-word : goal.returns-then-end-word
+pub returns-in_default-2 : goal.returns-in_default-2
 unfolding word_of bytes
-returns-then-end-word c =
-    rw (
-      sym c.is_word.ensures ∙ c.if-is_word.false,
-      number_part _ (sym c.in-Value.is ∙ c.parse_number.ensures)
-          c.if-end-word.true,
-    )
-
-pub returns : goal.returns
-unfolding word_of bytes
-returns c =
-    let whole = number_whole _ (sym c.in-Value.is ∙ c.parse_number.ensures) c.if-end-word.false in
-    rw (sym c.is_word.ensures ∙ c.if-is_word.false, whole.0, whole.1)
+returns-in_default-2 c =
+    let none = number_not _ c.parse_number.ensures (λ x e d. absurd (cc)) in
+    rw (words_compared, sym (rw c.as_slice.ensures at c.eq.ensures), c.if-eq.false, none)
