@@ -2,6 +2,7 @@
 #![tactic(auto)]
 
 ghost use Rattle.std.specs.Prelude.{◌≡◌};
+ghost use Rattle.model.specs.Basics.{same};
 ghost use Rattle.desk_words.specs.Words.{command_of, word_of, nodes_of, splits_nodes, reads_text};
 ghost use Rattle.desk_words.specs.Words.{nothing_yet, node_count, with_node};
 ghost use Rattle.desk_words.specs.Words.{number_taken, fault_of, option_taken, word_taken, is_whole};
@@ -51,39 +52,47 @@ pub enum WordFault {
     TooMany,
 }
 
+// Whether a word is this one.
+#[tactic(auto, using(crate::proofs::WordLaws::words_compared))]
+fn is_word(word: &[u8], name: &[u8]) -> bool
+    ensures { result ≡ same word.now name.now }
+{
+    word == name
+}
+
 // The command that a word names.
-#[tactic(auto, using(crate::proofs::WordLaws::words_compared), unfolding(crate::specs::Words::command_of, crate::specs::Words::if_named, model::specs::Basics::bytes))]
+#[tactic(auto, unfolding(crate::specs::Words::command_of, crate::specs::Words::if_named, model::specs::Basics::bytes))]
 pub fn command_of(word: &[u8]) -> Option<Command>
     ensures { result ≡ command_of word.now }
 {
-    if word == b"pair".as_slice() {
+    if is_word(word, b"pair") {
         return Some(Command::Pair);
     }
-    if word == b"walk".as_slice() {
+    if is_word(word, b"walk") {
         return Some(Command::Walk);
     }
-    if word == b"test".as_slice() {
+    if is_word(word, b"test") {
         return Some(Command::Test);
     }
-    if word == b"hubs".as_slice() {
+    if is_word(word, b"hubs") {
         return Some(Command::Hubs);
     }
-    if word == b"reports".as_slice() {
+    if is_word(word, b"reports") {
         return Some(Command::Reports);
     }
-    if word == b"check".as_slice() {
+    if is_word(word, b"check") {
         return Some(Command::Check);
     }
-    if word == b"write".as_slice() {
+    if is_word(word, b"write") {
         return Some(Command::Write);
     }
-    if word == b"export".as_slice() {
+    if is_word(word, b"export") {
         return Some(Command::Export);
     }
-    if word == b"import".as_slice() {
+    if is_word(word, b"import") {
         return Some(Command::Import);
     }
-    if word == b"help".as_slice() {
+    if is_word(word, b"help") {
         return Some(Command::Help);
     }
     None
@@ -93,7 +102,7 @@ pub fn command_of(word: &[u8]) -> Option<Command>
 pub fn word_of(word: &[u8]) -> Word
     ensures { result ≡ word_of word.now }
 {
-    if word == b"--threshold".as_slice() {
+    if is_word(word, b"--threshold") {
         return Word::Option;
     }
     match text_reading::parse_number(word, 0) {
