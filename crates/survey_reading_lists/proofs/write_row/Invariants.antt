@@ -1,9 +1,5 @@
-use Prim.Native.Nat.{◌-◌}
 use Rattle.survey_reading_lists.proofs.ListLaws.{Row}
 use Rattle.survey_reading_lists.proofs.write_row.Given as goal
 
 abbrev pub invariant-loop-w : goal.invariant-loop-w
 invariant-loop-w l = Row l.bits l.v l.initial.neighbours l.neighbours l.at l.pos l.w
-
-abbrev pub decreases-loop-w : goal.decreases-loop-w
-decreases-loop-w l = 16 - l.w
