@@ -11,12 +11,11 @@ use native.Mathlib.Omega.{arith}
 use borrow.Author.Tests.{eq-eqb, ltb-true, eqb-true, eqb-false, ne_eqb, lt-ltb}
 use lib.Dec.{T, ltb, eqb, not_T, T_not, eqb→eq}
 use lib.ListN.{length, get_or, take, drop, length-take, length-drop, take-append-drop, drop_of_length-le}
-use lib.ListN.{get_or-append}
 use Rattle.model.specs.Basics.{has}
 use Rattle.model.specs.Numbers.{is_number, value_of}
 use Rattle.model.proofs.Lists.{of_single, of_append, none_in}
 use Rattle.model.proofs.Loops.{drop_next}
-use Rattle.model.proofs.Tests.{T_true, no_false, eq_T, lt_or}
+use Rattle.model.proofs.Tests.{T_true, true_T, no_false, false_no, eq_T, lt_or}
 use Rattle.model.proofs.Numbers.{number_text, text_number}
 use Rattle.text_reading.specs.Scan.{run, number_of, number_at, has_byte, LineEnd, begins}
 use Rattle.std.specs.Prelude.{Option as Found, Some, None, nat_eq}
@@ -72,66 +71,6 @@ eleven_first u m e = ⊎_elim
 rest_of : (s : List ℕ) (at : ℕ) {r : List ℕ} → r ≡ slice_range s at (length s) → r ≡ drop at s
 rest_of s at e = e ∙ take_all (length s - at) (drop at s) (omega (arith, length-drop at s))
 
--- of the digits at a place of the text s at most eleven are read: their value is v, and their count k
-module _ (s : List ℕ) (at : ℕ) {r : List ℕ} {m v k : ℕ} (rest : r ≡ slice_range s at (length s)) (most : m ≡ min (length r) 11)
-    (read : (v ≡ value_of (run (take m r))) × (k ≡ length (run (take m r)))) where
-  -- all of them
-  abbrev t : List ℕ
-  t = run (drop at s)
-
-  -- the first eleven
-  abbrev read_first : take m r ≡ take 11 (drop at s)
-  read_first = eleven_first r m most ∙ ap (take 11) (rest_of s at rest)
-
-  value : v ≡ value_of (take 11 t)
-  value = read.0 ∙ ap (λ u. value_of (run u)) read_first ∙ ap value_of (run_take 11 (drop at s))
-
-  count : k ≡ length (take 11 t)
-  count = read.1 ∙ ap (λ u. length (run u)) read_first ∙ ap length (run_take 11 (drop at s))
-
-  few : k ≡ min 11 (length t)
-  few = count ∙ length-take 11 t
-
-  none : is_number t ≡ false → None ≡ number_at s at
-  unfolding number_at
-  none h = rw h
-
-  pub read_empty : k ≡ 0 → None ≡ number_at s at
-  read_empty h = none (none_short _ (omega (arith, few)))
-
-  pub read_long : 10 < k → None ≡ number_at s at
-  read_long h = none (none_long _ (omega (arith, few)))
-
-  first : 0 < k → get_or t 0 0 ≡ get_or r 0 0
-  first h =
-      sym (get_or-append t (drop (length t) (drop at s)) 0 0 (omega (arith, few)))
-      ∙ ap (λ (x : List ℕ). get_or x 0 0) (sym (run_split _) ∙ sym (rest_of s at rest))
-
-  -- a digit was read, so the rest has a byte
-  pub read_within : 0 < k → 0 < length r
-  read_within h = go r refl
-    where
-      go : (u : List ℕ) → r ≡ u → 0 < length u
-      go [] e = absurd (omega (arith, h, few, ap (λ u. length (run u)) (sym (rest_of s at rest) ∙ e), ap length run_nil))
-      go (b ∷ u) e = omega arith
-
-  pub read_zero : 1 < k → get_or r 0 0 ≡ 48 → None ≡ number_at s at
-  read_zero h z = none (none_zero _ (omega (arith, few)) (first (omega arith) ∙ z))
-
-  pub read_found : (k ≡ 0 → ⊥) → k ≤ 10 → (1 < k → get_or r 0 0 ≡ 48 → ⊥) → Some (record { value = v; end = at + k }) ≡ number_at s at
-  unfolding number_at
-  read_found h l z =
-      let whole : take 11 t ≡ t = take_all 11 t (omega (arith, few)) in
-      let long : k ≡ length t = count ∙ ap length whole in
-      let no_zero : 1 < length t → get_or t 0 0 ≡ 48 → ⊥ = λ m f. z (omega arith) (sym (first (omega arith)) ∙ f) in
-      let n = some_number t (run_all _) (omega arith) (omega arith) no_zero in
-      rw (value ∙ ap value_of whole, long) (sym (of_number at t n))
-
--- no digit stands past the text
-pub read_past : (s : List ℕ) (at : ℕ) → length s < at → None ≡ number_at s at
-unfolding number_at is_number
-read_past s at h = let past : drop at s ≡ [] = let l : length s ≤ at = omega arith in drop_of_length-le s l in rw (past, run_nil)
-
 -- ---- a byte at a place
 
 -- the byte that `get` lends, compared
@@ -170,6 +109,69 @@ first_has s i b h =
     let l = has_within s i b h in
     let e : get_or s i 0 ≡ b = eqb-true (get_or s i 0) b (rw (lt-ltb i (length s) l) at h) in
     drop_next s i l ∙ rw e
+
+-- ---- a number at a place
+
+-- of the digits at a place of the text s at most eleven are read: their value is v, and their count k
+module _ (s : List ℕ) (at : ℕ) {r : List ℕ} {m v k : ℕ} (rest : r ≡ slice_range s at (length s)) (most : m ≡ min (length r) 11)
+    (read : (v ≡ value_of (run (take m r))) × (k ≡ length (run (take m r)))) where
+  -- all of them
+  abbrev t : List ℕ
+  t = run (drop at s)
+
+  -- the first eleven
+  abbrev read_first : take m r ≡ take 11 (drop at s)
+  read_first = eleven_first r m most ∙ ap (take 11) (rest_of s at rest)
+
+  value : v ≡ value_of (take 11 t)
+  value = read.0 ∙ ap (λ u. value_of (run u)) read_first ∙ ap value_of (run_take 11 (drop at s))
+
+  count : k ≡ length (take 11 t)
+  count = read.1 ∙ ap (λ u. length (run u)) read_first ∙ ap length (run_take 11 (drop at s))
+
+  few : k ≡ min 11 (length t)
+  few = count ∙ length-take 11 t
+
+  none : is_number t ≡ false → None ≡ number_at s at
+  unfolding number_at
+  none h = rw h
+
+  pub read_empty : k ≡ 0 → None ≡ number_at s at
+  read_empty h = none (none_short _ (omega (arith, few)))
+
+  pub read_long : 10 < k → None ≡ number_at s at
+  read_long h = none (none_long _ (omega (arith, few)))
+
+  -- the first digit is the byte at the place
+  first : 0 < k → drop at s ≡ get_or t 0 0 ∷ drop (at + 1) s
+  first h = go t refl
+    where
+      go : (u : List ℕ) → t ≡ u → drop at s ≡ get_or u 0 0 ∷ drop (at + 1) s
+      go [] e = absurd (omega (arith, h, few, ap length e))
+      go (b ∷ u) e =
+          let begins_with : drop at s ≡ b ∷ (u ++ drop (length t) (drop at s)) =
+          run_split (drop at s) ∙ ap (λ (x : List ℕ). x ++ drop (length t) (drop at s)) e in
+          first_has s at b (has_first s at begins_with).0
+
+  pub read_zero : 1 < k → has_byte s at 48 ≡ true → None ≡ number_at s at
+  read_zero h z =
+      let same : get_or t 0 0 ∷ drop (at + 1) s ≡ 48 ∷ drop (at + 1) s = sym (first (omega arith)) ∙ first_has s at 48 z in
+      none (none_zero _ (omega (arith, few)) (ap (λ (x : List ℕ). get_or x 0 0) same))
+
+  pub read_found : (k ≡ 0 → ⊥) → k ≤ 10 → (1 < k → has_byte s at 48 ≡ false) → Some (record { value = v; end = at + k }) ≡ number_at s at
+  unfolding number_at
+  read_found h l z =
+      let whole : take 11 t ≡ t = take_all 11 t (omega (arith, few)) in
+      let long : k ≡ length t = count ∙ ap length whole in
+      let no_zero : 1 < length t → get_or t 0 0 ≡ 48 → ⊥ =
+      λ m f. false_no _ (z (omega arith)) (true_T _ (has_first s at (first (omega arith) ∙ ap (λ (x : ℕ). x ∷ drop (at + 1) s) f)).0) in
+      let n = some_number t (run_all _) (omega arith) (omega arith) no_zero in
+      rw (value ∙ ap value_of whole, long) (sym (of_number at t n))
+
+-- no digit stands past the text
+pub read_past : (s : List ℕ) (at : ℕ) → length s < at → None ≡ number_at s at
+unfolding number_at is_number
+read_past s at h = let past : drop at s ≡ [] = let l : length s ≤ at = omega arith in drop_of_length-le s l in rw (past, run_nil)
 
 -- ---- a word at a place
 

@@ -68,7 +68,7 @@ pub fn parse_number(text: &[u8], at: usize) -> Option<Number>
     if 10 < digits.count {
         return None;
     }
-    if 1 < digits.count && rest[0] == b'0' {
+    if 1 < digits.count && has_byte(text, at, b'0') {
         return None;
     }
     Some(Number {
