@@ -37,13 +37,13 @@ module _ (N M p q n m : ℕ) (rest : List ℕ) where
     sized : outside N n ≡ false
     sized = in_range N n w.some_node w.size
 
-    pub short_starts_lem : short_starts n p ≡ true → refused 8 ≡ limits_of N M p q (n, m, rest)
+    pub starts_short : short_starts n p ≡ true → refused 8 ≡ limits_of N M p q (n, m, rest)
     unfolding limits_of
-    short_starts_lem j = rw (sized, le-ltb M m w.few, j)
+    starts_short j = rw (sized, le-ltb M m w.few, j)
 
-    pub short_neighbours : q < 2 * m → refused 8 ≡ limits_of N M p q (n, m, rest)
+    pub neighbours_short : q < 2 * m → refused 8 ≡ limits_of N M p q (n, m, rest)
     unfolding limits_of
-    short_neighbours j = rw (sized, le-ltb M m w.few, lt-ltb q (2 * m) j, or-true (ltb p (n + 1)))
+    neighbours_short j = rw (sized, le-ltb M m w.few, lt-ltb q (2 * m) j, or-true (ltb p (n + 1)))
 
     pub counted : n + 1 ≤ p → 2 * m ≤ q → answered (n, m, rest) ≡ limits_of N M p q (n, m, rest)
     unfolding counts_of

@@ -1,13 +1,14 @@
 -- What reading a link line tests; and that the lines that are left still determine the result.
 -- Assumes nothing.
 use mathlib.Core.Path.{◌≡◌, refl, sym, ap, ap₂, ◌∙◌}
-use mathlib.Core.Bool.{Bool, true, false, not, ◌&&◌, ◌||◌, and_comm, or-false}
+use mathlib.Core.Logic.{◌⊎◌, inl, inr}
+use mathlib.Core.Bool.{Bool, true, false, ◌&&◌, ◌||◌, and_comm, or-true, or-false}
 use mathlib.Core.List.{List, [], ◌∷◌}
 use mathlib.Core.Option.{Option, none as missing, some}
 use Prim.Native.Nat.{ℕ, suc, ◌+◌, ◌-◌, ◌*◌, ◌≤◌, ◌<◌}
 use native.Mathlib.Omega.{arith}
-use borrow.Author.Tests.{lt-leb, leb-false, eq-eqb, ne_eqb}
-use lib.Dec.{eqb, ltb, leb, ltb→lt}
+use borrow.Author.Tests.{lt-leb, le-leb, leb-false, eq-eqb, ne_eqb}
+use lib.Dec.{eqb, leb}
 use lib.ListN.{length, drop, replicate, length-replicate, drop_of_length-le}
 use Rattle.model.specs.Answers.{Outcome, refused, answered, map_answer, number}
 use Rattle.model.specs.declared.Refusal.{Refusal}
@@ -16,7 +17,7 @@ use Rattle.std.specs.Prelude.{if◌then◌else◌}
 use Rattle.model.specs.Graph.{Edges}
 use Rattle.model.specs.SurveyText.{line}
 use Rattle.model.specs.Reading.{named, on_links, link_of, read_on, read_links}
-use Rattle.model.proofs.Tests.{true_T, and_l, and_r, or_turned, not_and, not_ltb, of_or_false}
+use Rattle.model.proofs.Tests.{or_turned, of_or_false}
 use Rattle.model.proofs.Loops.{drop_next}
 use Rattle.model.proofs.Links.{link_taken, of_link_taken}
 use Rattle.model.proofs.Outcomes.{never}
@@ -25,18 +26,26 @@ use Rattle.base_nodeset.proofs.Bits.{eqb_same}
 use Rattle.base_nodeset.specs.Matrix.{edges_in}
 use Rattle.base_nodeset.proofs.Matrix.{edge_with, edges_none}
 use Rattle.survey_reading_lines.specs.LinesRead.{Holds, link_in, Told}
-use Rattle.survey_reading_lines.specs.declared.Links.TheVariants as links
+use Rattle.std.specs.Prelude.{Option as Found, None, Result, Ok, Err, IsErrAnd, ok_or}
 
 -- ---- one line
 
-pub both_below : {a b n : ℕ} → (ltb a n && ltb b n) ≡ true → (a < n) × (b < n)
-both_below {a} {b} {n} e =
-    let t = true_T (ltb a n && ltb b n) e in
-    (ltb→lt a n (and_l (ltb a n) (ltb b n) t), ltb→lt b n (and_r (ltb a n) (ltb b n) t))
+-- an error that `?` hands on
+pub handed_on : {A : Type 0} (r : Result A Refusal) {e : Refusal} → IsErrAnd r (λ x. x ≡ e) → r ≡ Err e
+handed_on (Ok x) h = absurd h
+handed_on (Err x) h = ap Err h
 
--- not both are below n
-one_far : (a b n : ℕ) → (ltb a n && ltb b n) ≡ false → (leb n a || leb n b) ≡ true
-one_far a b n e = ap₂ ◌||◌ (sym (not_ltb a n)) (sym (not_ltb b n)) ∙ sym (not_and (ltb a n) (ltb b n)) ∙ ap not e
+-- where no line of two numbers is found, that is the error
+pub malformed : {A B : Type 0} {o : Found B} {k e : Refusal} (r : Result A Refusal) → IsErrAnd r (λ x. x ≡ e) → o ≡ None → Err e ≡ ok_or o k → r ≡ Err k
+malformed {B = B} {k = k} {e = e} r h n v =
+    let stands : ◌≡◌ {A = Result B Refusal} (Err e) (Err k) = v ∙ ap (λ (o : Found B). ok_or o k) n in
+    let same : e ≡ k = cc in
+    handed_on r h ∙ ap Err same
+
+-- one of two nodes is n or more
+one_far : (a b n : ℕ) → (n ≤ a) ⊎ (n ≤ b) → (leb n a || leb n b) ≡ true
+one_far a b n (inl h) = rw (le-leb n a h)
+one_far a b n (inr h) = rw (le-leb n b h, or-true (leb n a))
 
 -- what reading the next line gives, by the tests that it passes
 module _ (s : List ℕ) (at n : ℕ) (E : Edges) where
@@ -54,7 +63,7 @@ module _ (s : List ℕ) (at n : ℕ) (E : Edges) where
     link_malformed l = rw (begun, l)
 
     module _ {a b : ℕ} {rest : List ℕ} (l : line 76 (drop at s) ≡ some (a, b, rest)) where
-      pub link_far : (ltb a n && ltb b n) ≡ false → refused 4 ≡ link_in n E (drop at s)
+      pub link_far : (n ≤ a) ⊎ (n ≤ b) → refused 4 ≡ link_in n E (drop at s)
       unfolding link_of
       link_far k = rw (begun, l, one_far a b n k)
 
@@ -232,9 +241,9 @@ module _ {n m : ℕ} {s : List ℕ} {at : ℕ} {ws : List ℕ} {next k : ℕ} (f
   agrees a b ha hb = p.held.says a b (omega arith) (omega arith)
 
   -- the next line is refused
-  pub progress_refused : k < m → (r : Refusal) → link_in n (edges_in ws) (drop next s) ≡ refused (number r)
-      → Told (read_links n m [] (drop at s)) (links.Refused r) ws
-  progress_refused h r e = rw (← p.rest, next_refused n p.done (edges_in ws) agrees m k h (drop next s) e) refl
+  pub progress_refused : k < m → (r : Result ℕ Refusal) (c : Refusal) → IsErrAnd r (λ x. x ≡ c) → link_in n (edges_in ws) (drop next s) ≡ refused (number c)
+      → Told (read_links n m [] (drop at s)) r ws
+  progress_refused h r c i e = rw (handed_on r i, ← p.rest, next_refused n p.done (edges_in ws) agrees m k h (drop next s) e) refl
 
   -- it is taken, and the link put into the matrix
   pub progress_taken : k < m → {a b : ℕ} (e : ℕ) (ws' : List ℕ) → link_in n (edges_in ws) (drop next s) ≡ answered (a, b, drop e s)
@@ -248,11 +257,11 @@ module _ {n m : ℕ} {s : List ℕ} {at : ℕ} {ws : List ℕ} {next k : ℕ} (f
   }
 
   -- all lines are taken, and the text goes on
-  pub progress_more : m ≤ k → next < length s → Told (read_links n m [] (drop at s)) (links.Refused LineCount) ws
+  pub progress_more : m ≤ k → next < length s → Told (read_links n m [] (drop at s)) (Err LineCount) ws
   progress_more h l = rw (← p.rest, last_more n m k p.done s next h l) refl
 
   -- or ends
-  pub progress_done : m ≤ k → length s ≤ next → Told (read_links n m [] (drop at s)) (links.Taken m) ws
+  pub progress_done : m ≤ k → length s ≤ next → Told (read_links n m [] (drop at s)) (Ok m) ws
   progress_done h l =
       rw (← p.rest, last_end n m k p.done s next h l)
-      (ap links.Taken (omega (arith, p.within, p.counted, behind_length p.done [])), behind_held p.held)
+      (ap Ok (omega (arith, p.within, p.counted, behind_length p.done [])), behind_held p.held)

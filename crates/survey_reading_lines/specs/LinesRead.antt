@@ -1,14 +1,12 @@
 -- What the first line says, the links read so far as a bit matrix, and what the next line makes of them.
 -- Assumes nothing.
-use Rattle.std.specs.Prelude.{Bool, List, [], ◌∷◌, ◌≡◌, ℕ, ◌<◌, length, drop}
+use Rattle.std.specs.Prelude.{Result, Ok, Err, Bool, List, [], ◌∷◌, ◌≡◌, ℕ, ◌<◌, length, drop}
 use Rattle.model.specs.Answers.{Outcome, refused, answered, number}
+use Rattle.model.specs.declared.Refusal.{Refusal}
 use Rattle.model.specs.SurveyText.{line}
 use Rattle.model.specs.Reading.{named, link_of}
 use Rattle.base_nodeset.specs.Matrix.{edges_in}
-use Rattle.survey_reading_lines.specs.declared.LineSays.{LineSays}
-use Rattle.survey_reading_lines.specs.declared.LineSays.TheVariants as says
-use Rattle.survey_reading_lines.specs.declared.Links.{Links}
-use Rattle.survey_reading_lines.specs.declared.Links.TheVariants as links
+use Rattle.text_reading.specs.declared.Pair.{Pair}
 
 -- a matrix with exactly these links
 pub record Holds (ws : List ℕ) (ls : List (ℕ × ℕ)) : Type 0 where
@@ -21,12 +19,12 @@ link_in n E [] = refused 7
 link_in n E (c ∷ text) = link_of n E (line 76 (c ∷ text))
 
 -- what a line of the text s says: its two numbers and the text behind it, or a refusal
-abbrev pub line_answer : List ℕ → LineSays → Outcome (ℕ × ℕ × List ℕ)
-line_answer s (says.Pair a b e) = answered (a, b, drop e s)
-line_answer s (says.Refused r) = refused (number r)
+abbrev pub line_answer : List ℕ → Result (Pair ℕ) Refusal → Outcome (ℕ × ℕ × List ℕ)
+line_answer s (Ok p) = answered (p.a, p.b, drop p.end s)
+line_answer s (Err r) = refused (number r)
 
 -- the link lines were read into the matrix, or refused
-abbrev pub Told : Outcome (List (ℕ × ℕ)) → Links → List ℕ → Type 0
-Told (answered ls) r ws = (r ≡ links.Taken (length ls)) × Holds ws ls
-Told (refused k) (links.Refused r) ws = number r ≡ k
-Told (refused k) (links.Taken m) ws = ⊥
+abbrev pub Told : Outcome (List (ℕ × ℕ)) → Result ℕ Refusal → List ℕ → Type 0
+Told (answered ls) r ws = (r ≡ Ok (length ls)) × Holds ws ls
+Told (refused k) (Err r) ws = number r ≡ k
+Told (refused k) (Ok m) ws = ⊥

@@ -4,4 +4,4 @@ use Rattle.survey_reading_lines.proofs.insert_link.Goals as goal
 
 pub returns : goal.returns
 returns c links held =
-    held_more _ _ _ _ _ c.requires.1 c.requires.2 held (c.insert-2.auto.words ∙ c.insert.auto.words) c.insert.ensures c.insert-2.ensures
+    held_more _ _ _ _ _ c.requires.0 c.requires.1 held (c.insert-2.auto.words ∙ c.insert.auto.words) c.insert.ensures c.insert-2.ensures

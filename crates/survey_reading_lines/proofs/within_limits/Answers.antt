@@ -1,29 +1,27 @@
-use mathlib.Core.Path.{sym, ◌∙◌}
+use mathlib.Core.Path.{sym}
 use borrow.Author.Tests.{ltb-false}
-use Rattle.survey_reading_lines.proofs.FirstLaws.{InLimits, no_node, many_nodes, many_links, short_starts_lem, short_neighbours, counted}
+use Rattle.survey_reading_lines.proofs.FirstLaws.{InLimits, no_node, many_nodes, many_links, starts_short, neighbours_short, counted}
 use Rattle.survey_reading_lines.proofs.within_limits.Goals as goal
+use Rattle.survey_reading_lines.proofs.within_limits.Goals.{then-line-lt1-via-then-line-lt1, then-line-lt1-via-else-line-lt1+then-limits-line, then-short_starts-via-then-short_starts, then-short_starts-via-else-short_starts+then-limits-m}
 
-pub returns-then-nodes-lt1 : goal.returns-then-nodes-lt1
-returns-then-nodes-lt1 c text = no_node _ _ _ _ _ _ _ c.if-nodes-lt1.true
+pub returns-then-line-lt1 : goal.returns-then-line-lt1
+returns-then-line-lt1 c text = elim c.then-line-lt1.branch [
+  | then-line-lt1-via-then-line-lt1 w ↦ no_node _ _ _ _ _ _ _ w.if-line-lt1.true
+  | then-line-lt1-via-else-line-lt1+then-limits-line w ↦ many_nodes _ _ _ _ _ _ _ w.if-limits-line.true
+]
 
-pub returns-then-limits-nodes : goal.returns-then-limits-nodes
-returns-then-limits-nodes c text = many_nodes _ _ _ _ _ _ _ c.if-limits-nodes.true
-
-pub returns-then-limits-links : goal.returns-then-limits-links
-returns-then-limits-links c text = many_links _ _ _ _ _ _ _ c.if-nodes-lt1.false c.if-limits-nodes.false c.if-limits-links.true
+pub returns-then-limits-line-2 : goal.returns-then-limits-line-2
+returns-then-limits-line-2 c text = many_links _ _ _ _ _ _ _ c.if-line-lt1.false c.if-limits-line.false c.if-limits-line-2.true
 
 pub returns-then-short_starts : goal.returns-then-short_starts
 returns-then-short_starts c text =
-    let in-limits : (InLimits c.args.limits.nodes c.args.limits.links c.args.nodes c.args.links) = record { some_node = c.if-nodes-lt1.false; size = c.if-limits-nodes.false; few = c.if-limits-links.false } in
-    short_starts_lem _ _ _ _ _ _ _ in-limits (sym c.short_starts.ensures ∙ c.if-short_starts.true)
-
-pub returns-then-limits-m : goal.returns-then-limits-m
-returns-then-limits-m c text =
-    let in-limits : (InLimits c.args.limits.nodes c.args.limits.links c.args.nodes c.args.links) = record { some_node = c.if-nodes-lt1.false; size = c.if-limits-nodes.false; few = c.if-limits-links.false } in
-    short_neighbours _ _ _ _ _ _ _ in-limits c.if-limits-m.true
+    let within : InLimits c.args.limits.nodes c.args.limits.links c.args.line.a c.args.line.b = record { some_node = c.if-line-lt1.false; size = c.if-limits-line.false; few = c.if-limits-line-2.false } in
+    elim c.then-short_starts.branch [
+      | then-short_starts-via-then-short_starts w ↦ starts_short _ _ _ _ _ _ _ within (sym w.if-short_starts.ensures)
+      | then-short_starts-via-else-short_starts+then-limits-m w ↦ neighbours_short _ _ _ _ _ _ _ within w.if-limits-m.true
+    ]
 
 pub returns : goal.returns
 returns c text =
-    let in-limits : (InLimits c.args.limits.nodes c.args.limits.links c.args.nodes c.args.links) = record { some_node = c.if-nodes-lt1.false; size = c.if-limits-nodes.false; few = c.if-limits-links.false } in
-    counted _ _ _ _ _ _ _ in-limits (ltb-false _ _ (sym c.short_starts.ensures ∙ c.if-short_starts.false))
-    c.if-limits-m.false
+    let within : InLimits c.args.limits.nodes c.args.limits.links c.args.line.a c.args.line.b = record { some_node = c.if-line-lt1.false; size = c.if-limits-line.false; few = c.if-limits-line-2.false } in
+    counted _ _ _ _ _ _ _ within (ltb-false _ _ (sym c.if-short_starts.ensures)) c.if-limits-m.false

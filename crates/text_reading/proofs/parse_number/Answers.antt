@@ -22,6 +22,6 @@ pub returns : goal.returns
 returns c =
     read_found _ _ c.in_ok-rest.ensures.lookup.0.2 c.min.ensures c.leading_digits-digits.ensures c.if-digits-eq0.false c.if-digits-gt10.false
     (λ l. elim c.else-digits-gt1.branch [
-      else-digits-gt1-via-then-digits-gt1+else-has_byte w ↦ sym w.if-has_byte.ensures |
-      else-digits-gt1-via-else-digits-gt1 w ↦ absurd (omega (arith, l, w.if-digits-gt1.false))
+      | else-digits-gt1-via-then-digits-gt1+else-has_byte w ↦ sym w.if-has_byte.ensures
+      | else-digits-gt1-via-else-digits-gt1 w ↦ absurd (omega (arith, l, w.if-digits-gt1.false))
     ])
