@@ -1,4 +1,4 @@
-use Rattle.walk_parts.proofs.+take_steps.Given as goal
+use Rattle.walk_parts.proofs.Part.+take_steps.Given as goal
 
 abbrev pub decreases-take_steps : goal.decreases-take_steps
 decreases-take_steps l = l.d
