@@ -1,27 +1,30 @@
-use mathlib.Core.List.{List}
-use Prim.Native.Nat.{ℕ, ◌<◌}
+use mathlib.Core.Path.{◌≡◌}
+use Prim.Native.Nat.{◌*◌, ◌<◌}
 use native.Mathlib.Omega.{arith}
 use lib.Dec.{lt→ltb}
-use lib.ListN.{get_or}
+use lib.ListN.{length, get_or, replicate, take}
+use Rattle.model.specs.Basics.{none}
 use Rattle.model.proofs.Ascending.{get_d_has}
 use Rattle.table_distances.proofs.Distances.{full_none, full_next, full_done}
+use Rattle.table_distances.proofs.fill_full.Goals.{After-fill}
 use Rattle.table_distances.proofs.fill_full.Goals as goal
 
-pub loop-i-init : goal.loop-i-init
-loop-i-init c = full_none _ _ c.requires.accepted.1 c.fill16.ensures
+filled : (c : After-fill) → c.fill.new.self ≡ replicate (length (take (c.args.survey.now.n * c.args.survey.now.n) c.args.full.now)) none
+filled c = c.fill.ensures.after (λ y same. same)
 
-pub search_row-requires-clause-source_lt_n : goal.search_row-requires-clause-source_lt_n
-search_row-requires-clause-source_lt_n c =
-    let hubs : List ℕ = c.args.hubs.now in
-    let below : get_or hubs c.loop-i.i 0 < c.args.n = c.requires.by_index _ (get_d_has hubs _ c.loop-i-test.true) in
-    (below, rw c.insert_below.ensures (lt→ltb _ _ (below)), omega arith)
+pub loop-hub-init : goal.loop-hub-init
+loop-hub-init c = full_none _ _ c.requires.room (filled (goal.at.loop-hub-init c).After-fill)
 
-pub loop-i-preserved : goal.loop-i-preserved
-loop-i-preserved c =
-    let hubs : List ℕ = c.args.hubs.now in
-    let below : get_or hubs c.loop-i.i 0 < c.args.n = c.requires.by_index _ (get_d_has hubs _ c.loop-i-test.true) in
-    full_next c.loop-i.invariant c.loop-i-test.true (below) c.insert_below.ensures
-    c.search_row.ensures
+pub search_row-requires : goal.search_row-requires
+search_row-requires c =
+    let below : get_or c.args.hubs.now c.loop-hub.hub-index 0 < c.args.survey.now.n
+    = c.requires.by_index _ (get_d_has c.args.hubs.now _ c.loop-hub-test.true) in
+    (below, rw c.insert_below.ensures (lt→ltb _ _ below), omega arith)
+
+pub loop-hub-preserved : goal.loop-hub-preserved
+loop-hub-preserved c =
+    full_next c.loop-hub.invariant c.loop-hub-test.true (c.requires.by_index _ (get_d_has c.args.hubs.now _ c.loop-hub-test.true))
+    c.insert_below.ensures c.search_row.ensures
 
 pub returns : goal.returns
-returns c = full_done _ _ c.requires.accepted.1 c.fill16.ensures c.loop-i.invariant c.loop-i-test.false
+returns c = full_done _ _ c.requires.room (filled (goal.at.returns c).After-fill) c.loop-hub.invariant (omega arith)

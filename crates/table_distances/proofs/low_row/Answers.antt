@@ -8,9 +8,10 @@ use Rattle.base_lists.proofs.TableRows.{part_length, row_put}
 use Rattle.table_distances.proofs.Distances.{distance_none}
 use Rattle.table_distances.proofs.low_row.Goals as goal
 
-pub returns : goal.returns
-returns c =
-    let size : length (mid_of (c.args.a * c.args.n) (c.args.a * c.args.n + c.args.n - c.args.a * c.args.n) c.args.low.now) ≡ c.args.n
-    = part_length _ _ _ c.requires.2 c.requires.3 in
-    row_put (_ * _) _ _ _ _ (c.fill16.auto.list ∙ size) (c.fill16.ensures ∙ ap (λ (k : ℕ). replicate k none) size
+pub returns-else-contains : goal.returns-else-contains
+returns-else-contains c =
+    let n = c.args.survey.now.n in
+    let start = c.args.a * n in
+    let size : length (mid_of start (start + n - start) c.args.low.now) ≡ n = part_length _ _ _ c.requires.0 c.requires.1 in
+    row_put start _ _ _ _ (c.fill.ensures.len ∙ size) (c.fill.ensures.after (λ y same. same) ∙ ap (λ (k : ℕ). replicate k none) size
     ∙ distance_none _ (member c.args.low_nodes.now) _ _ (sym c.contains.ensures ∙ c.if-contains.false))
