@@ -34,8 +34,8 @@ unfit = bytes "it does not fit\n"
 unfoldable pub reason : ℕ → Stop → List ℕ
 reason k x =
     if eqb k 1 then form_said x.line
-    else if eqb k 2 then nodes_most x.source x.most_nodes
-    else if eqb k 3 then links_most x.source x.most_links
+    else if eqb k 2 then nodes_most x.source x.most.nodes
+    else if eqb k 3 then links_most x.source x.most.links
     else if eqb k 4 then range_said x.first x.last
     else if eqb k 5 then bytes "a link joins two different nodes\n"
     else if eqb k 6 then bytes "the link was given before, either way round\n"
