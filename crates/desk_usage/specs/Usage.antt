@@ -4,9 +4,10 @@ use Rattle.std.specs.Prelude.{List, [], ◌∷◌, ◌++◌, ℕ}
 use Rattle.model.specs.Basics.{bytes}
 use Rattle.desk_words.specs.declared.Command.{Command}
 use Rattle.desk_words.specs.declared.Command.TheVariants.{Pair, Walk, Test, Hubs, Reports, Check, Write, Export, Import, Help}
+use Rattle.desk_words.specs.declared.WordFault.TheVariants.{NoNumber, TooMany}
 use Rattle.desk_sentences.specs.Sentences.{sentence}
 use Rattle.desk_usage.specs.declared.Fault.{Fault}
-use Rattle.desk_usage.specs.declared.Fault.TheVariants.{NoNumber, TooMany, Missing, TooLong}
+use Rattle.desk_usage.specs.declared.Fault.TheVariants.{Word, Missing, TooLong}
 
 -- where the first word is not a command
 unfoldable pub no_command : List ℕ
@@ -27,9 +28,9 @@ usage Import = bytes "import < edges.col\n"
 usage Help = bytes "help\n"
 
 unfoldable pub fault : Fault → List ℕ
-fault (NoNumber k) =
+fault (Word k NoNumber) =
     sentence (bytes "not understood: word # after the command is not a number (one to ten digits, no leading zero); usage: puxerdau ") (k ∷ [])
-fault (TooMany k) = sentence (bytes "not understood: word # after the command is one too many; usage: puxerdau ") (k ∷ [])
+fault (Word k TooMany) = sentence (bytes "not understood: word # after the command is one too many; usage: puxerdau ") (k ∷ [])
 fault Missing = bytes "not understood: a word is missing; usage: puxerdau "
 fault TooLong = bytes "not taken: the file has more than 524287 bytes (leave out comments); usage: puxerdau "
 

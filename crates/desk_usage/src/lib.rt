@@ -5,19 +5,19 @@ ghost use Rattle.std.specs.Prelude.{◌+◌, ◌≤◌, length};
 ghost use Rattle.base_lists.specs.Written.{Wrote};
 ghost use Rattle.desk_usage.specs.Usage.{no_command, usage, fault, fault_line, help};
 
-use desk_words::Command;
+use desk_words::{Command, WordFault};
 use text_writing::write_text;
 
-// What is wrong: word k is no number, or one too many; a word is missing; or the file is too long.
-#[derive(Clone, Copy)]
+// What is wrong: word k, and why; a word is missing; or the file is too long.
+#[derive(Clone, Copy, PartialEq, Eq)]
 pub enum Fault {
-    NoNumber(u64),
-    TooMany(u64),
+    Word(u64, WordFault),
     Missing,
     TooLong,
 }
 
 // Writes that the first word is not a command at a place, and returns the place after it.
+#[tactic(auto, unfolding(crate::specs::Usage::no_command, model::specs::Basics::bytes))]
 pub fn write_no_command(buf: &mut [u8], at: usize) -> usize
     requires { at + 170 ≤ length buf.old }
     ensures { Wrote buf.old buf.new at result no_command }
@@ -30,6 +30,7 @@ pub fn write_no_command(buf: &mut [u8], at: usize) -> usize
 }
 
 // Writes how a command is used at a place, and returns the place after it.
+#[tactic(auto, unfolding(crate::specs::Usage::usage, model::specs::Basics::bytes))]
 fn write_usage(buf: &mut [u8], at: usize, command: Command) -> usize
     requires { at + 60 ≤ length buf.old }
     ensures wrote { Wrote buf.old buf.new at result (usage command) }
@@ -50,19 +51,20 @@ fn write_usage(buf: &mut [u8], at: usize, command: Command) -> usize
 }
 
 // Writes what is wrong at a place, and returns the place after it.
+#[tactic(auto, unfolding(crate::specs::Usage::fault, model::specs::Basics::bytes))]
 fn write_wrong(buf: &mut [u8], at: usize, wrong: Fault) -> usize
     requires { at + 140 ≤ length buf.old }
     ensures wrote { Wrote buf.old buf.new at result (fault wrong) }
     ensures upper_bound { result ≤ at + 140 }
 {
     match wrong {
-        Fault::NoNumber(k) => desk_sentences::write_sentence(
+        Fault::Word(k, WordFault::NoNumber) => desk_sentences::write_sentence(
             buf,
             at,
             b"not understood: word # after the command is not a number (one to ten digits, no leading zero); usage: puxerdau ",
             &[k],
         ),
-        Fault::TooMany(k) => desk_sentences::write_sentence(
+        Fault::Word(k, WordFault::TooMany) => desk_sentences::write_sentence(
             buf,
             at,
             b"not understood: word # after the command is one too many; usage: puxerdau ",
@@ -94,6 +96,7 @@ pub fn write_fault(buf: &mut [u8], at: usize, wrong: Fault, command: Command) ->
 }
 
 // Writes what `help` says at a place, and returns the place after it.
+#[tactic(auto, unfolding(crate::specs::Usage::help, model::specs::Basics::bytes))]
 pub fn write_help(buf: &mut [u8], at: usize) -> usize
     requires { at + 2000 ≤ length buf.old }
     ensures { Wrote buf.old buf.new at result help }

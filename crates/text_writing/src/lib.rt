@@ -47,7 +47,7 @@ pub fn write_text(buf: &mut [u8], at: usize, text: &[u8]) -> usize
     requires { at + length text.now ≤ length buf.old }
     ensures { Wrote buf.old buf.new at result text.now }
 {
-    base_lists::copy8(text, buf, at);
+    base_lists::copy(text, buf, at);
     at + text.len()
 }
 

@@ -5,5 +5,4 @@ use Rattle.desk_usage.proofs.write_fault.Goals as goal
 
 pub returns-clause-wrote : goal.returns-clause-wrote
 unfolding fault_line
-returns-clause-wrote c =
-    wrote_then (omega (arith, c.write_usage.ensures.wrote.ends, c.write_usage.ensures.upper_bound, c.write_wrong-i.ensures.wrote.ends, c.write_wrong-i.ensures.upper_bound, c.requires)) c.write_wrong-i.ensures.wrote c.write_usage.ensures.wrote
+returns-clause-wrote c = wrote_then (omega arith) c.write_wrong-i.ensures.wrote c.write_usage.ensures.wrote
