@@ -1,13 +1,14 @@
 -- What the lines of a file are tested for; and that the lines that are left still determine the result.
 -- Assumes nothing.
 use mathlib.Core.Path.{◌≡◌, refl, sym, ap, ap₂, ◌∙◌}
+use mathlib.Core.Logic.{⊎_elim}
 use mathlib.Core.Bool.{Bool, true, false, not, ◌&&◌, ◌||◌}
 use mathlib.Core.List.{List, [], ◌∷◌, ◌++◌}
 use mathlib.Core.Option.{Option, none as missing, some}
 use Prim.Native.Nat.{ℕ, suc, ◌+◌, ◌-◌, ◌*◌, ◌≤◌, ◌<◌}
 use native.Mathlib.Omega.{arith}
-use borrow.Author.Tests.{eq-eqb, ne_eqb}
-use lib.Dec.{ltb, leb, leb→le}
+use borrow.Author.Tests.{eq-eqb, ne_eqb, le-leb, lt-leb}
+use lib.Dec.{ltb, leb}
 use lib.ListN.{length, drop, replicate, length-append}
 use Rattle.model.specs.Answers.{Outcome, refused, answered, map_answer, number}
 use Rattle.model.specs.declared.Refusal.{Refusal}
@@ -17,12 +18,17 @@ use Rattle.model.specs.Lines.{two_line}
 use Rattle.model.specs.Survey.{outside}
 use Rattle.model.specs.Reading.{limits_of, named, on_links, read_on}
 use Rattle.model.specs.Dimacs.{uncommented, edge_word, head_of, edge_of, read_edges, once_after}
-use Rattle.model.proofs.Tests.{true_T, and_l, and_r, not_leb}
+use Rattle.model.proofs.Tests.{not_leb, lt_or}
 use Rattle.model.proofs.Dimacs.{of_edge_taken}
 use Rattle.base_nodeset.specs.Matrix.{edges_in}
 use Rattle.survey_reading_lines.specs.LinesRead.{Holds, Told}
-use Rattle.survey_reading_lines.specs.declared.Links.TheVariants as links
-use Rattle.survey_reading_lines.proofs.LinkLaws.{none_held, behind, behind_length, behind_held, after, after_none}
+use Rattle.std.specs.Range.{range_inclusive_start, range_inclusive_end, range_inclusive_exhausted, range_inclusive_contains}
+use Rattle.std.specs.declared.ops.RangeInclusive.{RangeInclusive}
+use Rattle.std.specs.Ordering.{nat_cmp, is_le}
+use Rattle.std.proofs.Common.{Less, Equal, Greater}
+use Rattle.std.specs.Cmp.{nat_cmp_is}
+use Rattle.std.specs.Prelude.{Some, Result, Ok, Err, IsErrAnd}
+use Rattle.survey_reading_lines.proofs.LinkLaws.{handed_on, none_held, behind, behind_length, behind_held, after, after_none}
 use Rattle.survey_importing_lines.specs.FileLines.{Passed, without_comments}
 use Rattle.survey_importing_lines.proofs.PassingLaws.{end_passed, more_passed}
 
@@ -54,21 +60,36 @@ module _ (p q : ℕ) {o : Option (ℕ × ℕ × List ℕ)} where
 
 -- both numbers are from 1 to n
 abbrev pub near : (n a b : ℕ) → Bool
-near n a b = leb 1 a && leb a n && leb 1 b && leb b n
+near n a b = (leb 1 a && leb a n) && (leb 1 b && leb b n)
 
-pub near_both : (n a b : ℕ) → near n a b ≡ true → (1 ≤ a) × (1 ≤ b)
-near_both n a b e =
-    let t = true_T (near n a b) e in
-    let three = and_l (leb 1 a && leb a n && leb 1 b) (leb b n) t in
-    let two = and_l (leb 1 a && leb a n) (leb 1 b) three in
-    (leb→le 1 a (and_l (leb 1 a) (leb a n) two), leb→le 1 b (and_r (leb 1 a && leb a n) (leb 1 b) three))
+-- how numbers are compared in a range
+le_is : (a b : ℕ) → is_le (nat_cmp a b) ≡ leb a b
+le_is a b = ⊎_elim less (λ h. ⊎_elim greater (λ k. same (omega arith)) (lt_or b a)) (lt_or a b)
+  where
+    less : a < b → is_le (nat_cmp a b) ≡ leb a b
+    less h = rw (← nat_cmp_is a b Less h, le-leb a b (omega arith)) refl
+
+    same : a ≡ b → is_le (nat_cmp a b) ≡ leb a b
+    same h = rw (← nat_cmp_is a b Equal h, le-leb a b (omega arith)) refl
+
+    greater : b < a → is_le (nat_cmp a b) ≡ leb a b
+    greater h = rw (← nat_cmp_is a b Greater h, lt-leb a b h) refl
+
+-- the tests of the code, by a range from 1 to n
+module _ (r : RangeInclusive ℕ) (n : ℕ) (start : range_inclusive_start r ≡ 1) (end : range_inclusive_end r ≡ n) (fresh : range_inclusive_exhausted r ≡ false) where
+  in_nodes : (x : ℕ) → range_inclusive_contains (λ x y. Some (nat_cmp x y)) r x ≡ (leb 1 x && leb x n)
+  in_nodes x = rw (start, end, fresh) (ap₂ ◌&&◌ (le_is 1 x) (le_is x n))
+
+  pub near_both : (a b : ℕ) {x y : Bool} → x ≡ range_inclusive_contains (λ x y. Some (nat_cmp x y)) r a → y ≡ range_inclusive_contains (λ x y. Some (nat_cmp x y)) r b
+      → (x && y) ≡ near n a b
+  near_both a b e f = ap₂ ◌&&◌ (e ∙ in_nodes a) (f ∙ in_nodes b)
 
 near_is : (n a b : ℕ) → (outside n a || outside n b) ≡ not (near n a b)
 near_is n a b =
     ap₂ ◌||◌ (ap₂ ◌||◌ (sym (not_leb a 1)) (sym (not_leb n a))) (ap₂ ◌||◌ (sym (not_leb b 1)) (sym (not_leb n b)))
     ∙ at (leb 1 a) (leb a n) (leb 1 b) (leb b n)
   where
-    at : (p q r u : Bool) → ((not p || not q) || (not r || not u)) ≡ not (p && q && r && u)
+    at : (p q r u : Bool) → ((not p || not q) || (not r || not u)) ≡ not ((p && q) && (r && u))
     at false q r u = refl
     at true false r u = refl
     at true true false u = refl
@@ -178,9 +199,9 @@ module _ {n m : ℕ} {s : List ℕ} {at : ℕ} {ws : List ℕ} {next kept k : �
     next_read = let j : m - k ≡ suc (m - (k + 1)) = omega arith in rw j refl
 
     -- the next line is refused
-    pub progress_refused : (r : Refusal) → edge_of n (two_line edge_word 32 left) ≡ refused (number r) → Told result (links.Refused r) ws
+    pub progress_refused : (r : Result ℕ Refusal) (c : Refusal) → IsErrAnd r (λ x. x ≡ c) → edge_of n (two_line edge_word 32 left) ≡ refused (number c) → Told result r ws
     unfolding read_on after
-    progress_refused r e = rw (← p.rest, next_read, e) refl
+    progress_refused r c i e = rw (handed_on r i, ← p.rest, next_read, e) refl
 
     -- it names a link
     named_next : {a b : ℕ} {t : List ℕ} → edge_of n (two_line edge_word 32 left) ≡ answered (a, b, t)
@@ -209,15 +230,15 @@ module _ {n m : ℕ} {s : List ℕ} {at : ℕ} {ws : List ℕ} {next kept k : �
     none_left : m - k ≡ 0
     none_left = omega arith
 
-    pub progress_more : e < length s → Told result (links.Refused FileForm) ws
+    pub progress_more : e < length s → Told result (Err FileForm) ws
     unfolding read_edges after
     progress_more l = let b = more_passed c l in rw (← p.rest, none_left, b.2) refl
 
-    pub progress_done : length s ≤ e → Told result (links.Taken kept) ws
+    pub progress_done : length s ≤ e → Told result (Ok kept) ws
     unfolding read_edges after once_after
     progress_done l =
         rw (← p.rest, none_left, end_passed c l)
-        (ap links.Taken (omega (arith, p.counted, behind_length p.done [])), behind_held p.held)
+        (ap Ok (omega (arith, p.counted, behind_length p.done [])), behind_held p.held)
 
 -- an edge that is taken is between nodes below n
 pub edge_below : (n : ℕ) (o : Option (ℕ × ℕ × List ℕ)) {a b : ℕ} {rest : List ℕ} → edge_of n o ≡ answered (a, b, rest) → (a < n) × (b < n)

@@ -17,7 +17,9 @@ use Rattle.model.proofs.Tests.{lt_or}
 use Rattle.model.proofs.Lists.{none_in}
 use Rattle.model.proofs.Loops.{drop_next}
 use Rattle.model.proofs.Comments.{comment_goes, end_stays, two_uncommented, unended, first_stays}
-use Rattle.text_reading.specs.Scan.{has_byte, LineEnd}
+use Rattle.std.specs.Prelude.{Option as Found}
+use Rattle.text_reading.specs.declared.Pair.{Pair}
+use Rattle.text_reading.specs.Scan.{has_byte, LineEnd, found}
 use Rattle.text_reading.proofs.Scanning.{first_has, after_line}
 use Rattle.survey_importing_lines.specs.FileLines.{Passed, without_comments}
 
@@ -66,6 +68,11 @@ module _ {s : List ℕ} {at e : ℕ} (p : Passed s at e) where
           let none = unended word c (drop e s) n in
           let whole = ap (two_line word c) (sym (end_stays (drop e s) n)) ∙ none in
           rw (none, whole) refl
+
+  -- what is found there
+  pub line_found : (word : List ℕ) (c : ℕ) {o l : Found (Pair ℕ)} → o ≡ l → found s o ≡ two_line word c (drop e s)
+      → two_line word c (uncommented (drop at s)) ≡ map without_comments (found s l)
+  line_found word c i f = line_passed word c ∙ ap (map without_comments) (sym f ∙ ap (found s) i)
 
   -- the end of the text
   pub end_passed : length s ≤ e → uncommented (drop at s) ≡ []

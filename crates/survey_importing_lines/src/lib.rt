@@ -10,8 +10,8 @@ ghost use Rattle.survey_reading_lines.specs.LinesRead.{Holds, Told};
 ghost use Rattle.survey_importing_lines.specs.FileLines.{Passed, file_answer};
 
 use model::Refusal;
-use survey_reading_lines::{Limits, LineSays, Links};
-use text_reading::Line;
+use survey_reading_lines::Limits;
+use text_reading::Pair;
 
 // The place after the comments that begin at a place. A comment without its end is not passed.
 fn pass_comments(text: &[u8], at: usize) -> usize
@@ -28,45 +28,44 @@ fn pass_comments(text: &[u8], at: usize) -> usize
     next
 }
 
-// The first line that is no comment, for lists of some lengths.
-pub fn head_line(text: &[u8], starts: usize, neighbours: usize) -> LineSays
+// The first line that is no comment, for lists of some lengths: the counts of nodes and lines, and the place after it.
+pub fn head_line(text: &[u8], starts: usize, neighbours: usize) -> Result<Pair<usize>, Refusal>
     ensures { file_answer text.now result ≡ head_of starts neighbours (two_line head_word 32 (uncommented text.now)) }
 {
     let at = pass_comments(text, 0);
-    let Line::Pair(nodes, links, next) = text_reading::pair_at(text, at, b"p edge", b' ') else {
-        return LineSays::Refused(Refusal::FileForm);
-    };
+    let line = text_reading::pair_at(text, at, b"p edge", b' ').ok_or(Refusal::FileForm)?;
     let limits = Limits {
         nodes: 1024,
         links: 16384,
         starts,
         neighbours,
     };
-    survey_reading_lines::within_limits(nodes, links, next, limits)
+    survey_reading_lines::within_limits(line, limits)
 }
 
 // The next line from a place on that is no comment: the link that it names, its nodes numbered from 0.
-pub fn edge_at(text: &[u8], at: usize, n: usize) -> LineSays
+pub fn edge_at(text: &[u8], at: usize, n: usize) -> Result<Pair<usize>, Refusal>
     ensures { file_answer text.now result ≡ edge_of n (two_line edge_word 32 (uncommented (drop at text.now))) }
 {
     let start = pass_comments(text, at);
-    let Line::Pair(a, b, next) = text_reading::pair_at(text, start, b"e", b' ') else {
-        return LineSays::Refused(Refusal::FileForm);
-    };
-    let most = n as u64;
-    let near = (1 <= a) & (a <= most) & (1 <= b) & (b <= most);
+    let Pair { a, b, end } = text_reading::pair_at(text, start, b"e", b' ').ok_or(
+        Refusal::FileForm,
+    )?;
+    let nodes = 1..=n as u64;
+    let near = nodes.contains(&a) & nodes.contains(&b);
     if !near {
-        return LineSays::Refused(Refusal::LineNode);
+        return Err(Refusal::LineNode);
     }
     if a == b {
-        return LineSays::Refused(Refusal::EqualEnds);
+        return Err(Refusal::EqualEnds);
     }
-    LineSays::Pair((a - 1) as usize, (b - 1) as usize, next)
+    let (a, b) = ((a - 1) as usize, (b - 1) as usize);
+    Ok(Pair { a, b, end })
 }
 
 // Puts a link into the matrix, unless it is there, and returns how many links that adds.
-fn keep_link(bits: &mut [u64], a: usize, b: usize) -> usize
-    requires { (length bits.old ≡ 16384) × (a < 1024) × (b < 1024) }
+fn keep_link(bits: &mut [u64; 16384], a: usize, b: usize) -> usize
+    requires { (a < 1024) × (b < 1024) }
     ensures { (links : List (ℕ × ℕ)) → Holds bits.old links
         → (result ≡ length (once_after links ((a, b) ∷ []))) × Holds bits.new (once_after links ((a, b) ∷ []) ++ links) }
 {
@@ -77,27 +76,27 @@ fn keep_link(bits: &mut [u64], a: usize, b: usize) -> usize
     1
 }
 
-// Reads m edge lines from a place on into the empty matrix, and the end of the file behind them.
-pub fn read_edges(text: &[u8], at: usize, n: usize, m: usize, bits: &mut [u64]) -> Links
+// Reads m edge lines from a place on into the empty matrix, and the end of the file behind them; answers how many links it has.
+pub fn read_edges(
+    text: &[u8],
+    at: usize,
+    n: usize,
+    m: usize,
+    bits: &mut [u64; 16384],
+) -> Result<usize, Refusal>
     requires { (n ≤ 1024) × (bits.old ≡ replicate 16384 0) }
     ensures { Told (map_answer (once_after []) (read_edges n m (uncommented (drop at text.now)))) result bits.new }
 {
     let mut next = at;
     let mut kept = 0;
-    let mut k = 0;
-    while k < m {
-        match edge_at(text, next, n) {
-            LineSays::Refused(r) => return Links::Refused(r),
-            LineSays::Pair(a, b, e) => {
-                kept += keep_link(bits, a, b);
-                next = e;
-            }
-        }
-        k += 1;
+    for _ in 0..m {
+        let edge = edge_at(text, next, n)?;
+        kept += keep_link(bits, edge.a, edge.b);
+        next = edge.end;
     }
     let end = pass_comments(text, next);
     if end < text.len() {
-        return Links::Refused(Refusal::FileForm);
+        return Err(Refusal::FileForm);
     }
-    Links::Taken(kept)
+    Ok(kept)
 }
