@@ -1,16 +1,21 @@
 -- The nodes that the test searches from, and what the searches from them decide.
 -- Assumes nothing.
-use mathlib.Core.Path.{◌≡◌, sym, ap, ap₂, ◌∙◌}
-use mathlib.Core.Bool.{not}
-use mathlib.Core.List.{List, map}
-use Prim.Native.Nat.{ℕ, ◌+◌, ◌≤◌, ◌<◌, max}
+use mathlib.Core.Path.{◌≡◌, refl, sym, ap, ap₂, ◌∙◌}
+use mathlib.Core.Logic.{◌⊎◌, inl, inr}
+use mathlib.Core.Bool.{Bool, true, false, not, ◌||◌}
+use mathlib.Core.List.{List, [], ◌∷◌, map}
+use Prim.Native.Nat.{ℕ, zero, suc, ◌+◌, ◌≤◌, ◌<◌, max}
 use native.Mathlib.Omega.{arith}
-use borrow.Author.Tests.{eq-eqb, ne_eqb, le-leb, lt-leb}
-use lib.ListN.{length, get_or}
+use borrow.Author.Tests.{eq-eqb, ne_eqb, le-leb, lt-leb, lt-ltb, le-ltb}
+use native.Mathlib.Numerals.{add-one}
+use lib.Dec.{T, eqb, ltb, leb}
+use lib.ListN.{length}
+use Rattle.std.specs.Prelude.{if◌then◌else◌, Option, Some, None}
+use Rattle.std.specs.List.{find, range_with_len}
 use Rattle.model.specs.declared.Verdict.{Verdict}
 use Rattle.model.specs.declared.TestResult.{TestResult}
 use Rattle.model.specs.Answers.{Outcome}
-use Rattle.model.specs.Basics.{none, up_to, first_of}
+use Rattle.model.specs.Basics.{none, up_to, from, has, first_of}
 use Rattle.model.specs.Graph.{fewest, linked}
 use Rattle.model.specs.Survey.{Graph}
 use Rattle.model.specs.Tables.{rows_of}
@@ -19,12 +24,10 @@ use Rattle.model.specs.Demand.{TestRight}
 use Rattle.model.specs.Hubs.{is_high, is_low, closed, hubs}
 use Rattle.model.specs.TwoOrFour.{sources, test_result}
 use Rattle.model.proofs.Demand.{testing_right}
-use Rattle.model.proofs.Outcomes.{promised}
-use Rattle.model.proofs.Lists.{First, found, nothing, first_of_lem, length_up_to}
-use Rattle.model.proofs.Entries.{get_d_up_to}
-use Rattle.model.proofs.Loops.{Searched, searched_found, searched_more, searched_all}
+use Rattle.model.proofs.Lists.{of_up_to}
+use Rattle.model.proofs.Tests.{lt_or, or_r}
 use Rattle.search_depths.specs.Depth.{greatest}
-use Rattle.search_depths.proofs.Depths.{greatest_first}
+use Rattle.search_depths.proofs.Depths.{deepest_first}
 use Rattle.answer_two_or_four.specs.DepthVerdict.{of_depth, of_searches}
 use Rattle.answer_two_or_four.proofs.DepthVerdict.{verdict_is}
 
@@ -46,52 +49,70 @@ pub closed_depth : (n : ℕ) (G : Graph) (v : ℕ) {own : List ℕ} {first d : �
     → d ≡ greatest (rows_of n (fewest (linked n G) n) (closed G v))
 unfolding closed
 closed_depth n G v o e q =
-    omega (arith, ap (λ (l : List ℕ). greatest (rows_of n (fewest (linked n G) n) l)) o, greatest_first n G v (G v))
+    omega (arith, ap (λ (l : List ℕ). greatest (rows_of n (fewest (linked n G) n) l)) o, deepest_first n G v (G v))
 
 pub closed_count : (G : Graph) (v : ℕ) {own : List ℕ} → own ≡ G v → 1 + length own ≡ length (closed G v)
 unfolding closed
 closed_count G v o = omega (arith, ap length o)
 
--- ---- the smallest low node: no node below v is low
+-- ---- the smallest low node, if there is one
 
-module _ (n s : ℕ) (G : Graph) {v : ℕ} (w : Searched (is_low s G) none (up_to n) v) where
-  at_v : v < n → is_low s G (get_or (up_to n) v 0) ≡ is_low s G v
-  at_v h = ap (is_low s G) (get_d_up_to n v 0 h)
+numbers : (k m : ℕ) → range_with_len k m ≡ from k m
+unfolding from
+numbers k zero = refl
+numbers k (suc m) = ap (λ (l : List ℕ). k ∷ l) (rw add-one (numbers (suc k) m))
 
-  in_list : v < n → v < length (up_to n)
-  in_list h = rw length_up_to h
+pub numbers_below : (n : ℕ) → range_with_len 0 n ≡ up_to n
+unfolding up_to
+numbers_below n = numbers 0 n
 
-  pub low_found : v < n → length (G v) < s → v ≡ first_of (is_low s G) none (up_to n)
-  unfolding is_low is_high
-  low_found h l =
-      sym (get_d_up_to n v 0 h) ∙ searched_found (is_low s G) none (up_to n) v w (in_list h) (at_v h ∙ ap not (lt-leb s (length (G v)) l))
+pub is_low_at : (s : ℕ) (G : Graph) (v : ℕ) → ltb (length (G v)) s ≡ is_low s G v
+unfolding is_low is_high
+is_low_at s G v = at (lt_or (length (G v)) s)
+  where
+    at : (length (G v) < s) ⊎ (s ≤ length (G v)) → ltb (length (G v)) s ≡ not (leb s (length (G v)))
+    at (inl h) = rw (lt-ltb (length (G v)) s h, lt-leb s (length (G v)) h)
+    at (inr h) = rw (le-ltb (length (G v)) s h, le-leb s (length (G v)) h)
 
-  pub low_more : v < n → s ≤ length (G v) → Searched (is_low s G) none (up_to n) (v + 1)
-  unfolding is_low is_high
-  low_more h l = searched_more (is_low s G) none (up_to n) v w (in_list h) (at_v h ∙ ap not (le-leb s (length (G v)) l))
+module _ (p : ℕ → Bool) (d : ℕ) where
+  -- what is found is the first one, and is in the list
+  first_found : (l : List ℕ) {v : ℕ} → find p l ≡ Some v → (first_of p d l ≡ v) × T (has v l)
+  unfolding first_of has
+  first_found [] e = absurd (cc)
+  first_found (x ∷ l) {v} e = at (p x) (λ f. first_found l f) e
+    where
+      at : (b : Bool) → (find p l ≡ Some v → (first_of p d l ≡ v) × T (has v l)) → (if b then Some x else find p l) ≡ Some v
+          → ((if b then x else first_of p d l) ≡ v) × T (eqb v x || has v l)
+      at true rest e = let same : x ≡ v = cc in (same, rw (eq-eqb v x (sym same)) tt)
+      at false rest e = ((rest e).0, or_r (eqb v x) (has v l) (rest e).1)
 
-  pub low_none : n ≤ v → none ≡ first_of (is_low s G) none (up_to n)
-  low_none h = searched_all (is_low s G) none (up_to n) v w (rw length_up_to h)
+  first_missed : (l : List ℕ) → find p l ≡ None → first_of p d l ≡ d
+  unfolding first_of
+  first_missed [] e = refl
+  first_missed (x ∷ l) e = at (p x) (first_missed l) e
+    where
+      at : (b : Bool) → (find p l ≡ None → first_of p d l ≡ d) → (if b then Some x else find p l) ≡ None → (if b then x else first_of p d l) ≡ d
+      at true rest e = absurd (cc)
+      at false rest e = rest e
 
 -- ---- the sources: the smallest low node and its neighbours, or the hubs
 
-module _ (n s : ℕ) (G : Graph) {v : ℕ} (e : v ≡ first_of (is_low s G) none (up_to n)) where
-  pub sources_hubs : v ≡ none → of_searches n G (hubs n s G) ≡ test_result n s G
+module _ (n s : ℕ) (G : Graph) where
+  pub sources_hubs : find (is_low s G) (up_to n) ≡ None → of_searches n G (hubs n s G) ≡ test_result n s G
   unfolding test_result sources
-  sources_hubs h = rw (← e, eq-eqb v none h)
+  sources_hubs e = rw (first_missed (is_low s G) none (up_to n) e)
 
-  pub sources_low : (v ≡ none → ⊥) → of_searches n G (closed G v) ≡ test_result n s G
-  unfolding test_result sources
-  sources_low h = rw (← e, ne_eqb v none h)
+  module _ {v : ℕ} (e : find (is_low s G) (up_to n) ≡ Some v) where
+    pub low_below : v < n
+    low_below = of_up_to n v (first_found (is_low s G) none (up_to n) e).1
 
-  pub low_below : (v ≡ none → ⊥) → v < n
-  low_below h = at (first_of_lem _ _ _ e)
-    where
-      at : First (is_low s G) none 0 n v → v < n
-      at (found lo hi t least) = omega arith
-      at (nothing q miss) = absurd (h q)
+    pub sources_low : n ≤ 1024 → of_searches n G (closed G v) ≡ test_result n s G
+    unfolding test_result sources
+    sources_low size =
+        let below : v < n = low_below in
+        rw ((first_found (is_low s G) none (up_to n) e).0, ne_eqb v none (λ h. omega arith))
 
 -- an answer by the rules is right
-pub tested : {n t : ℕ} {starts neighbours : List ℕ} {o : Outcome TestResult}
-    → o ≡ testing n t starts neighbours → (o ≡ testing n t starts neighbours) × TestRight n t starts neighbours o
-tested {n} {t} {starts} {neighbours} e = promised (TestRight n t starts neighbours) (testing_right _ _ _ _) e
+pub test_right : (n t : ℕ) (starts neighbours : List ℕ) (o : Outcome TestResult)
+    → o ≡ testing n t starts neighbours → TestRight n t starts neighbours o
+test_right n t starts neighbours o e = rw e (testing_right n t starts neighbours)

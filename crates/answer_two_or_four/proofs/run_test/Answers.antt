@@ -1,12 +1,12 @@
-use mathlib.Core.Path.{◌∙◌}
+use mathlib.Core.Path.{sym, ◌∙◌}
 use Rattle.answer_two_or_four.proofs.Sources.{sources_hubs, sources_low, low_below}
 use Rattle.answer_two_or_four.proofs.run_test.Goals as goal
 
-pub returns-then-v : goal.returns-then-v
-returns-then-v c = c.test_hubs.ensures ∙ sources_hubs _ _ _ c.smallest_low-v.ensures c.if-v.true
-
 pub test_from-requires : goal.test_from-requires
-test_from-requires c = (c.requires, low_below _ _ _ c.smallest_low-v.ensures c.if-v.false)
+test_from-requires c = low_below _ _ _ (sym c.smallest_low.ensures ∙ c.in-Some.is)
 
-pub returns : goal.returns
-returns c = c.test_from.ensures ∙ sources_low _ _ _ c.smallest_low-v.ensures c.if-v.false
+pub returns-in-Some : goal.returns-in-Some
+returns-in-Some c = c.test_from.ensures ∙ sources_low _ _ _ (sym c.smallest_low.ensures ∙ c.in-Some.is) c.args.survey.now.accepted.size
+
+pub returns-in-None : goal.returns-in-None
+returns-in-None c = c.test_hubs.ensures ∙ sources_hubs _ _ _ (sym c.smallest_low.ensures ∙ c.in-None.is)

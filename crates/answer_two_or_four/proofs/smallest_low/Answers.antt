@@ -1,14 +1,18 @@
-use mathlib.Core.Path.{ap}
+use mathlib.Core.Path.{◌≡◌, refl, sym, ap, ◌∙◌}
 use native.Mathlib.Omega.{arith}
-use lib.ListN.{length}
-use Rattle.answer_two_or_four.proofs.Sources.{low_found, low_more, low_none}
+use borrow.Author.Rules.{rules}
+use Rattle.std.proofs.lemmas.Iterator.{YieldsList-from_range}
+use Rattle.std.proofs.lemmas.Iterator.Adapters.{option_map_id}
+use Rattle.std.proofs.lemmas.Iterator.Search.{find_from_yields_List}
+use Rattle.std.specs.List.{find}
+use Rattle.model.specs.Hubs.{is_low}
+use Rattle.survey_neighbours.specs.SurveyGraph.{graph}
+use Rattle.answer_two_or_four.proofs.Sources.{numbers_below, is_low_at}
 use Rattle.answer_two_or_four.proofs.smallest_low.Goals as goal
 
-pub returns-then-own-s : goal.returns-then-own-s
-returns-then-own-s c = low_found _ _ _ c.loop-v.invariant c.loop-v-test.true (omega (arith, ap length c.own-own.ensures))
-
-pub loop-v-preserved : goal.loop-v-preserved
-loop-v-preserved c = low_more _ _ _ c.loop-v.invariant c.loop-v-test.true (omega (arith, ap length c.own-own.ensures))
-
 pub returns : goal.returns
-returns c = low_none _ _ _ c.loop-v.invariant c.loop-v-test.false
+returns c =
+    let low = is_low c.args.s (graph c.args.survey.now) in
+    let found = find_from_yields_List low _ _ c.find.result c.find.ensures.ran
+    (YieldsList-from_range 0 c.args.survey.now.n c.args.survey.now.n refl (omega arith)) (λ x b q k. let low_is = is_low_at c.args.s (graph c.args.survey.now) x in search rules) in
+    sym (option_map_id c.find.result) ∙ found ∙ ap (find low) (numbers_below c.args.survey.now.n)
