@@ -1,4 +1,4 @@
-use mathlib.Core.Path.{◌≡◌, refl, sym, ap, ◌∙◌}
+use mathlib.Core.Path.{refl, sym, ap, ◌∙◌}
 use native.Mathlib.Omega.{arith}
 use borrow.Author.Rules.{rules}
 use Rattle.std.proofs.lemmas.Iterator.{YieldsList-from_range}
@@ -13,6 +13,7 @@ use Rattle.answer_two_or_four.proofs.smallest_low.Goals as goal
 pub returns : goal.returns
 returns c =
     let low = is_low c.args.s (graph c.args.survey.now) in
-    let found = find_from_yields_List low _ _ c.find.result c.find.ensures.ran
-    (YieldsList-from_range 0 c.args.survey.now.n c.args.survey.now.n refl (omega arith)) (λ x b q k. let low_is = is_low_at c.args.s (graph c.args.survey.now) x in search rules) in
+    let at = is_low_at c.args.s (graph c.args.survey.now) in
+    let nodes = YieldsList-from_range 0 c.args.survey.now.n c.args.survey.now.n refl (omega arith) in
+    let found = find_from_yields_List low _ _ c.find.result c.find.ensures.ran nodes (λ x b q k. let low_is = at x in search rules) in
     sym (option_map_id c.find.result) ∙ found ∙ ap (find low) (numbers_below c.args.survey.now.n)
