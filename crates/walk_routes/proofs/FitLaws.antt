@@ -19,7 +19,9 @@ use Rattle.model.specs.Walking.{AfterWalking, refuse_walk, fit}
 use Rattle.model.proofs.Walks.{fit_short, fit_long}
 use Rattle.base_lists.specs.Written.{Wrote}
 use Rattle.base_lists.proofs.Written.{wrote_then, wrote_over}
-use Rattle.walk_parts.specs.Parts.{PartIs}
+use Rattle.walk_parts.specs.Found.{PartIs}
+use Rattle.walk_routes.specs.Blank.{IsBlank}
+use Rattle.std.specs.Prelude.{Option as Count, None, Some}
 
 -- ---- lists
 
@@ -48,16 +50,22 @@ pub record Found (o : Option (List ℕ)) (count : ℕ) (nodes : List ℕ) : Type
   pub some_node : 1 ≤ count
   pub front : take count nodes ≡ reverse part
 
-pub found : {n count : ℕ} {o : Option (List ℕ)} {old new : List ℕ} → PartIs n o count old new → (count ≡ 0 → ⊥) → Found o count new
+pub missed : {n : ℕ} {o : Option (List ℕ)} {count : Count ℕ} {old new : List ℕ} → PartIs n o count old new → count ≡ None → o ≡ missing
+missed {o = missing} p e = refl
+missed {o = some l} p e = let q = p.counted in cc
+
+pub found : {n k : ℕ} {o : Option (List ℕ)} {count : Count ℕ} {old new : List ℕ} → PartIs n o count old new → count ≡ Some k → Found o k new
 unfolding over
-found {o = missing} p f = absurd (f p.counted)
-found {count = count} {o = some l} {old = old} p f = record {
-  part = l;
-  is = refl;
-  counted = p.counted;
-  some_node = omega arith;
-  front = ap (take count) p.left ∙ take_at _ _ _ (length-reverse l ∙ sym p.counted);
-}
+found {o = missing} p e = let q = p.counted in cc
+found {k = k} {o = some l} {old = old} p e =
+    let counted : k ≡ length l = let q = p.counted in cc in
+    record {
+      part = l;
+      is = refl;
+      counted = counted;
+      some_node = (rw e at p.some_few).0;
+      front = ap (take k) p.left ∙ take_at _ _ _ (length-reverse l ∙ sym counted);
+    }
 
 module _ {o : Option (List ℕ)} {count : ℕ} {nodes : List ℕ} (f : Found o count nodes) where
   turned : reverse (take count nodes) ≡ f.part
@@ -115,7 +123,7 @@ two_set (x ∷ y ∷ l) a b h = refl
 abbrev pub outcome : Outcome Answer → List ℕ → AfterWalking
 outcome o l = record { answer = o; walk = l }
 
-module _ {list : List ℕ} (blank : list ≡ replicate (length list) none) (x : Answer) where
+module _ {list : List ℕ} (blank : IsBlank list) (x : Answer) where
   pub none_refused : {o : Option (List ℕ)} → o ≡ missing → outcome (refused 11) list ≡ fit (length list) x o
   unfolding fit refuse_walk
   none_refused e = rw e (ap (outcome (refused 11)) blank)

@@ -1,103 +1,89 @@
 // The walk of a route: by a link, over low nodes, or through a hub.
 #![tactic(auto)]
 
-ghost use Rattle.std.specs.Prelude.{◌≡◌, ◌*◌, ◌≤◌, ◌<◌, length, replicate};
-ghost use Rattle.model.specs.Basics.{none};
-ghost use Rattle.model.specs.Survey.{neighbours_of, Accepted};
+ghost use Rattle.std.specs.Prelude.{◌≡◌, ◌*◌, ◌≤◌, ◌<◌, length};
 ghost use Rattle.model.specs.Walk.{by_link, by_low, to_hub, join};
 ghost use Rattle.model.specs.Walking.{walk_returned, fit};
+ghost use Rattle.survey_neighbours.specs.SurveyGraph.{graph};
+ghost use Rattle.walk_routes.specs.Blank.{IsBlank};
 
-use model::{Answer, Asking, Refusal};
+use model::{Answer, Refusal};
+use survey_neighbours::Survey;
 
 // Writes the walk along the link into a list that is all none: the two nodes. The link is judged before the list's length.
 pub fn write_link(
-    n: usize,
-    starts: &[u32],
-    neighbours: &[u16],
+    survey: &Survey<'_>,
     a: usize,
     b: usize,
     answer: Answer,
     walk: &mut [u16],
-) -> Asking
-    requires accepted { Accepted n starts.now neighbours.now × (a < n) × (b < n) }
-    requires walk_value { walk.old ≡ replicate (length walk.old) none }
-    ensures { walk_returned result walk.new ≡ fit (length walk.old) answer
-        (by_link n (neighbours_of starts.now neighbours.now) a b) }
+) -> Result<Answer, Refusal>
+    requires nodes { (a < survey.now.n) × (b < survey.now.n) }
+    requires blank { IsBlank walk.old }
+    ensures { walk_returned result walk.new ≡ fit (length walk.old) answer (by_link survey.now.n (graph survey.now) a b) }
 {
-    let linked = survey_neighbours::are_linked(n, starts, neighbours, a, b);
-    let fits = 2 <= walk.len();
+    let linked = survey.are_linked(a, b);
     if !linked {
-        return Asking::Refused(Refusal::NotAttained);
+        return Err(Refusal::NotAttained);
     }
-    if !fits {
-        return Asking::Refused(Refusal::ShortList);
+    if walk.len() < 2 {
+        return Err(Refusal::ShortList);
     }
     walk[0] = a as u16;
     walk[1] = b as u16;
-    Asking::Answered(answer)
+    Ok(answer)
 }
 
 // Writes the walk over nodes that are low for threshold s into a list that is all none. The steps are judged before the list's length.
 pub fn write_low(
-    n: usize,
+    survey: &Survey<'_>,
     s: usize,
-    starts: &[u32],
-    neighbours: &[u16],
     low: &[u16],
     a: usize,
     b: usize,
     answer: Answer,
     walk: &mut [u16],
-) -> Asking
-    requires accepted { Accepted n starts.now neighbours.now × (n * n ≤ length low.now) × (a < n) × (b < n) }
-    requires walk_value { walk.old ≡ replicate (length walk.old) none }
+) -> Result<Answer, Refusal>
+    requires nodes { (survey.now.n * survey.now.n ≤ length low.now) × (a < survey.now.n) × (b < survey.now.n) }
+    requires blank { IsBlank walk.old }
     ensures { walk_returned result walk.new ≡ fit (length walk.old) answer
-        (by_low n s (neighbours_of starts.now neighbours.now) low.now a b) }
+        (by_low survey.now.n s (graph survey.now) low.now a b) }
 {
-    let mut nodes = [0u16; 1024];
-    let count = walk_parts::low_part(n, s, starts, neighbours, low, a, b, &mut nodes);
-    if count == 0 {
-        return Asking::Refused(Refusal::NotAttained);
-    }
+    let mut nodes = [0; 1024];
+    let part = walk_parts::low_part(survey, s, low, a, b, &mut nodes);
+    let count = part.ok_or(Refusal::NotAttained)?;
     if walk.len() < count {
-        return Asking::Refused(Refusal::ShortList);
+        return Err(Refusal::ShortList);
     }
-    base_lists::copy16_reversed(&nodes[..count], walk);
-    Asking::Answered(answer)
+    base_lists::copy_reversed(&nodes[..count], walk);
+    Ok(answer)
 }
 
 // Writes the walk through hub h into a list that is all none: the part from a to h, then the one from b to h turned round, without h.
 pub fn write_through(
-    n: usize,
-    starts: &[u32],
-    neighbours: &[u16],
+    survey: &Survey<'_>,
     full: &[u16],
     a: usize,
     b: usize,
     h: usize,
     answer: Answer,
     walk: &mut [u16],
-) -> Asking
-    requires accepted { Accepted n starts.now neighbours.now × (n * n ≤ length full.now) × (a < n) × (b < n) × (h < n) }
-    requires walk_value { walk.old ≡ replicate (length walk.old) none }
+) -> Result<Answer, Refusal>
+    requires nodes { (survey.now.n * survey.now.n ≤ length full.now) × (a < survey.now.n) × (b < survey.now.n) × (h < survey.now.n) }
+    requires blank { IsBlank walk.old }
     ensures { walk_returned result walk.new ≡ fit (length walk.old) answer
-        (join (to_hub n (neighbours_of starts.now neighbours.now) full.now h a)
-        (to_hub n (neighbours_of starts.now neighbours.now) full.now h b)) }
+        (join (to_hub survey.now.n (graph survey.now) full.now h a) (to_hub survey.now.n (graph survey.now) full.now h b)) }
 {
-    let mut there = [0u16; 1024];
-    let i = walk_parts::hub_part(n, starts, neighbours, full, h, a, &mut there);
-    if i == 0 {
-        return Asking::Refused(Refusal::NotAttained);
-    }
-    let mut back = [0u16; 1024];
-    let j = walk_parts::hub_part(n, starts, neighbours, full, h, b, &mut back);
-    if j == 0 {
-        return Asking::Refused(Refusal::NotAttained);
-    }
+    let mut there = [0; 1024];
+    let first = walk_parts::hub_part(survey, full, h, a, &mut there);
+    let i = first.ok_or(Refusal::NotAttained)?;
+    let mut back = [0; 1024];
+    let second = walk_parts::hub_part(survey, full, h, b, &mut back);
+    let j = second.ok_or(Refusal::NotAttained)?;
     if walk.len() < i + j - 1 {
-        return Asking::Refused(Refusal::ShortList);
+        return Err(Refusal::ShortList);
     }
-    base_lists::copy16_reversed(&there[..i], walk);
-    base_lists::copy16(&back[1..j], walk, i);
-    Asking::Answered(answer)
+    base_lists::copy_reversed(&there[..i], walk);
+    base_lists::copy(&back[1..j], walk, i);
+    Ok(answer)
 }
