@@ -22,8 +22,8 @@ use Rattle.model.proofs.Dimacs.{head_free, edge_free, of_edge_taken, of_head_tak
 use Rattle.model.proofs.Outcomes.{never}
 use Rattle.base_nodeset.specs.Matrix.{edges_in}
 use Rattle.survey_reading_lines.specs.LinesRead.{Holds, link_in, line_answer}
-use Rattle.survey_reading_lines.specs.declared.LineSays.{LineSays}
-use Rattle.survey_reading_lines.specs.declared.LineSays.TheVariants as says
+use Rattle.std.specs.Prelude.{Result, Ok, Err}
+use Rattle.text_reading.specs.declared.Pair.{Pair}
 use Rattle.survey_reading_lines.proofs.LinkLaws.{none_held, judged}
 use Rattle.survey_importing_lines.specs.FileLines.{file_answer}
 use Rattle.survey_stops.specs.Stops.{stop_or, nodes_in, line_feeds, lines_before, line_at, LinesTaken, first_says, links_stop, read_stop}
@@ -105,9 +105,12 @@ module _ {n m : ℕ} {s : List ℕ} {at : ℕ} {ws : List ℕ} {next k : ℕ} (f
   }
 
   -- all lines are taken
-  pub taking_done : m ≤ k → LinesTaken m k (drop at s) (links_stop n m [] (drop at s))
+  pub taking_done : m ≤ k → LinesTaken m m (drop at s) (links_stop n m [] (drop at s))
   unfolding links_stop
-  taking_done h = let z : m - k ≡ 0 = omega arith in record { few = p.within; feeds = rw (← p.stop, z) p.feeds }
+  taking_done h =
+      let z : m - k ≡ 0 = omega arith in
+      let all : k ≡ m = omega (arith, p.within) in
+      record { few = omega arith; feeds = rw (← p.stop, z, ← all) p.feeds }
 
 -- ---- edge lines
 
@@ -139,69 +142,72 @@ module _ {n m : ℕ} {s : List ℕ} {at next k : ℕ} (p : TakingEdges n m s at 
   pub edges_refused : k < m → {c : ℕ} → edge_of n (two_line edge_word 32 left) ≡ refused c → Counted
   edges_refused h e = record { few = p.within; feeds = rw (← p.stop, next_edge h, e) p.feeds }
 
-  pub edges_taken_lem : k < m → {a b : ℕ} (e : ℕ) → edge_of n (two_line edge_word 32 left) ≡ answered (a, b, uncommented (drop e s))
+  pub edges_on : k < m → {a b : ℕ} (e : ℕ) → edge_of n (two_line edge_word 32 left) ≡ answered (a, b, uncommented (drop e s))
       → TakingEdges n m s at e (k + 1)
-  edges_taken_lem h e l = record {
+  edges_on h e l = record {
     within = omega arith;
     stop = sym (next_edge h ∙ rw l refl) ∙ p.stop;
     feeds = omega (arith, edge_feed _ left l, p.feeds);
   }
 
-  pub edges_done : m ≤ k → Counted
+  pub edges_done : m ≤ k → LinesTaken m m (uncommented (drop at s)) (edges_stop n m (uncommented (drop at s)))
   unfolding edges_stop
-  edges_done h = let z : m - k ≡ 0 = omega arith in record { few = p.within; feeds = rw (← p.stop, z) p.feeds }
+  edges_done h =
+      let z : m - k ≡ 0 = omega arith in
+      let all : k ≡ m = omega (arith, p.within) in
+      record { few = omega arith; feeds = rw (← p.stop, z, ← all) p.feeds }
 
 -- ---- the whole text
 
 -- by what the first line of a survey text says
-module _ (N M : ℕ) (text : List ℕ) (w : LineSays) (told : line_answer text w ≡ first_says N M text) where
+module _ (N M : ℕ) (text : List ℕ) (w : Result (Pair ℕ) Refusal) (told : line_answer text w ≡ first_says N M text) where
   -- where it stops, and its count of nodes
   abbrev pub ReadPlace : (line nodes : ℕ) → Type 0
   ReadPlace line nodes = (line ≡ line_at text (read_stop N M text)) × (nodes ≡ nodes_in (first_says N M text))
 
-  pub first_refused : {r : Refusal} → w ≡ says.Refused r → ReadPlace 1 0
+  pub first_refused : {r : Refusal} → w ≡ Err r → ReadPlace 1 0
   unfolding read_stop
   first_refused e = rw (← told, e) (omega arith, refl)
 
-  module _ {n m at : ℕ} (e : w ≡ says.Pair n m at) where
-    first_says_lem : first_says N M text ≡ answered (n, m, drop at text)
-    first_says_lem = sym told ∙ rw e refl
+  module _ {p : Pair ℕ} (e : w ≡ Ok p) where
+    first_answered : first_says N M text ≡ answered (p.a, p.b, drop p.end text)
+    first_answered = sym told ∙ rw e refl
 
-    taken : (line 83 text ≡ some (n, m, drop at text)) × Within N M 1025 32768 n m
-    taken = of_first_taken N M 1025 32768 (line 83 text) (n, m, drop at text) first_says_lem
+    taken : (line 83 text ≡ some (p.a, p.b, drop p.end text)) × Within N M 1025 32768 p.a p.b
+    taken = of_first_taken N M 1025 32768 (line 83 text) (p.a, p.b, drop p.end text) first_answered
 
-    pub first_within : Within N M 1025 32768 n m
+    pub first_within : Within N M 1025 32768 p.a p.b
     first_within = taken.1
 
-    pub first_read : {k : ℕ} → LinesTaken m k (drop at text) (links_stop n m [] (drop at text)) → ReadPlace (2 + k) n
+    pub first_read : {k : ℕ} → LinesTaken p.b k (drop p.end text) (links_stop p.a p.b [] (drop p.end text)) → ReadPlace (2 + k) p.a
     unfolding read_stop
-    first_read t = rw first_says_lem (omega (arith, t.feeds, letter_feed 83 (λ i. omega arith) text taken.0), refl)
+    first_read t = rw first_answered (omega (arith, t.feeds, letter_feed 83 (λ i. omega arith) text taken.0), refl)
 
 -- by what the first line of a file says
-module _ (text : List ℕ) (w : LineSays) (told : file_answer text w ≡ head_says (uncommented text)) where
+module _ (text : List ℕ) (w : Result (Pair ℕ) Refusal) (told : file_answer text w ≡ head_says (uncommented text)) where
   -- the line after k lines that are no comments is where it stops, with its count of nodes
   abbrev pub FilePlace : (k nodes : ℕ) → Type 0
   FilePlace k nodes = (kept_line k (split 10 text) ≡ file_line text) × (nodes ≡ nodes_in (head_says (uncommented text)))
 
-  pub head_refused : {r : Refusal} → w ≡ says.Refused r → FilePlace 0 0
+  pub head_refused : {r : Refusal} → w ≡ Err r → FilePlace 0 0
   unfolding file_line file_stop
   head_refused e =
       let z : 0 ≡ line_feeds (uncommented text) - line_feeds (uncommented text) = omega arith in
       rw (← told, e) (rw (← z) refl, refl)
 
-  module _ {n m at : ℕ} (e : w ≡ says.Pair n m at) where
-    head_says_lem : head_says (uncommented text) ≡ answered (n, m, uncommented (drop at text))
-    head_says_lem = sym told ∙ rw e refl
+  module _ {p : Pair ℕ} (e : w ≡ Ok p) where
+    head_answered : head_says (uncommented text) ≡ answered (p.a, p.b, uncommented (drop p.end text))
+    head_answered = sym told ∙ rw e refl
 
-    head : (two_line head_word 32 (uncommented text) ≡ some (n, m, uncommented (drop at text))) × Within 1024 16384 1025 32768 n m
-    head = of_head_taken 1025 32768 (two_line head_word 32 (uncommented text)) (n, m, uncommented (drop at text)) head_says_lem
+    head : (two_line head_word 32 (uncommented text) ≡ some (p.a, p.b, uncommented (drop p.end text))) × Within 1024 16384 1025 32768 p.a p.b
+    head = of_head_taken 1025 32768 (two_line head_word 32 (uncommented text)) (p.a, p.b, uncommented (drop p.end text)) head_answered
 
-    pub head_within : Within 1024 16384 1025 32768 n m
+    pub head_within : Within 1024 16384 1025 32768 p.a p.b
     head_within = head.1
 
-    pub head_read : {k : ℕ} → LinesTaken m k (uncommented (drop at text)) (edges_stop n m (uncommented (drop at text))) → FilePlace (1 + k) n
+    pub head_read : {k : ℕ} → LinesTaken p.b k (uncommented (drop p.end text)) (edges_stop p.a p.b (uncommented (drop p.end text))) → FilePlace (1 + k) p.a
     unfolding file_line file_stop
     head_read {k} t =
         let feeds = one_feed head_word 32 head_free (λ i. omega arith) (uncommented text) head.0 in
-        let before : 1 + k ≡ lines_before (uncommented text) (edges_stop n m (uncommented (drop at text))) = omega (arith, t.feeds) in
-        rw head_says_lem (ap (λ (j : ℕ). kept_line j (split 10 text)) before, refl)
+        let before : 1 + k ≡ lines_before (uncommented text) (edges_stop p.a p.b (uncommented (drop p.end text))) = omega (arith, t.feeds) in
+        rw head_answered (ap (λ (j : ℕ). kept_line j (split 10 text)) before, refl)

@@ -8,7 +8,7 @@ ghost use Rattle.model.specs.Dimacs.{uncommented};
 ghost use Rattle.survey_stops.specs.Stops.{LinesTaken, nodes_in, line_at, first_says, links_stop, read_stop};
 ghost use Rattle.survey_stops.specs.Stops.{head_says, edges_stop, kept_line, file_line};
 
-use survey_reading_lines::{Limits, LineSays};
+use survey_reading_lines::Limits;
 
 // Where a text stops: the line, counted from 1, and the count of nodes that its first line gives, 0 where that line is refused.
 #[derive(Clone, Copy)]
@@ -18,21 +18,19 @@ pub struct Place {
 }
 
 // How many of m link lines from a place on are taken before one is refused. The matrix is empty.
-fn links_taken(text: &[u8], at: usize, n: usize, m: usize, bits: &mut [u64]) -> usize
+fn links_taken(text: &[u8], at: usize, n: usize, m: usize, bits: &mut [u64; 16384]) -> usize
     requires { (n ≤ 1024) × (bits.old ≡ replicate 16384 0) }
     ensures { LinesTaken m result (drop at text.now) (links_stop n m [] (drop at text.now)) }
 {
     let mut next = at;
-    let mut k = 0;
-    while k < m {
-        let LineSays::Pair(a, b, end) = survey_reading_lines::link_at(text, next, n, bits) else {
+    for k in 0..m {
+        let Ok(link) = survey_reading_lines::link_at(text, next, n, bits) else {
             return k;
         };
-        survey_reading_lines::insert_link(bits, a, b);
-        next = end;
-        k += 1;
+        survey_reading_lines::insert_link(bits, link.a, link.b);
+        next = link.end;
     }
-    k
+    m
 }
 
 // Where reading a survey text stops, within limits on its counts; behind the last line where all are taken. Each line that is taken has one
@@ -48,14 +46,14 @@ pub fn reading_stops(text: &[u8], most_nodes: usize, most_links: usize) -> Place
         starts: 1025,
         neighbours: 32768,
     };
-    let LineSays::Pair(n, m, at) = survey_reading_lines::first_line(text, limits) else {
+    let Ok(first) = survey_reading_lines::first_line(text, limits) else {
         return Place { line: 1, nodes: 0 };
     };
     let mut bits = [0u64; 16384];
-    let taken = links_taken(text, at, n, m, &mut bits);
+    let taken = links_taken(text, first.end, first.a, first.b, &mut bits);
     Place {
         line: 2 + taken,
-        nodes: n,
+        nodes: first.a,
     }
 }
 
@@ -65,15 +63,13 @@ fn edges_taken(text: &[u8], at: usize, n: usize, m: usize) -> usize
         (edges_stop n m (uncommented (drop at text.now))) }
 {
     let mut next = at;
-    let mut k = 0;
-    while k < m {
-        let LineSays::Pair(_, _, end) = survey_importing_lines::edge_at(text, next, n) else {
+    for k in 0..m {
+        let Ok(edge) = survey_importing_lines::edge_at(text, next, n) else {
             return k;
         };
-        next = end;
-        k += 1;
+        next = edge.end;
     }
-    k
+    m
 }
 
 // The line of a file that comes after k lines that are no comments, and after the comments behind them.
@@ -104,15 +100,15 @@ fn kept_line(text: &[u8], k: usize) -> usize
 pub fn importing_stops(text: &[u8]) -> Place
     ensures { (result.line ≡ file_line text.now) × (result.nodes ≡ nodes_in (head_says (uncommented text.now))) }
 {
-    let LineSays::Pair(n, m, at) = survey_importing_lines::head_line(text, 1025, 32768) else {
+    let Ok(head) = survey_importing_lines::head_line(text, 1025, 32768) else {
         return Place {
             line: kept_line(text, 0),
             nodes: 0,
         };
     };
-    let taken = edges_taken(text, at, n, m);
+    let taken = edges_taken(text, head.end, head.a, head.b);
     Place {
         line: kept_line(text, 1 + taken),
-        nodes: n,
+        nodes: head.a,
     }
 }

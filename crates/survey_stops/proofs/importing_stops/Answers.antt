@@ -11,17 +11,17 @@ returns-in_default c =
 
 pub overflow_add-taken : goal.overflow_add-taken
 overflow_add-taken c =
-    let few : c.edges_taken-taken.result ≤ 16384 = let counts = head_within _ _ c.head_line.ensures c.in-Pair.is in
+    let few : c.edges_taken-taken.result ≤ 16384 = let counts = head_within _ _ c.head_line.ensures c.in-Ok.is in
     omega (arith, counts.few, c.edges_taken-taken.ensures.few) in
     omega (arith, few)
 
 pub kept_line-requires-2 : goal.kept_line-requires-2
 kept_line-requires-2 c =
-    let few : c.edges_taken-taken.result ≤ 16384 = let counts = head_within _ _ c.head_line.ensures c.in-Pair.is in
+    let few : c.edges_taken-taken.result ≤ 16384 = let counts = head_within _ _ c.head_line.ensures c.in-Ok.is in
     omega (arith, counts.few, c.edges_taken-taken.ensures.few) in
     omega (arith, few)
 
 pub returns : goal.returns
 returns c =
-    let place = head_read _ _ c.head_line.ensures c.in-Pair.is c.edges_taken-taken.ensures in
+    let place = head_read _ _ c.head_line.ensures c.in-Ok.is c.edges_taken-taken.ensures in
     (c.kept_line-2.ensures ∙ place.0, place.1)

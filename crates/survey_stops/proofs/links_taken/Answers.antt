@@ -1,11 +1,5 @@
-use mathlib.Core.Path.{◌≡◌, sym}
-use mathlib.Core.List.{List}
-use Prim.Native.Nat.{ℕ, ◌≤◌, ◌<◌}
+use mathlib.Core.Path.{sym}
 use native.Mathlib.Omega.{arith}
-use lib.ListN.{drop}
-use Rattle.model.specs.Answers.{answered}
-use Rattle.base_nodeset.specs.Matrix.{edges_in}
-use Rattle.survey_reading_lines.specs.LinesRead.{link_in}
 use Rattle.survey_reading_lines.proofs.LinkLaws.{link_below}
 use Rattle.survey_stops.proofs.StopLaws.{taking_none, taking_refused, taking_taken, taking_done}
 use Rattle.survey_stops.proofs.links_taken.Goals as goal
@@ -14,31 +8,15 @@ pub loop-k-init : goal.loop-k-init
 loop-k-init c = taking_none _ _ _ _ c.requires.1
 
 pub returns-in_default : goal.returns-in_default
-returns-in_default c =
-    let few : c.args.n ≤ 1024 = c.requires.0 in
-    taking_refused few c.loop-k.invariant c.loop-k-test.true
-    (sym c.in_default.ensures)
+returns-in_default c = taking_refused c.requires.0 c.loop-k.invariant c.loop-k-test.true (sym c.in_default.ensures)
 
 pub insert_link-requires : goal.insert_link-requires
 insert_link-requires c =
-    let few : c.args.n ≤ 1024 = c.requires.0 in
-    let a : ℕ = c.in-Pair.a in
-    let b : ℕ = c.in-Pair.b in
-    let text : List ℕ = c.args.text.now in
-    let taken : link_in c.args.n (edges_in c.loop-k.bits) (drop c.loop-k.next text) ≡ answered (a, b, drop c.in-Pair.end text) = sym c.in-Pair.ensures in
-    let below : (a < c.args.n) × (b < c.args.n) = link_below _ _ _ taken in
-    (c.loop-k.invariant.held.long, omega (arith, below, few), omega (arith, below, few))
+    let below = link_below _ _ _ (sym c.in-Ok.ensures) in
+    (omega (arith, below, c.requires.0), omega (arith, below, c.requires.0))
 
 pub loop-k-preserved : goal.loop-k-preserved
-loop-k-preserved c =
-    let few : c.args.n ≤ 1024 = c.requires.0 in
-    let text : List ℕ = c.args.text.now in
-    let a : ℕ = c.in-Pair.a in
-    let b : ℕ = c.in-Pair.b in
-    let taken : link_in c.args.n (edges_in c.loop-k.bits) (drop c.loop-k.next text) ≡ answered (a, b, drop c.in-Pair.end text) = sym c.in-Pair.ensures in
-    taking_taken few c.loop-k.invariant c.loop-k-test.true _ _ taken c.insert_link.ensures
+loop-k-preserved c = taking_taken c.requires.0 c.loop-k.invariant c.loop-k-test.true _ _ (sym c.in-Ok.ensures) c.insert_link.ensures
 
 pub returns : goal.returns
-returns c =
-    let few : c.args.n ≤ 1024 = c.requires.0 in
-    taking_done few c.loop-k.invariant c.loop-k-test.false
+returns c = taking_done c.requires.0 c.loop-k.invariant c.loop-k-test.false
