@@ -20,8 +20,11 @@ pub fn import_survey(
 {
     base_lists::fill(starts, 0);
     base_lists::fill(neighbours, 0);
-    let Pair { a: n, b: m, end } =
-        survey_importing_lines::head_line(text, starts.len(), neighbours.len())?;
+    let Pair { a: n, b: m, end } = survey_importing_lines::head_line(
+        text,
+        starts.len(),
+        neighbours.len(),
+    )?;
     let mut bits = [0; 16384];
     let links = survey_importing_lines::read_edges(text, end, n, m, &mut bits)?;
     survey_reading_lists::write_lists(&bits, n, starts, neighbours);
