@@ -25,10 +25,8 @@ pub fn line_length(word: &[u8], numbers: &[u32]) -> usize
     ensures upper_bound { result ≤ length word.now + 11 * length numbers.now + 1 }
 {
     let mut total = word.len() + 1;
-    let mut i = 0;
-    while i < numbers.len() {
-        total += digit_count(numbers[i]) + 1;
-        i += 1;
+    for &x in numbers {
+        total += digit_count(x) + 1;
     }
     total
 }
@@ -57,10 +55,10 @@ pub fn write_digits(buf: &mut [u8], at: usize, x: u64) -> usize
     ensures { Wrote buf.old buf.new at result (digits x) }
 {
     if x < 10 {
-        return write_byte(buf, at, 48 + x as u8);
+        return write_byte(buf, at, b'0' + x as u8);
     }
     let i = write_digits(buf, at, x / 10);
-    write_byte(buf, i, 48 + (x % 10) as u8)
+    write_byte(buf, i, b'0' + (x % 10) as u8)
 }
 
 // The same for a number of one or two digits.
@@ -69,10 +67,10 @@ fn write_below_100(buf: &mut [u8], at: usize, x: u32) -> usize
     ensures { Wrote buf.old buf.new at result (digits x) }
 {
     if x < 10 {
-        return write_byte(buf, at, 48 + x as u8);
+        return write_byte(buf, at, b'0' + x as u8);
     }
-    let i = write_byte(buf, at, 48 + (x / 10) as u8);
-    write_byte(buf, i, 48 + (x % 10) as u8)
+    let i = write_byte(buf, at, b'0' + (x / 10) as u8);
+    write_byte(buf, i, b'0' + (x % 10) as u8)
 }
 
 // The same for a number of at most three digits.
@@ -84,11 +82,11 @@ fn write_below_1000(buf: &mut [u8], at: usize, x: u32) -> usize
         return write_below_100(buf, at, x);
     }
     let i = write_below_100(buf, at, x / 10);
-    write_byte(buf, i, 48 + (x % 10) as u8)
+    write_byte(buf, i, b'0' + (x % 10) as u8)
 }
 
-// Writes the decimal text of a number at a place, and returns the place after it. Nearly all nodes are below 1,000: their digits are
-// written without recursion, so that the compiler puts them into the caller's loop.
+// Writes the decimal text of a number at a place, and returns the place after it. Nearly all nodes are below 1,000.
+// kept: two functions without recursion beside `write_digits`, since only these does the compiler put into the caller's loop
 pub fn write_number(buf: &mut [u8], at: usize, x: u32) -> usize
     requires { at + length (digits x) ≤ length buf.old }
     ensures { Wrote buf.old buf.new at result (digits x) }
@@ -114,12 +112,10 @@ fn write_fields(buf: &mut [u8], at: usize, separator: u8, numbers: &[u32]) -> us
     ensures { Wrote buf.old buf.new at result (fields_text separator (map digits numbers.now)) }
 {
     let mut pos = at;
-    let mut i = 0;
-    while i < numbers.len() {
-        pos = write_field(buf, pos, separator, numbers[i]);
-        i += 1;
+    for &x in numbers {
+        pos = write_field(buf, pos, separator, x);
     }
-    write_byte(buf, pos, 10)
+    write_byte(buf, pos, b'\n')
 }
 
 // Writes a line at a place, and returns the place after it: a word, a separator in front of each number, and the line feed.
