@@ -1,5 +1,6 @@
-use Rattle.search_source_sets.proofs.Joining.{joining_all}
+use native.Mathlib.Omega.{arith}
+use Rattle.search_source_sets.proofs.Joining.{joined}
 use Rattle.search_source_sets.proofs.join_row.Goals as goal
 
 pub returns : goal.returns
-returns c = joining_all _ _ _ _ _ c.loop-i.invariant c.loop-i-test.false
+returns c = joined _ _ _ (λ k h. c.loop-i.invariant.done k (omega arith))

@@ -1,3 +1,4 @@
+use Rattle.std.proofs.Common.{rules}
 use native.Mathlib.Omega.{arith}
 use lib.ListN.{get_or}
 use Rattle.search_source_sets.proofs.RowMarks.{selected, marking_more}
@@ -5,6 +6,6 @@ use Rattle.search_source_sets.proofs.mark_block.Goals as goal
 
 pub loop-i-preserved : goal.loop-i-preserved
 loop-i-preserved c =
-    marking_more _ _ _ _ _ _ c.loop-i.invariant _ c.loop-i-test.true
+    marking_more _ _ _ _ _ _ c.loop-i.invariant _ (omega arith)
     (selected (get_or c.args.new.now c.loop-i.i 0) c.args.b (get_or c.loop-i.part c.loop-i.i 0) c.args.d
-    (c.slice_known-1.given c.loop-i.i).fits (omega arith))
+    (search rules) (omega arith))

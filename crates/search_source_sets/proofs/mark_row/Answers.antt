@@ -8,7 +8,7 @@ use Rattle.search_source_sets.proofs.RowMarks.{row_none, row_more, row_all}
 use Rattle.search_source_sets.proofs.mark_row.Goals as goal
 
 pub loop-left-init : goal.loop-left-init
-loop-left-init c = row_none _ _ _ _ (omega arith) c.requires.row_len_bound c.requires.len.1
+loop-left-init c = row_none _ _ _ _ (omega arith) c.requires.row_len_bound c.requires.covers
 
 pub loop-left-preserved : goal.loop-left-preserved
 loop-left-preserved c =
