@@ -2,25 +2,22 @@
 -- Assumes nothing.
 use mathlib.Core.Path.{◌≡◌, refl, sym, ap, ap₂, ◌∙◌}
 use mathlib.Core.Logic.{◌⊎◌, inl, inr, ⊎_elim}
-use mathlib.Core.Bool.{Bool, true, false, ◌&&◌, ◌||◌, or_comm, and-true, and-false, or-false}
-use mathlib.Core.List.{List}
-use Prim.Native.Nat.{ℕ, ◌+◌, ◌-◌, ◌*◌, ◌/◌, ◌%◌, ◌^◌, ◌≤◌, ◌<◌, min}
-use native.Mathlib.Nat.{suc-mul, mul-le-mul_right, one-mul}
+use mathlib.Core.Bool.{Bool, true, false, ◌&&◌, ◌||◌, and-true, and-false, or-false}
+use mathlib.Core.List.{List, []}
+use Prim.Native.Nat.{ℕ, ◌+◌, ◌-◌, ◌*◌, ◌/◌, ◌%◌, ◌≤◌, ◌<◌, min}
+use native.Mathlib.Nat.{suc-mul, mul-le-mul_right}
 use native.Mathlib.Omega.{arith}
 use borrow.Author.Tests.{eq-eqb, ne_eqb, lt-ltb, le-ltb, le-leb, leb-true, ltb-true, eqb-true}
-use lib.Bits.{bit_or}
 use lib.Dec.{T, eqb, leb, ltb}
-use lib.ListN.{length, get_or, set, replicate, length-replicate}
-use lib.Pow.{shl_exact}
+use lib.ListN.{length, get_or, set, replicate, length-replicate, get_or-replicate, get_or-eq_default}
 use lib.Seq.{get_or-set_same, get_or-set_other}
 use Rattle.std.specs.Prelude.{if◌then◌else◌}
 use Rattle.model.specs.Graph.{Edges}
 use Rattle.model.specs.Tables.{entry_at}
 use Rattle.model.proofs.Entries.{get_d_same, place_inside}
 use Rattle.model.proofs.Tests.{eq_or, lt_or, ltb_next, and_l, and_r, and_i, passes, same_test, T_true, true_T, no_false}
-use Rattle.base_nodeset.specs.NodeSet.{bit}
-use Rattle.base_nodeset.proofs.Bits.{eqb_same, bit-bit_or, bit_pow, bit_of_zero}
-use Rattle.search_source_sets.specs.SourceSets.{reached}
+use Rattle.base_nodeset.proofs.Bits.{eqb_same, bit_of_zero}
+use Rattle.search_source_sets.specs.SourceSets.{in_row, reached}
 use Rattle.search_many_sources.specs.Levels.{in_group, is_source, reached_by, Begun, BegunAll, Unfilled}
 
 -- ---- places in a table of rows of n entries
@@ -82,49 +79,24 @@ module _ (n : ℕ) (s : ℕ → Bool) (v : ℕ) where
       (λ d. rw (ne_eqb u v d) refl)
       (eq_or u v)
 
-  module _ (base : ℕ) (is : s v ≡ true) (from : base ≤ v) (near-base : v < base + 256) (inside : v < n) (few : n ≤ 1024)
-      (near t : List ℕ) (long : length near ≡ 16384) (size : length t ≡ n * n) where
-    abbrev index : ℕ
-    index = v - base
-
-    abbrev place : ℕ
-    place = 16 * v + index % 16
-
-    abbrev near' : List ℕ
-    near' = set near place (bit_or (get_or near place 0) ((1 * 2 ^ (index / 16)) % 65536))
-
-    single : (1 * 2 ^ (index / 16)) % 65536 ≡ 2 ^ (index / 16)
-    single = shl_exact {a = 1} 1 (index / 16) 16 (omega arith) (omega arith) ∙ one-mul (2 ^ (index / 16))
-
-    -- in the group, a source's own bit is put into its own row
-    row_put : (u c : ℕ) → base ≤ c → reached near' u (c - base) ≡ (own u c || reached near u (c - base))
+  module _ (base : ℕ) (is : s v ≡ true) (from : base ≤ v) (near-base : v < base + 256) (inside : v < n)
+      (near : List (List ℕ)) (row' t : List ℕ) (place : v < length near) (size : length t ≡ n * n)
+      (put : (k : ℕ) → in_row row' k ≡ (eqb k (v - base) || in_row (get_or near v []) k)) where
+    -- in the group, it is put into its own row
+    row_put : (u c : ℕ) → base ≤ c → reached (set near v row') u (c - base) ≡ (own u c || reached near u (c - base))
     unfolding reached
-    row_put u c h = ⊎_elim at off (eq_or (16 * u + j % 16) place)
+    row_put u c h = ⊎_elim at off (eq_or u v)
       where
-        j : ℕ
-        j = c - base
-
-        at : 16 * u + j % 16 ≡ place → bit (get_or near' (16 * u + j % 16) 0) (j / 16) ≡ (own u c || bit (get_or near (16 * u + j % 16) 0) (j / 16))
+        at : u ≡ v → in_row (get_or (set near v row') u []) (c - base) ≡ (own u c || in_row (get_or near u []) (c - base))
         at q =
-            let same : u ≡ v = omega arith in
-            let lane : j % 16 ≡ index % 16 = omega arith in
-            ap (λ (x : ℕ). bit (get_or near' x 0) (j / 16)) q
-            ∙ ap (λ (x : ℕ). bit x (j / 16)) (get_or-set_same near place _ 0 (omega (arith, long)))
-            ∙ bit-bit_or (get_or near place 0) _ (j / 16)
-            ∙ or_comm (bit (get_or near place 0) (j / 16)) _
-            ∙ ap₂ (λ (a : Bool) (x : ℕ). a || bit (get_or near x 0) (j / 16))
-            (ap (λ (x : ℕ). bit x (j / 16)) single ∙ bit_pow (index / 16) (j / 16)
-            ∙ eqb_same (j / 16) (index / 16) c v (λ (z : j / 16 ≡ index / 16). omega arith) (λ (z : c ≡ v). ap (λ (x : ℕ). (x - base) / 16) z)
-            ∙ sym (own_at u c is same))
-            (sym q)
+            let same : eqb (c - base) (v - base) ≡ eqb c v =
+            eqb_same (c - base) (v - base) c v (λ (z : c - base ≡ v - base). omega arith) (λ (z : c ≡ v). ap (λ (x : ℕ). x - base) z) in
+            rw (q, get_or-set_same near v row' [] place, put, same, own_at v c is refl) refl
 
-        off : (16 * u + j % 16 ≡ place → ⊥) → bit (get_or near' (16 * u + j % 16) 0) (j / 16) ≡ (own u c || bit (get_or near (16 * u + j % 16) 0) (j / 16))
-        off q =
-            ap (λ (x : ℕ). bit x (j / 16)) (get_or-set_other near place (16 * u + j % 16) _ 0 q)
-            ∙ sym (ap (λ (a : Bool). a || bit (get_or near (16 * u + j % 16) 0) (j / 16))
-            (own_off u c (λ (a : u ≡ v) (b : c ≡ v). q (ap₂ (λ (x y : ℕ). 16 * x + (y - base) % 16) a b))))
+        off : (u ≡ v → ⊥) → in_row (get_or (set near v row') u []) (c - base) ≡ (own u c || in_row (get_or near u []) (c - base))
+        off q = rw (get_or-set_other near v u row' [] q, own_off u c (λ a b. q a)) refl
 
-    put_reached : (u c : ℕ) → reached_by base near' u c ≡ (own u c || reached_by base near u c)
+    put_reached : (u c : ℕ) → reached_by base (set near v row') u c ≡ (own u c || reached_by base near u c)
     unfolding reached_by
     put_reached u c = ⊎_elim
         (λ g. rw (T_true (in_group base c) g) (row_put u c (group_is base c g).0))
@@ -149,7 +121,7 @@ module _ (n : ℕ) (s : ℕ → Bool) (v : ℕ) where
             ∙ sym (ap (λ (a : Bool). if a then 0 else get_or t (u * n + c) 0)
             (own_off u c (λ (a : u ≡ v) (b : c ≡ v). q (ap₂ (λ (x y : ℕ). x * n + y) a b))))
 
-    pub begun_put : Begun n s v (reached_by base near) (reached_by base near') t (set t (v * n + v) 0)
+    pub begun_put : Begun n s v (reached_by base near) (reached_by base (set near v row')) t (set t (v * n + v) 0)
     unfolding own
     begun_put = record { reached = put_reached; rows = put_row }
 
@@ -159,10 +131,9 @@ module _ (n base : ℕ) (p : ℕ → Bool) where
   abbrev s : ℕ → Bool
   s = is_source base p
 
-  pub record Beginning (t₀ near t : List ℕ) (v : ℕ) : Type 0 where
+  pub record Beginning (t₀ : List ℕ) (near : List (List ℕ)) (t : List ℕ) (v : ℕ) : Type 0 where
     pub above : base ≤ v
     pub within : v ≤ min n (base + 256)
-    pub long : length near ≡ 16384
     pub size : length t ≡ n * n
     pub says : (u c : ℕ) → reached_by base near u c ≡ (ltb u v && (eqb u c && s c))
     pub rows : (u c : ℕ) → u < n → c < n → entry_at n t u c ≡ (if ltb u v && (eqb u c && s c) then 0 else entry_at n t₀ u c)
@@ -170,6 +141,16 @@ module _ (n base : ℕ) (p : ℕ → Bool) where
   source_group : (c : ℕ) → T (s c) → (base ≤ c) × (c < base + 256)
   unfolding is_source
   source_group c t = group_is base c (and_l (in_group base c) (p c) t)
+
+  -- in empty rows nothing has reached a node
+  none_reached : (u i : ℕ) → reached (replicate 1024 (replicate 16 0)) u i ≡ false
+  unfolding reached in_row
+  none_reached u i = ⊎_elim
+      (λ h. rw (get_or-replicate 1024 u (replicate {A = ℕ} 16 0) [] h, get_d_same 16 (i % 16) 0) (bit_of_zero (i / 16)))
+      (λ h.
+      let past : length (replicate 1024 (replicate {A = ℕ} 16 0)) ≤ u = omega (arith, length-replicate 1024 (replicate {A = ℕ} 16 0)) in
+      rw (get_or-eq_default (replicate 1024 (replicate {A = ℕ} 16 0)) [] past) (bit_of_zero (i / 16)))
+      (lt_or u 1024)
 
   -- no source is below the group, and none behind its end
   below_none : (u c : ℕ) → (ltb u base && (eqb u c && s c)) ≡ false
@@ -180,17 +161,16 @@ module _ (n base : ℕ) (p : ℕ → Bool) where
       let within_group = source_group c (and_r (eqb u c) _ rest) in
       omega (arith, low, same, within_group.0))
 
-  pub beginning_none : (near t : List ℕ) → base < n → near ≡ replicate 16384 0 → length t ≡ n * n → Beginning t near t base
-  unfolding reached_by reached
+  pub beginning_none : (near : List (List ℕ)) (t : List ℕ) → base < n → near ≡ replicate 1024 (replicate 16 0) → length t ≡ n * n
+      → Beginning t near t base
+  unfolding reached_by
   beginning_none near t h e l = record {
     above = omega arith;
     within = omega arith;
-    long = ap length e ∙ length-replicate {A = ℕ} 16384 0;
     size = l;
     says = λ u c.
-        ap (λ (x : List ℕ). in_group base c && bit (get_or x (16 * u + (c - base) % 16) 0) ((c - base) / 16)) e
-        ∙ ap (λ (x : ℕ). in_group base c && bit x ((c - base) / 16)) (get_d_same 16384 (16 * u + (c - base) % 16) 0)
-        ∙ ap (λ (x : Bool). in_group base c && x) (bit_of_zero ((c - base) / 16))
+        ap (λ (x : List (List ℕ)). in_group base c && reached x u (c - base)) e
+        ∙ ap (λ (x : Bool). in_group base c && x) (none_reached u (c - base))
         ∙ and-false (in_group base c)
         ∙ sym (below_none u c);
     rows = λ u c hu hc. sym (rw (below_none u c) refl);
@@ -205,13 +185,12 @@ module _ (n base : ℕ) (p : ℕ → Bool) where
           (λ (d : c ≡ v → ⊥). rw (ne_eqb c v d, ne_eqb u c (λ (z : u ≡ c). d (sym z ∙ q))) refl)
           (eq_or c v))
 
-  module _ (t₀ near t : List ℕ) (v : ℕ) (b : Beginning t₀ near t v) where
-    pub beginning_more : (near' t' : List ℕ) → v < min n (base + 256) → length near' ≡ length near → length t' ≡ length t
+  module _ (t₀ : List ℕ) (near : List (List ℕ)) (t : List ℕ) (v : ℕ) (b : Beginning t₀ near t v) where
+    pub beginning_more : (near' : List (List ℕ)) (t' : List ℕ) → v < min n (base + 256) → length t' ≡ length t
         → Begun n (is_source base p) v (reached_by base near) (reached_by base near') t t' → Beginning t₀ near' t' (v + 1)
-    beginning_more near' t' h l m g = record {
+    beginning_more near' t' h m g = record {
       above = omega (arith, b.above);
       within = omega arith;
-      long = l ∙ b.long;
       size = m ∙ b.size;
       says = λ u c. g.reached u c ∙ ap (λ (x : Bool). (eqb u v && (eqb c v && s v)) || x) (b.says u c) ∙ diagonal u c v;
       rows = λ u c hu hc.

@@ -33,43 +33,37 @@ unfolding is_source
 source_allowed base p c t = and_r (in_group base c) (p c) t
 
 -- after the levels below d
-pub record Searched (n base : ℕ) (p : ℕ → Bool) (G : Graph) (t₀ near far t : List ℕ) (d : ℕ) : Type 0 where
+pub record Searched (n base : ℕ) (p : ℕ → Bool) (G : Graph) (t₀ : List ℕ) (near : List (List ℕ)) (t : List ℕ) (d : ℕ) : Type 0 where
   pub level : ℕ
   pub is : d ≡ suc level
   pub known : Known n p (is_source base p) G (source_allowed base p) t₀ level (reached_by base near) t
-  pub near_long : length near ≡ 16384
-  pub far_long : length far ≡ 16384
   pub size : length t ≡ n * n
 
 module _ (n base : ℕ) (p : ℕ → Bool) (G : Graph) (t₀ : List ℕ) where
-  pub searched_start : (near far : List ℕ) → BegunAll n (is_source base p) (reached_by base near) t₀ t₀
-      → length near ≡ 16384 → length far ≡ 16384 → length t₀ ≡ n * n → Searched n base p G t₀ near far t₀ 1
-  searched_start near far b l m k = record {
+  pub searched_start : (near : List (List ℕ)) → BegunAll n (is_source base p) (reached_by base near) t₀ t₀
+      → length t₀ ≡ n * n → Searched n base p G t₀ near t₀ 1
+  searched_start near b k = record {
     level = 0;
     is = refl;
     known = known_start n p (is_source base p) G (source_allowed base p) (reached_by base near) t₀ b;
-    near_long = l;
-    far_long = m;
     size = k;
   }
 
-  pub searched_end : (near far t : List ℕ) (d : ℕ) → Searched n base p G t₀ near far t d → n ≤ d → Filled n p (is_source base p) G t₀ t
-  searched_end near far t d s h =
+  pub searched_end : (near : List (List ℕ)) (t : List ℕ) (d : ℕ) → Searched n base p G t₀ near t d → n ≤ d → Filled n p (is_source base p) G t₀ t
+  searched_end near t d s h =
       filled_end n p (is_source base p) G (source_allowed base p) t₀ s.level (reached_by base near) t s.known (omega (arith, s.is))
 
-  module _ (g : IsGraph n G) (near far far' t t' : List ℕ) (d : ℕ) (more : Bool) (s : Searched n base p G t₀ near far t d)
+  module _ (g : IsGraph n G) (near far' : List (List ℕ)) (t t' : List ℕ) (d : ℕ) (more : Bool) (s : Searched n base p G t₀ near t d)
       (l : Level n p G d (reached_by base near) (reached_by base far') t t' more) where
     same : Level n p G (suc s.level) (reached_by base near) (reached_by base far') t t' more
     same = subst (λ (x : ℕ). Level n p G x (reached_by base near) (reached_by base far') t t' more) s.is l
 
-    -- a level from the one list of sets into the other
-    pub searched_next : (e : ℕ) → e ≡ d + 1 → length far' ≡ length far → length t' ≡ length t → Searched n base p G t₀ far' near t' e
-    searched_next e z k q = record {
+    -- one level more
+    pub searched_next : (e : ℕ) → e ≡ d + 1 → length t' ≡ length t → Searched n base p G t₀ far' t' e
+    searched_next e z q = record {
       level = suc s.level;
       is = omega (arith, s.is);
       known = known_next n p (is_source base p) G (source_allowed base p) t₀ g s.level _ _ t t' more s.known same;
-      near_long = k ∙ s.far_long;
-      far_long = s.near_long;
       size = q ∙ s.size;
     }
 

@@ -2,57 +2,51 @@
 -- Assumes nothing.
 use mathlib.Core.Path.{◌≡◌, refl, sym, ap, ap₂, ◌∙◌, subst}
 use mathlib.Core.Logic.{◌⊎◌, inl, inr, ⊎_elim}
-use mathlib.Core.Bool.{Bool, true, false, not, ◌&&◌, ◌||◌, or_comm, or-false, and-false}
-use mathlib.Core.List.{List}
-use Prim.Native.Nat.{ℕ, ◌+◌, ◌-◌, ◌*◌, ◌/◌, ◌%◌, ◌≤◌, ◌<◌, min}
+use mathlib.Core.Bool.{Bool, true, false, not, ◌&&◌, ◌||◌, or_comm, and-false}
+use mathlib.Core.List.{List, []}
+use Prim.Native.Nat.{ℕ, ◌+◌, ◌-◌, ◌*◌, ◌≤◌, ◌<◌, min}
 use native.Mathlib.Nat.{suc-mul, mul-le-mul_right}
 use native.Mathlib.Omega.{arith}
 use borrow.Rule.Slice.PartMut.{mid_of, put_mid, mid_len}
 use lib.Dec.{T}
-use lib.ListN.{length, get_or, replicate}
+use lib.ListN.{length, get_or, set}
+use lib.Seq.{get_or-set_same, get_or-set_other}
 use Rattle.model.specs.Basics.{any}
 use Rattle.std.specs.Prelude.{if◌then◌else◌}
 use Rattle.model.specs.Graph.{Edges}
 use Rattle.model.specs.Survey.{Graph}
 use Rattle.model.specs.Tables.{entry_at}
-use Rattle.model.proofs.Entries.{get_d_same}
 use Rattle.model.proofs.Lists.{of_any}
 use Rattle.model.proofs.Loops.{below_next}
 use Rattle.model.proofs.Tests.{no_false, T_true, passes, lt_or, of_or_false}
 use Rattle.base_lists.proofs.PartEntries.{mid_at, put_before, put_after, put_within}
 use Rattle.base_lists.proofs.TableRows.{row_within}
-use Rattle.base_nodeset.specs.NodeSet.{bit}
-use Rattle.base_nodeset.proofs.Bits.{bit_of_zero}
-use Rattle.search_source_sets.specs.SourceSets.{in_row, reached, RowPut, RowLeft}
+use Rattle.search_source_sets.specs.SourceSets.{in_row, reached, RowLeft}
 use Rattle.search_source_sets.proofs.Joining.{covers_none}
 use Rattle.search_many_sources.specs.Levels.{in_group, reached_by, reached_next, is_new, Step, Level}
 use Rattle.search_many_sources.proofs.Begins.{row_apart, group_is, is_group}
 
--- ---- the rows of a node's neighbours, if it is allowed
-
-pub own_not : (a b c : Bool) → a ≡ false → c ≡ ((a && b) || c)
-own_not a b c e = rw e refl
-
-pub own_put : (p : ℕ → Bool) (l l' : List ℕ) (a c r : Bool) → a ≡ true → l ≡ l' → r ≡ (any p l || c) → r ≡ ((a && any p l') || c)
-own_put p l l' a c r e o h = h ∙ ap (λ (k : List ℕ). any p k || c) o ∙ sym (rw e refl)
-
 -- ---- a node's part
 
-module _ (n : ℕ) (p : ℕ → Bool) (G : Graph) (base d v : ℕ) (near far far' s₁ s₂ s₃ : List ℕ) (found : ℕ)
-    (first : (j : ℕ) → in_row s₁ j ≡ (reached near v j || in_row (replicate 16 0) j))
-    (second : (j : ℕ) → in_row s₂ j ≡ ((p v && any (λ x. reached near x j) (G v)) || in_row s₁ j))
-    (put : RowPut v s₂ far far') (left : RowLeft near v s₂ s₃ found) where
+module _ (n : ℕ) (p : ℕ → Bool) (G : Graph) (base d v : ℕ) (near far : List (List ℕ)) (s₂ s₃ : List ℕ) (found : ℕ)
+    (place : v < length far) (second : (j : ℕ) → in_row s₂ j ≡ ((p v && any (λ x. reached near x j) (G v)) || reached near v j))
+    (left : RowLeft (get_or near v []) s₂ s₃ found) where
   abbrev R : Edges
   R = reached_by base near
 
+  abbrev far' : List (List ℕ)
+  far' = set far v s₂
+
   row_next : (j : ℕ) → in_row s₂ j ≡ (reached near v j || (p v && any (λ x. reached near x j) (G v)))
-  unfolding in_row
-  row_next j =
-      second j
-      ∙ ap (λ (x : Bool). (p v && any (λ x. reached near x j) (G v)) || x) (first j
-      ∙ ap (λ (x : Bool). reached near v j || x) (ap (λ (x : ℕ). bit x (j / 16)) (get_d_same 16 (j % 16) 0) ∙ bit_of_zero (j / 16))
-      ∙ or-false (reached near v j))
-      ∙ or_comm (p v && any (λ x. reached near x j) (G v)) (reached near v j)
+  row_next j = second j ∙ or_comm (p v && any (λ x. reached near x j) (G v)) (reached near v j)
+
+  put_here : (j : ℕ) → reached far' v j ≡ in_row s₂ j
+  unfolding reached
+  put_here j = ap (λ (r : List ℕ). in_row r j) (get_or-set_same far v s₂ [] place)
+
+  put_others : (u j : ℕ) → (u ≡ v → ⊥) → reached far' u j ≡ reached far u j
+  unfolding reached
+  put_others u j d = ap (λ (r : List ℕ). in_row r j) (get_or-set_other far v u s₂ [] d)
 
   -- outside the group no source has reached a node
   outside_next : (c : ℕ) → in_group base c ≡ false → reached_next p G R v c ≡ false
@@ -69,7 +63,7 @@ module _ (n : ℕ) (p : ℕ → Bool) (G : Graph) (base d v : ℕ) (near far far
   inside_next c e = row_next (c - base) ∙ sym (rw e)
 
   inside_new : (c : ℕ) → T (in_group base c) → in_row s₃ (c - base) ≡ is_new p G R v c
-  unfolding is_new reached_by
+  unfolding is_new reached_by reached
   inside_new c t =
       let e = T_true (in_group base c) t in
       left.new (c - base) (omega (arith, (group_is base c t).1))
@@ -79,14 +73,14 @@ module _ (n : ℕ) (p : ℕ → Bool) (G : Graph) (base d v : ℕ) (near far far
   unfolding reached_by
   here c = ⊎_elim
       (λ t. let e = T_true (in_group base c) t in
-      ap (λ (x : Bool). x && reached far' v (c - base)) e ∙ put.here (c - base) ∙ inside_next c e)
+      ap (λ (x : Bool). x && reached far' v (c - base)) e ∙ put_here (c - base) ∙ inside_next c e)
       (λ f. let e = no_false (in_group base c) f in
       ap (λ (x : Bool). x && reached far' v (c - base)) e ∙ sym (outside_next c e))
       (passes (in_group base c))
 
   others : (u c : ℕ) → (u ≡ v → ⊥) → reached_by base far' u c ≡ reached_by base far u c
   unfolding reached_by
-  others u c f = ap (λ (x : Bool). in_group base c && x) (put.others u (c - base) f)
+  others u c f = ap (λ (x : Bool). in_group base c && x) (put_others u (c - base) f)
 
   pub step_idle : (t : List ℕ) → found ≡ 0 → Step n p G d v (reached_by base near) (reached_by base far) (reached_by base far') t t false
   step_idle t z = record {
@@ -158,9 +152,8 @@ module _ (n : ℕ) (p : ℕ → Bool) (G : Graph) (base d v : ℕ) (near far far
 
 -- ---- the parts of the nodes below v
 
-pub record Passing (n : ℕ) (p : ℕ → Bool) (G : Graph) (base d : ℕ) (R : Edges) (t₀ far t : List ℕ) (more : Bool) (v : ℕ) : Type 0 where
+pub record Passing (n : ℕ) (p : ℕ → Bool) (G : Graph) (base d : ℕ) (R : Edges) (t₀ : List ℕ) (far : List (List ℕ)) (t : List ℕ) (more : Bool) (v : ℕ) : Type 0 where
   pub within : v ≤ n
-  pub long : length far ≡ 16384
   pub size : length t ≡ n * n
   pub done : (u c : ℕ) → u < v → reached_by base far u c ≡ reached_next p G R u c
   pub rows : (u c : ℕ) → u < v → c < n → entry_at n t u c ≡ (if is_new p G R u c then d else entry_at n t₀ u c)
@@ -168,10 +161,9 @@ pub record Passing (n : ℕ) (p : ℕ → Bool) (G : Graph) (base d : ℕ) (R : 
   pub idle : more ≡ false → (u c : ℕ) → u < v → c < n → is_new p G R u c ≡ false
 
 module _ (n : ℕ) (p : ℕ → Bool) (G : Graph) (base d : ℕ) (R : Edges) (t₀ : List ℕ) where
-  pub passing_none : (far : List ℕ) → length far ≡ 16384 → length t₀ ≡ n * n → Passing n p G base d R t₀ far t₀ false 0
-  passing_none far l m = record {
+  pub passing_none : (far : List (List ℕ)) → length t₀ ≡ n * n → Passing n p G base d R t₀ far t₀ false 0
+  passing_none far m = record {
     within = omega arith;
-    long = l;
     size = m;
     done = λ u c h. absurd (omega arith);
     rows = λ u c h k. absurd (omega arith);
@@ -179,12 +171,11 @@ module _ (n : ℕ) (p : ℕ → Bool) (G : Graph) (base d : ℕ) (R : Edges) (t�
     idle = λ e u c h k. absurd (omega arith);
   }
 
-  pub passing_more : (far t far' t' : List ℕ) (more new : Bool) (v : ℕ) → v < n → Passing n p G base d R t₀ far t more v
-      → length far' ≡ length far → length t' ≡ length t → Step n p G d v R (reached_by base far) (reached_by base far') t t' new
-      → Passing n p G base d R t₀ far' t' (new || more) (v + 1)
-  passing_more far t far' t' more new v h b l m s = record {
+  pub passing_more : (far : List (List ℕ)) (t : List ℕ) (far' : List (List ℕ)) (t' : List ℕ) (more new : Bool) (v : ℕ) → v < n → Passing n p G base d R t₀ far t more v
+      → length t' ≡ length t → Step n p G d v R (reached_by base far) (reached_by base far') t t' new
+      → Passing n p G base d R t₀ far' t' (more || new) (v + 1)
+  passing_more far t far' t' more new v h b m s = record {
     within = omega arith;
-    long = l ∙ b.long;
     size = m ∙ b.size;
     done = λ u c q. below_next (λ (u : ℕ). reached_by base far' u c ≡ reached_next p G R u c) v
         (λ u q. s.others u c (λ (z : u ≡ v). omega arith) ∙ b.done u c q) (s.here c) u q;
@@ -193,10 +184,10 @@ module _ (n : ℕ) (p : ℕ → Bool) (G : Graph) (base d : ℕ) (R : Edges) (t�
         (s.row c k ∙ ap (λ (x : ℕ). if is_new p G R v c then d else x) (b.rest v c (omega arith) h k)) u q;
     rest = λ u c q hu hc. s.rest u c hu hc (λ (z : u ≡ v). omega arith) ∙ b.rest u c (omega arith) hu hc;
     idle = λ e u c q k. below_next (λ (u : ℕ). is_new p G R u c ≡ false) v
-        (λ u q. b.idle (of_or_false new more e).1 u c q k) (s.idle (of_or_false new more e).0 c k) u q;
+        (λ u q. b.idle (of_or_false more new e).0 u c q k) (s.idle (of_or_false more new e).1 c k) u q;
   }
 
-  pub passing_all : (far t : List ℕ) (more : Bool) (v : ℕ) → n ≤ v → Passing n p G base d R t₀ far t more v
+  pub passing_all : (far : List (List ℕ)) (t : List ℕ) (more : Bool) (v : ℕ) → n ≤ v → Passing n p G base d R t₀ far t more v
       → Level n p G d R (reached_by base far) t₀ t more
   passing_all far t more v h b = record {
     now = λ u c hu. b.done u c (omega arith);

@@ -16,7 +16,7 @@ unfoldable pub is_source : (base : ℕ) → (allowed : ℕ → Bool) → ℕ →
 is_source base allowed c = in_group base c && allowed c
 
 -- source j of the group is node base + j
-unfoldable pub reached_by : (base : ℕ) → List ℕ → Edges
+unfoldable pub reached_by : (base : ℕ) → List (List ℕ) → Edges
 reached_by base rows v c = in_group base c && reached rows v (c - base)
 
 -- a source has reached a node after one link more: it had, or the node is allowed and the source had reached a neighbour

@@ -3,18 +3,53 @@
 use mathlib.Core.Path.{◌≡◌, refl, sym, ap, ◌∙◌, subst}
 use mathlib.Core.Bool.{Bool, ◌&&◌, ◌||◌, or_comm}
 use mathlib.Core.List.{List}
-use Prim.Native.Nat.{ℕ, ◌+◌, ◌-◌, ◌/◌, ◌%◌, ◌^◌, ◌≤◌, ◌<◌}
+use mathlib.Core.Logic.{⊎_elim}
+use Prim.Native.Nat.{ℕ, ◌+◌, ◌-◌, ◌*◌, ◌/◌, ◌%◌, ◌^◌, ◌≤◌, ◌<◌}
+use native.Mathlib.Nat.{one-mul}
 use native.Mathlib.Omega.{arith}
+use borrow.Author.Tests.{ne_eqb}
 use lib.Bits.{bit_and, bit_or}
-use lib.Dec.{T}
+use lib.Dec.{T, eqb}
 use lib.ListN.{length, get_or, set, drop, drop_of_length-le}
+use lib.Pow.{shl_exact}
 use lib.Seq.{get_or-set_same, get_or-set_other}
 use Rattle.model.specs.Basics.{any}
 use Rattle.model.proofs.Loops.{below_next, drop_next}
-use Rattle.model.proofs.Tests.{or_l, or_r, or_turned}
+use Rattle.model.proofs.Tests.{or_l, or_r, or_turned, eq_or}
 use Rattle.base_nodeset.specs.NodeSet.{bit}
-use Rattle.base_nodeset.proofs.Bits.{bit-bit_and, bit-bit_or, bit_not, bit_of_zero}
+use Rattle.base_nodeset.proofs.Bits.{eqb_same, bit-bit_and, bit-bit_or, bit_not, bit_of_zero, bit_pow}
 use Rattle.search_source_sets.specs.SourceSets.{in_row, reached, Covers, RowLeft}
+
+-- ---- one source
+
+module _ (row : List ℕ) (j : ℕ) (long : length row ≡ 16) (few : j < 256) where
+  abbrev lane : ℕ
+  lane = j % 16
+
+  abbrev row' : List ℕ
+  row' = set row lane (bit_or (get_or row lane 0) ((1 * 2 ^ (j / 16)) % 65536))
+
+  single : (1 * 2 ^ (j / 16)) % 65536 ≡ 2 ^ (j / 16)
+  single = shl_exact {a = 1} 1 (j / 16) 16 (omega arith) (omega arith) ∙ one-mul (2 ^ (j / 16))
+
+  -- its bit is set in its lane
+  pub source_put : (k : ℕ) → in_row row' k ≡ (eqb k j || in_row row k)
+  unfolding in_row
+  source_put k = ⊎_elim at off (eq_or (k % 16) lane)
+    where
+      at : k % 16 ≡ lane → bit (get_or row' (k % 16) 0) (k / 16) ≡ (eqb k j || bit (get_or row (k % 16) 0) (k / 16))
+      at q =
+          let same : eqb (k / 16) (j / 16) ≡ eqb k j =
+          eqb_same (k / 16) (j / 16) k j (λ (z : k / 16 ≡ j / 16). omega arith) (λ (z : k ≡ j). ap (λ (x : ℕ). x / 16) z) in
+          rw (q, get_or-set_same row lane (bit_or (get_or row lane 0) ((1 * 2 ^ (j / 16)) % 65536)) 0 (omega (arith, long)), bit-bit_or, single, bit_pow, same)
+          (or_comm (bit (get_or row lane 0) (k / 16)) (eqb k j))
+
+      off : (k % 16 ≡ lane → ⊥) → bit (get_or row' (k % 16) 0) (k / 16) ≡ (eqb k j || bit (get_or row (k % 16) 0) (k / 16))
+      off q =
+          rw (
+            get_or-set_other row lane (k % 16) (bit_or (get_or row lane 0) ((1 * 2 ^ (j / 16)) % 65536)) 0 q,
+            ne_eqb k j (λ (z : k ≡ j). q (ap (λ (x : ℕ). x % 16) z)),
+          ) refl
 
 -- ---- a row joined to a row, lane by lane
 

@@ -13,6 +13,14 @@ pub type Row = [u16; 16];
 
 pub type Rows = [Row; 1024];
 
+// Puts source j into a row.
+pub fn insert_source(row: &mut Row, j: usize)
+    requires { j < 256 }
+    ensures { (k : ℕ) → in_row row.new k ≡ (eqb k j || in_row row.old k) }
+{
+    row[j % 16] |= 1 << (j / 16);
+}
+
 // Puts the sources of another row into a row.
 pub fn join_row(row: &Row, sum: &mut Row)
     ensures { (j : ℕ) → in_row sum.new j ≡ (in_row row.now j || in_row sum.old j) }

@@ -1,6 +1,7 @@
+use native.Mathlib.Omega.{arith}
 use mathlib.Core.Path.{sym, ◌∙◌}
 use Rattle.search_many_sources.proofs.Begins.{source_not, source_is, begun_not, begun_put}
-use Rattle.search_many_sources.proofs.begin.Goals as goal
+use Rattle.search_many_sources.proofs.Group.begin.Goals as goal
 
 pub returns-then-not-contains : goal.returns-then-not-contains
 returns-then-not-contains c =
@@ -8,6 +9,6 @@ returns-then-not-contains c =
 
 pub returns : goal.returns
 returns c =
-    begun_put _ _ _ _ (source_is _ _ _ c.requires.n_bound.2 c.requires.n_bound.3
-    (sym c.contains.ensures ∙ c.if-not-contains.false))
-    c.requires.n_bound.2 c.requires.n_bound.3 c.requires.n_bound.4 c.requires.n_bound.0 _ _ c.requires.near_len.0 c.requires.near_len.1
+    let h = c.requires.in_group in
+    begun_put _ _ _ _ (source_is _ _ _ h.0 h.1 (sym c.contains.ensures ∙ c.if-not-contains.false))
+    h.0 h.1 h.2 _ _ _ (omega arith) c.requires.table_len c.insert_source.ensures
