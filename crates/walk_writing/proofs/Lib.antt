@@ -1,2 +1,1 @@
 pub mod RouteLaws
-pub mod JudgeLaws
