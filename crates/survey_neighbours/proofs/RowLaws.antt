@@ -9,22 +9,15 @@ use Rattle.model.specs.Survey.{Accepted, neighbours_of}
 use Rattle.model.proofs.SurveyLists.{start_last}
 use Rattle.survey_neighbours.specs.Rows.{Rows}
 
--- where node v's own neighbours begin and end in the list
-pub record Bounds (starts neighbours : List ℕ) (v : ℕ) : Type 0 where
-  pub from_to : get_or starts v 0 ≤ get_or starts (v + 1) 0
-  pub end : get_or starts (v + 1) 0 ≤ length neighbours
-
 module _ (n : ℕ) (starts neighbours : List ℕ) (r : Rows n starts neighbours) where
+  -- no start is past the end of the list
   pub start_within : (v : ℕ) → v ≤ n → get_or starts v 0 ≤ length neighbours
   start_within v h = omega (arith, start_last n starts r.rising v h, r.within)
-
-  pub bounds : (v : ℕ) → v < n → Bounds starts neighbours v
-  bounds v h = record { from_to = r.rising v h; end = start_within (v + 1) (omega arith) }
 
   -- the number of v's neighbours is the difference of the two starts
   pub own_length : (v : ℕ) → v < n → length (neighbours_of starts neighbours v) ≡ get_or starts (v + 1) 0 - get_or starts v 0
   unfolding neighbours_of
-  own_length v h = let b = bounds v h in simp (length-take, length-drop) (omega arith)
+  own_length v h = simp (length-take, length-drop) (omega (arith, r.rising v h, start_within (v + 1) (omega arith)))
 
 -- an accepted survey's rows can be read
 pub rows_of : {n : ℕ} {starts neighbours : List ℕ} → Accepted n starts neighbours → Rows n starts neighbours

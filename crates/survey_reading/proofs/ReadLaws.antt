@@ -102,6 +102,9 @@ pub record Cleared (s₀ x₀ s x : List ℕ) : Type 0 where
   pub starts : s ≡ replicate (length s₀) 0
   pub neighbours : x ≡ replicate (length x₀) 0
 
+pub cleared : (s₀ x₀ : List ℕ) {s x : List ℕ} → s ≡ replicate (length s₀) 0 → x ≡ replicate (length x₀) 0 → Cleared s₀ x₀ s x
+cleared s₀ x₀ a b = record { starts = a; neighbours = b }
+
 module _ {s₀ x₀ s x : List ℕ} (z : Cleared s₀ x₀ s x) where
   pub cleared_own : (s ≡ replicate (length s) 0) × (x ≡ replicate (length x) 0)
   cleared_own = (filled_own 0 (length s₀) z.starts, filled_own 0 (length x₀) z.neighbours)

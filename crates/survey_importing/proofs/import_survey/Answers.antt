@@ -3,13 +3,9 @@ use mathlib.Core.List.{List}
 use Prim.Native.Nat.{ℕ}
 use lib.ListN.{length, replicate}
 use Rattle.std.proofs.lemmas.Result.{err_from_is_err_and}
-use Rattle.survey_reading.proofs.ReadLaws.{Cleared, cleared_own, links_refused}
+use Rattle.survey_reading.proofs.ReadLaws.{cleared, cleared_own, links_refused}
 use Rattle.survey_importing.proofs.ImportLaws.{counts_within, head_refused, head_read, edges_read, import_is}
 use Rattle.survey_importing.proofs.import_survey.Goals as goal
-
--- both lists are cleared before the first line is read
-cleared : (s₀ x₀ : List ℕ) {s x : List ℕ} → s ≡ replicate (length s₀) 0 → x ≡ replicate (length x₀) 0 → Cleared s₀ x₀ s x
-cleared s₀ x₀ a b = record { starts = a; neighbours = b }
 
 pub returns-in_err-n : goal.returns-in_err-n
 returns-in_err-n c =

@@ -8,12 +8,8 @@ use Rattle.std.proofs.lemmas.Result.{err_from_is_err_and}
 use Rattle.model.specs.Reading.{read_links}
 use Rattle.model.proofs.Links.{links_sound}
 use Rattle.survey_reading_lines.specs.LinesRead.{Told}
-use Rattle.survey_reading.proofs.ReadLaws.{Cleared, cleared_own, LinksRead, links_read, links_refused, counts_within, first_refused, first_read}
+use Rattle.survey_reading.proofs.ReadLaws.{cleared, cleared_own, LinksRead, links_read, links_refused, counts_within, first_refused, first_read}
 use Rattle.survey_reading.proofs.read_within.Goals as goal
-
--- both lists are cleared before the first line is read
-cleared : (s₀ x₀ : List ℕ) {s x : List ℕ} → s ≡ replicate (length s₀) 0 → x ≡ replicate (length x₀) 0 → Cleared s₀ x₀ s x
-cleared s₀ x₀ a b = record { starts = a; neighbours = b }
 
 -- i link lines were read into a matrix
 lines_read : (n m p q i : ℕ) (text ws : List ℕ) → n ≤ 1024 → m ≤ 16384 → 2 * m ≤ q → Told (read_links n m [] text) (Ok i) ws
