@@ -114,6 +114,7 @@ pub fn survey<'a>(n: usize, starts: &'a [u32], neighbours: &'a [u16]) -> Option<
 }
 
 // Acceptance of a survey: refused 2, 8 for `starts`, or 9.
+#[tactic(auto, unfolding(model::specs::Survey::bad_size, model::specs::Survey::accepting))]
 pub fn accept(n: usize, starts: &[u32], neighbours: &[u16]) -> Result<(), Refusal>
     ensures { outcome result ≡ accepting n starts.now neighbours.now }
 {
