@@ -118,48 +118,61 @@ fn numbers_at(text: &[u8], at: usize, separator: u8, count: usize) -> Option<Num
     requires { count ≤ 3 }
     ensures { found_numbers text.now count result ≡ numbers_first separator count (drop at text.now) }
 {
-    let mut x = 0;
-    let mut y = 0;
-    let mut z = 0;
-    let mut next = at;
+    let mut numbers = Numbers {
+        third_last: 0,
+        second_last: 0,
+        last: 0,
+        end: at,
+    };
     for _ in 0..count {
-        let number = field_at(text, next, separator)?;
-        x = y;
-        y = z;
-        z = number.value;
-        next = number.end;
+        let number = field_at(text, numbers.end, separator)?;
+        numbers = Numbers {
+            third_last: numbers.second_last,
+            second_last: numbers.last,
+            last: number.value,
+            end: number.end,
+        };
     }
-    Some(Numbers {
-        third_last: x,
-        second_last: y,
-        last: z,
-        end: next,
-    })
+    Some(numbers)
 }
 
-// The line at a place, by its shape: the numbers, and the place after the line feed.
-fn parse_line(text: &[u8], at: usize, word: &[u8], separator: u8, count: usize) -> Option<Numbers>
-    requires { T (is_shape word.now separator count) }
-    ensures { found_numbers text.now count result ≡ number_line word.now separator count (drop at text.now) }
-{
-    if !has_word(text, at, word) {
-        return None;
-    }
-    let numbers = numbers_at(text, at + word.len(), separator, count)?;
-    if !has_byte(text, numbers.end, b'\n') {
-        return None;
-    }
-    Some(Numbers {
-        end: numbers.end + 1,
-        ..numbers
-    })
+// The shape of a line: its first word, the separator in front of each number, and the count of numbers.
+#[derive(Clone, Copy)]
+pub struct Shape<'a> {
+    pub word: &'a [u8],
+    pub separator: u8,
+    pub count: usize,
 }
 
-// Whether a line may have such a shape.
-fn is_shape(word: &[u8], separator: u8, count: usize) -> bool
-    ensures { result ≡ is_shape word.now separator count }
-{
-    !word.contains(&b'\n') & (separator < b'0') & (separator != b'\n') & (count <= 3)
+impl<'a> Shape<'a> {
+    // Whether a line may have it.
+    fn is_possible(&self) -> bool
+        ensures { result ≡ is_shape self.now.word.now self.now.separator self.now.count }
+    {
+        !self.word.contains(&b'\n')
+            & (self.separator < b'0')
+            & (self.separator != b'\n')
+            & (self.count <= 3)
+    }
+
+    // The line at a place: the numbers, and the place after the line feed.
+    fn parse(&self, text: &[u8], at: usize) -> Option<Numbers>
+        requires { T (is_shape self.now.word.now self.now.separator self.now.count) }
+        ensures { found_numbers text.now self.now.count result
+            ≡ number_line self.now.word.now self.now.separator self.now.count (drop at text.now) }
+    {
+        if !has_word(text, at, self.word) {
+            return None;
+        }
+        let numbers = numbers_at(text, at + self.word.len(), self.separator, self.count)?;
+        if !has_byte(text, numbers.end, b'\n') {
+            return None;
+        }
+        Some(Numbers {
+            end: numbers.end + 1,
+            ..numbers
+        })
+    }
 }
 
 // The line reader: the text, and the start of the next line.
@@ -178,14 +191,14 @@ impl<'a> LineReader<'a> {
     }
 
     // The next line, by its shape. A shape that no line may have finds none.
-    pub fn next_line(&self, word: &[u8], separator: u8, count: usize) -> Option<Numbers>
-        ensures { found_numbers self.now.text.now count result
-            ≡ line_by word.now separator count (drop self.now.at self.now.text.now) }
+    pub fn next_line(&self, shape: &Shape<'_>) -> Option<Numbers>
+        ensures { found_numbers self.now.text.now shape.now.count result
+            ≡ line_by shape.now.word.now shape.now.separator shape.now.count (drop self.now.at self.now.text.now) }
     {
-        if !is_shape(word, separator, count) {
+        if !shape.is_possible() {
             return None;
         }
-        parse_line(self.text, self.at, word, separator, count)
+        shape.parse(self.text, self.at)
     }
 }
 
@@ -193,11 +206,16 @@ impl<'a> LineReader<'a> {
 pub fn pair_at(text: &[u8], at: usize, word: &[u8], separator: u8) -> Option<Pair<u64>>
     ensures { found text.now result ≡ pair_by word.now separator (drop at text.now) }
 {
+    let shape = Shape {
+        word,
+        separator,
+        count: 2,
+    };
     let Numbers {
         second_last: a,
         last: b,
         end,
         ..
-    } = LineReader::at(text, at).next_line(word, separator, 2)?;
+    } = LineReader::at(text, at).next_line(&shape)?;
     Some(Pair { a, b, end })
 }

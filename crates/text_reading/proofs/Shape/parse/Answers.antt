@@ -4,14 +4,14 @@ use native.Mathlib.Omega.{arith}
 use Rattle.text_reading.specs.Scan.{found_numbers}
 use Rattle.text_reading.proofs.Scanning.{has_within}
 use Rattle.text_reading.proofs.Shapes.{few, word_within, no_word, no_numbers, no_end, whole_line}
-use Rattle.text_reading.proofs.parse_line.Goals as goal
+use Rattle.text_reading.proofs.Shape.parse.Goals as goal
 
 pub returns-then-not-has_word : goal.returns-then-not-has_word
 returns-then-not-has_word c = no_word _ _ _ c.requires c.args.text.now c.args.at (sym c.if-not-has_word.ensures)
 
 pub overflow_add-at : goal.overflow_add-at
 overflow_add-at c =
-    ⊎_elim (λ e. omega arith) (λ l. omega arith) (word_within c.args.word.now c.args.text.now c.args.at (sym c.if-not-has_word.ensures))
+    ⊎_elim (λ e. omega arith) (λ l. omega arith) (word_within c.args.self.now.word.now c.args.text.now c.args.at (sym c.if-not-has_word.ensures))
 
 pub numbers_at-requires : goal.numbers_at-requires
 numbers_at-requires c = few _ _ _ c.requires
