@@ -8,8 +8,7 @@ use native.Mathlib.Omega.{arith}
 use lib.ListN.{length}
 use Rattle.model.specs.declared.Refusal.{Refusal}
 use Rattle.model.specs.declared.Size.{Size}
-use Rattle.model.specs.declared.Counting.TheVariants as counting
-use Rattle.model.specs.declared.Reading.TheVariants as read
+use Rattle.std.specs.Prelude.{Ok, Err}
 use Rattle.model.specs.Answers.{Outcome, refused, answered, number}
 use Rattle.model.specs.SurveyText.{line_of}
 use Rattle.model.specs.Survey.{Graph, neighbours_of, Accepted}
@@ -51,24 +50,24 @@ unfolding listing
 listing_said text p-is q-is = rw (p-is, q-is) refl
 
 module _ (text : List ℕ) {p q : ℕ} (p-is : p ≡ 128 + 1) (q-is : q ≡ 2 * 2048) {starts neighbours : List ℕ} where
-  pub listing_refused : (r : Refusal) → read_returned (read.Refused r) starts neighbours ≡ reading_of p q (parse 128 2048 p q text)
+  pub listing_refused : (r : Refusal) → read_returned (Err r) starts neighbours ≡ reading_of p q (parse 128 2048 p q text)
       → listing_text (refused (number r)) ≡ listing text
   unfolding reading_of number_in
   listing_refused r e = at (parse 128 2048 p q text) e ∙ listing_said text p-is q-is
     where
-      at : (o : Outcome Parsed) → read_returned (read.Refused r) starts neighbours ≡ reading_of p q o
+      at : (o : Outcome Parsed) → read_returned (Err r) starts neighbours ≡ reading_of p q o
           → listing_text (refused (number r)) ≡ listing_text o
       at (refused k) e = ap (λ (z : AfterReading). listing_text (refused (number_in (λ s. s.nodes) z.answer))) e
       at (answered x) e = never (ap (λ (z : AfterReading). z.answer) e)
 
-  pub listing_read : (x : Size) → read_returned (read.Read x) starts neighbours ≡ reading_of p q (parse 128 2048 p q text)
+  pub listing_read : (x : Size) → read_returned (Ok x) starts neighbours ≡ reading_of p q (parse 128 2048 p q text)
       → IsListed text starts neighbours x.nodes
   unfolding reading_of listing_text number_in
   listing_read x e =
-      let r = read_survey 128 2048 (omega arith) (omega arith) text p q (read.Read x) starts neighbours e x refl in
+      let r = read_survey 128 2048 (omega arith) (omega arith) text p q (Ok x) starts neighbours e x refl in
       record { survey = r.0; few = r.1; lines = at (parse 128 2048 p q text) refl e }
     where
-      at : (o : Outcome Parsed) → parse 128 2048 p q text ≡ o → read_returned (read.Read x) starts neighbours ≡ reading_of p q o
+      at : (o : Outcome Parsed) → parse 128 2048 p q text ≡ o → read_returned (Ok x) starts neighbours ≡ reading_of p q o
           → listing_of x.nodes (in_force x.nodes 0) (neighbours_of starts neighbours) ≡ listing text
       at (refused k) h e = never (sym (ap (λ (z : AfterReading). z.answer) e))
       at (answered y) h e =
@@ -81,5 +80,5 @@ module _ (text : List ℕ) {p q : ℕ} (p-is : p ≡ 128 + 1) (q-is : q ≡ 2 * 
 -- ---- a listing that is copied into a buffer
 
 pub copied : {t buffer buffer' : List ℕ} {k : ℕ} → length t ≤ length buffer → Wrote buffer buffer' 0 k t
-    → write_returned (counting.Count (length t)) buffer' ≡ writing_of (answered tt) t buffer
+    → write_returned (Ok (length t)) buffer' ≡ writing_of (answered tt) t buffer
 copied {t} {buffer} h v = rw (wrote_over t v).0 (sym (write_whole t buffer h))

@@ -4,59 +4,54 @@
 ghost use Rattle.std.specs.Prelude.{◌≡◌, ◌*◌, ◌≤◌, length};
 ghost use Rattle.base_lists.specs.Written.{Wrote};
 ghost use Rattle.model.specs.Answers.{number, refused, answered};
-ghost use Rattle.model.specs.Survey.{neighbours_of, Accepted};
 ghost use Rattle.model.specs.Listing.{listing_of, listing_text, listing, writing_listing};
 ghost use Rattle.model.specs.Writing.{writing_of, write_returned};
+ghost use Rattle.survey_neighbours.specs.SurveyGraph.{graph};
 ghost use Rattle.listing_writing.specs.Length.{most_listing};
 
-use model::{Counting, Reading, Refusal};
+use answer_pair::Tables;
+use model::Refusal;
+use survey_neighbours::Survey;
 
 // Builds the three tables of a survey for threshold s and writes its listing, from the first byte on. Returns the listing's length.
 fn list_tables(
-    n: usize,
+    survey: &Survey<'_>,
     s: usize,
-    starts: &[u32],
-    neighbours: &[u16],
     full: &mut [u16],
     low: &mut [u16],
     report: &mut [u16],
     lines: &mut [u8],
 ) -> usize
-    requires accepted { Accepted n starts.now neighbours.now × (n ≤ 128)
-        × (length full.old ≡ n * n) × (length low.old ≡ n * n) × (length report.old ≡ n * n) }
-    requires neighbours_in_bounds { length (listing_of n s (neighbours_of starts.now neighbours.now)) ≤ length lines.old }
-    ensures { Wrote lines.old lines.new 0 result
-        (listing_of n s (neighbours_of starts.now neighbours.now)) }
+    requires sizes { let size = survey.now.n * survey.now.n in (survey.now.n ≤ 128)
+        × (length full.old ≡ size) × (length low.old ≡ size) × (length report.old ≡ size) }
+    requires room { length (listing_of survey.now.n s (graph survey.now)) ≤ length lines.old }
+    ensures { Wrote lines.old lines.new 0 result (listing_of survey.now.n s (graph survey.now)) }
 {
-    let mut hubs = [0u16; 128];
-    let count = table_building::build_tables(
-        n, s, starts, neighbours, full, low, report, &mut hubs,
-    );
+    let n = survey.n;
+    let mut hubs = [0; 128];
+    let count = table_building::build_tables(survey, s, full, low, report, &mut hubs);
+    let tables = Tables {
+        n,
+        full,
+        low,
+        report,
+    };
     let i = text_writing::write_line(lines, 0, b"R", b',', &[n as u32, count as u32]);
-    listing_lines::write_pairs(n, full, low, report, lines, i)
+    listing_lines::write_pairs(&tables, lines, i)
 }
 
 // The same with its own lists for the tables, of a survey of at most 128 nodes.
-pub fn list_survey(
-    n: usize,
-    s: usize,
-    starts: &[u32],
-    neighbours: &[u16],
-    lines: &mut [u8],
-) -> usize
-    requires { Accepted n starts.now neighbours.now × (n ≤ 128) × (most_listing ≤ length lines.old) }
-    ensures { Wrote lines.old lines.new 0 result
-        (listing_of n s (neighbours_of starts.now neighbours.now)) }
+pub fn list_survey(survey: &Survey<'_>, s: usize, lines: &mut [u8]) -> usize
+    requires { (survey.now.n ≤ 128) × (most_listing ≤ length lines.old) }
+    ensures { Wrote lines.old lines.new 0 result (listing_of survey.now.n s (graph survey.now)) }
 {
-    let size = n * n;
-    let mut full = [0u16; 16384];
-    let mut low = [0u16; 16384];
-    let mut report = [0u16; 16384];
+    let size = survey.n * survey.n;
+    let mut full = [0; 16384];
+    let mut low = [0; 16384];
+    let mut report = [0; 16384];
     list_tables(
-        n,
+        survey,
         s,
-        starts,
-        neighbours,
         &mut full[..size],
         &mut low[..size],
         &mut report[..size],
@@ -64,75 +59,55 @@ pub fn list_survey(
     )
 }
 
+// Writes the listing of a text that is refused, from the first byte on: one line with the refusal's number. Returns its length.
+fn list_refusal(refusal: Refusal, lines: &mut [u8]) -> usize
+    requires { 5 ≤ length lines.old }
+    ensures { Wrote lines.old lines.new 0 result (listing_text (refused (number refusal))) }
+{
+    let number = base_refusals::refusal_number(refusal);
+    text_writing::write_line(lines, 0, b"X", b',', &[number])
+}
+
+// Writes the listing of a text with the stored threshold, from the first byte on. Returns its length.
+fn list_text(text: &[u8], lines: &mut [u8]) -> usize
+    requires { most_listing ≤ length lines.old }
+    ensures wrote { Wrote lines.old lines.new 0 result (listing text.now) }
+    ensures bound { length (listing text.now) ≤ most_listing }
+{
+    let mut starts = [0; 129];
+    let mut neighbours = [0; 4096];
+    match survey_reading::read_within(text, 128, 2048, &mut starts, &mut neighbours) {
+        Ok(size) => {
+            let survey = Survey {
+                n: size.nodes,
+                starts: &starts,
+                neighbours: &neighbours,
+            };
+            let s = base_threshold::in_force(survey.n, 0);
+            list_survey(&survey, s, lines)
+        }
+        Err(refusal) => list_refusal(refusal, lines),
+    }
+}
+
 // Copies a listing into the buffer if it fits.
-fn copy_listing(lines: &[u8], buffer: &mut [u8]) -> Counting
+fn copy_listing(lines: &[u8], buffer: &mut [u8]) -> Result<usize, Refusal>
     ensures { write_returned result buffer.new ≡ writing_of (answered tt) lines.now buffer.old }
 {
     if buffer.len() < lines.len() {
-        return Counting::Refused(Refusal::ShortBuffer);
+        return Err(Refusal::ShortBuffer);
     }
-    base_lists::copy8(lines, buffer, 0);
-    Counting::Count(lines.len())
-}
-
-// Writes the listing of a text that is refused: one line with the refusal's number, of at most 5 bytes.
-fn write_refusal(refusal: Refusal, buffer: &mut [u8]) -> Counting
-    ensures { write_returned result buffer.new
-        ≡ writing_of (answered tt) (listing_text (refused (number refusal))) buffer.old }
-{
-    let mut lines = [0u8; 5];
-    let number = base_refusals::refusal_number(refusal);
-    let length = text_writing::write_line(&mut lines, 0, b"X", b',', &[number]);
-    copy_listing(&lines[..length], buffer)
-}
-
-// Writes the listing of a survey for threshold s: into a lent list of the greatest length, and from there into the buffer if it fits.
-fn write_survey(
-    n: usize,
-    s: usize,
-    starts: &[u32],
-    neighbours: &[u16],
-    lines: &mut [u8],
-    buffer: &mut [u8],
-) -> Counting
-    requires { Accepted n starts.now neighbours.now × (n ≤ 128) × (most_listing ≤ length lines.old) }
-    ensures { write_returned result buffer.new
-        ≡ writing_of (answered tt) (listing_of n s (neighbours_of starts.now neighbours.now)) buffer.old }
-{
-    let length = list_survey(n, s, starts, neighbours, lines);
-    copy_listing(&lines[..length], buffer)
-}
-
-// The same with an array of that length, lent whole, so that the check does not look at its entries.
-fn write_in_array(
-    n: usize,
-    s: usize,
-    starts: &[u32],
-    neighbours: &[u16],
-    lines: &mut [u8; 146314],
-    buffer: &mut [u8],
-) -> Counting
-    requires { Accepted n starts.now neighbours.now × (n ≤ 128) }
-    ensures { write_returned result buffer.new
-        ≡ writing_of (answered tt) (listing_of n s (neighbours_of starts.now neighbours.now)) buffer.old }
-{
-    write_survey(n, s, starts, neighbours, lines, buffer)
+    base_lists::copy(lines, buffer, 0);
+    Ok(lines.len())
 }
 
 // Writes the listing of a text into a buffer, with the stored threshold. Refused where the buffer is too short, which is then not altered;
 // 146,314 bytes are always enough.
-pub fn write_listing(text: &[u8], buffer: &mut [u8]) -> Counting
+pub fn write_listing(text: &[u8], buffer: &mut [u8]) -> Result<usize, Refusal>
     ensures buffer_after { write_returned result buffer.new ≡ writing_listing text.now buffer.old }
     ensures text_len_bound { length (listing text.now) ≤ most_listing }
 {
-    let mut starts = [0u32; 129];
-    let mut neighbours = [0u16; 4096];
-    match survey_reading::read_within(text, 128, 2048, &mut starts, &mut neighbours) {
-        Reading::Refused(r) => write_refusal(r, buffer),
-        Reading::Read(size) => {
-            let s = base_threshold::in_force(size.nodes, 0);
-            let mut lines = [0u8; 146314];
-            write_in_array(size.nodes, s, &starts, &neighbours, &mut lines, buffer)
-        }
-    }
+    let mut lines = [0; 146314];
+    let length = list_text(text, &mut lines);
+    copy_listing(&lines[..length], buffer)
 }

@@ -7,4 +7,4 @@ pub returns-then-buffer-lines : goal.returns-then-buffer-lines
 returns-then-buffer-lines c = sym (write_short _ _ c.if-buffer-lines.true)
 
 pub returns : goal.returns
-returns c = copied c.if-buffer-lines.false c.copy8.ensures
+returns c = copied c.if-buffer-lines.false c.copy.ensures

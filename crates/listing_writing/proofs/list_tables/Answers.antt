@@ -5,8 +5,9 @@ use native.Mathlib.Omega.{arith}
 use lib.ListN.{length, length-append}
 use Rattle.model.specs.Lines.{number_line_of}
 use Rattle.model.specs.SurveyText.{line_of}
-use Rattle.model.specs.Survey.{Graph, neighbours_of}
+use Rattle.model.specs.Survey.{Graph}
 use Rattle.model.specs.Listing.{pair_lines, listing_of}
+use Rattle.survey_neighbours.specs.SurveyGraph.{graph}
 use Rattle.base_lists.proofs.Written.{wrote_then, wrote_room}
 use Rattle.table_building.proofs.WholeTables.{AreTables, tables_whole}
 use Rattle.listing_writing.proofs.Whole.{count_few, listing_by_tables}
@@ -31,24 +32,24 @@ module _ {n s : ℕ} {G : Graph} {count : ℕ} {full low report : List ℕ} (t :
 
 -- the tables that building left
 tables : (c : After-build_tables-count) →
-    AreTables c.args.n c.args.s (neighbours_of c.args.starts.now c.args.neighbours.now) c.build_tables-count.result
+    AreTables c.args.survey.now.n c.args.s (graph c.args.survey.now) c.build_tables-count.result
     c.build_tables-count.new.full c.build_tables-count.new.low c.build_tables-count.new.report
 tables c =
-    tables_whole _ _ (neighbours_of c.args.starts.now c.args.neighbours.now) c.args.full.now c.args.low.now c.args.report.now _
-    c.build_tables-count.ensures c.requires.accepted.2 c.requires.accepted.3 c.requires.accepted.4
+    tables_whole _ _ (graph c.args.survey.now) c.args.full.now c.args.low.now c.args.report.now _
+    c.build_tables-count.ensures c.requires.sizes.1 c.requires.sizes.2 c.requires.sizes.3
 
 pub overflow_cast-count : goal.overflow_cast-count
 overflow_cast-count c = omega (arith, count_few (tables (goal.at.overflow_cast-count c).After-build_tables-count))
 
 pub write_line-i-requires : goal.write_line-i-requires
-write_line-i-requires c = omega (arith, room (tables (goal.at.write_line-i-requires c).After-build_tables-count) c.requires.neighbours_in_bounds)
+write_line-i-requires c = omega (arith, room (tables (goal.at.write_line-i-requires c).After-build_tables-count) c.requires.room)
 
-pub write_pairs-requires-clause-report_in_bounds : goal.write_pairs-requires-clause-report_in_bounds
-write_pairs-requires-clause-report_in_bounds c =
-    let t = tables (goal.at.write_pairs-requires-clause-report_in_bounds c).After-build_tables-count in
-    wrote_room _ (room t c.requires.neighbours_in_bounds) c.write_line-i.ensures
+pub write_pairs-requires : goal.write_pairs-requires
+write_pairs-requires c =
+    let t = tables (goal.at.write_pairs-requires c).After-build_tables-count in
+    wrote_room _ (room t c.requires.room) c.write_line-i.ensures
 
 pub returns : goal.returns
 returns c =
     let t = tables (goal.at.returns c).After-build_tables-count in
-    rw (listed t) at (wrote_then (room t c.requires.neighbours_in_bounds) c.write_line-i.ensures c.write_pairs.ensures)
+    rw (listed t) at (wrote_then (room t c.requires.room) c.write_line-i.ensures c.write_pairs.ensures)
