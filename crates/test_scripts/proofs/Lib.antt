@@ -1,2 +1,1 @@
-pub mod CommandLaws
 pub mod Summing

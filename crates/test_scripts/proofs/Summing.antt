@@ -1,42 +1,30 @@
--- Laws of sums and of replaced entries.
+-- Laws of sums.
 -- Assumes nothing.
-use mathlib.Core.Path.{◌≡◌, refl, sym, ap, ◌∙◌}
-use mathlib.Core.List.{List}
-use Prim.Native.Nat.{ℕ, ◌+◌, ◌*◌, ◌%◌, ◌≤◌, ◌<◌}
-use native.Mathlib.Nat.{mod-lt}
-use native.Mathlib.Omega.{arith}
-use borrow.Author.Tests.{lt-ltb, le-ltb}
-use lib.Dec.{lit≤}
-use lib.ListN.{length, get_or, drop, set, drop_of_length-le}
-use Rattle.model.proofs.Loops.{drop_next}
-use Rattle.test_scripts.specs.Sums.{sum_from, checksum, replaced}
+use mathlib.Core.Path.{◌≡◌, sym, ap, ◌∙◌, subst}
+use mathlib.Core.List.{List, [], ◌∷◌, ◌++◌}
+use Prim.Native.Nat.{ℕ, ◌+◌, ◌*◌, ◌%◌, ◌<◌}
+use lib.ListN.{length, get_or, take}
+use Rattle.std.specs.List.{AllZip, each_same}
+use Rattle.std.proofs.lemmas.List.{take_more}
+use Rattle.std.proofs.lemmas.List.Sums.{fold_push}
+use Rattle.test_scripts.specs.Sums.{checksum, SumsTo}
 
--- the sum over the first i entries: continued over the others, it is the sum over all
-pub record Summed (list : List ℕ) (sum i : ℕ) : Type 0 where
-  pub within : i ≤ length list
-  pub small : sum < 1000000007
-  pub continued : sum_from sum (drop i list) ≡ checksum list
+-- where an entry is converted to itself, as one of type u8, u16 or u32 is, the sum is that of the list
+pub sum_of_numbers : (l : List ℕ) {sum : ℕ} → SumsTo (λ x y. y ≡ x) l sum → sum ≡ checksum l
+sum_of_numbers l s = s.2 ∙ ap checksum (each_same l s.0 s.1)
 
-module _ {list : List ℕ} {sum i : ℕ} (summed : Summed list sum i) where
-  -- one entry more
-  pub summed_more : i < length list → Summed list ((sum * 31 + get_or list i 0) % 1000000007) (i + 1)
-  unfolding sum_from
-  summed_more h = record {
-    within = omega arith;
-    small = mod-lt _ (lit≤ tt);
-    continued = sym (ap (sum_from sum) (drop_next list i h)) ∙ summed.continued;
-  }
+zip_push : {A B : Type 0} (R : A → B → Type 0) (xs : List A) (ys : List B) {x : A} {y : B}
+    → AllZip R xs ys → R x y → AllZip R (xs ++ x ∷ []) (ys ++ y ∷ [])
+zip_push R [] [] h r = (r, tt)
+zip_push R [] (z ∷ ys) h r = absurd h
+zip_push R (w ∷ xs) [] h r = absurd h
+zip_push R (w ∷ xs) (z ∷ ys) h r = (h.0, zip_push R xs ys h.1 r)
 
-  -- no entry left
-  pub summed_all : length list ≤ i → sum ≡ checksum list
-  unfolding sum_from
-  summed_all h = sym (ap (sum_from sum) (drop_of_length-le list h)) ∙ summed.continued
-
--- there is such an entry; there is none
-pub replaced_there : (l : List ℕ) (i x : ℕ) → i < length l → set l i x ≡ replaced l i x
-unfolding replaced
-replaced_there l i x h = rw (lt-ltb i (length l) h) refl
-
-pub replaced_past : (l : List ℕ) (i x : ℕ) → length l ≤ i → l ≡ replaced l i x
-unfolding replaced
-replaced_past l i x h = rw (le-ltb i (length l) h) refl
+-- the sum over the first entries, and one entry more
+pub sum_more : {A : Type 0} (R : A → ℕ → Type 0) (l : List A) (i : ℕ) {x : A} {y sum : ℕ} → i < length l → x ≡ get_or l i x → R x y
+    → SumsTo R (take i l) sum → SumsTo R (take (i + 1) l) ((sum * 31 + y) % 1000000007)
+sum_more R l i {x} {y} within is r s = (
+  s.0 ++ y ∷ [],
+  subst (λ front. AllZip R front (s.0 ++ y ∷ [])) (ap (λ z. take i l ++ z ∷ []) is ∙ sym (take_more l i x within)) (zip_push R _ _ s.1 r),
+  ap (λ k. (k * 31 + y) % 1000000007) s.2 ∙ sym (fold_push _ 0 s.0 y),
+)

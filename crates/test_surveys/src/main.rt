@@ -13,10 +13,11 @@ ghost use Rattle.std.specs.Prelude.{if◌then◌else◌};
 ghost use Rattle.model.specs.Writing.{writing, write_returned};
 ghost use Rattle.model.specs.Dimacs.{exporting};
 
-use base_refusals::refusal_number;
-use model::{Accepting, Counting};
+use model::Refusal;
 use std::io;
-use test_scripts::{Command, at_most, print_line, read_command, run_read, set16, set32, sum8};
+use test_scripts::{
+    Command, checksum, front, front_mut, line_after, print_outcome, read_command, replace, run_read,
+};
 
 const INPUT: usize = 262144;
 
@@ -33,26 +34,32 @@ fn run_accept(
     starts: &[u32],
     neighbours: &[u16],
 ) -> io::Result<usize> {
-    let l = read_command(script, c.next);
-    let p = at_most(l.x, starts.len());
-    let q = at_most(l.y, neighbours.len());
-    match survey_acceptance::accept(c.x as usize, &starts[..p], &neighbours[..q]) {
-        Accepting::Refused(r) => print_line(rt, c.letter, &[refusal_number(r) as u64])?,
-        Accepting::Accepted => print_line(rt, c.letter, &[0])?,
-    }
-    Ok(l.next)
+    let line = line_after(script, c);
+    let answer = survey_acceptance::accept(
+        c.x as usize,
+        front(starts, line.x),
+        front(neighbours, line.y),
+    );
+    print_outcome(rt, c.letter, answer.map(|()| []), &[])?;
+    Ok(line.next)
 }
 
 // Writes a survey's text, or, by the letter X, its file.
-fn write_by(letter: u8, n: usize, starts: &[u32], neighbours: &[u16], buffer: &mut [u8]) -> Counting
+fn write_by(
+    letter: u8,
+    n: usize,
+    starts: &[u32],
+    neighbours: &[u16],
+    buffer: &mut [u8],
+) -> Result<usize, Refusal>
     ensures { write_returned result buffer.new
         ≡ (if eqb letter 88 then exporting n starts.now neighbours.now buffer.old
         else writing n starts.now neighbours.now buffer.old) }
 {
-    if letter == b'X' {
-        return survey_writing::export_survey(n, starts, neighbours, buffer);
+    match letter {
+        b'X' => survey_writing::export_survey(n, starts, neighbours, buffer),
+        _ => survey_writing::write_survey(n, starts, neighbours, buffer),
     }
-    survey_writing::write_survey(n, starts, neighbours, buffer)
 }
 
 fn run_write(
@@ -63,76 +70,59 @@ fn run_write(
     neighbours: &[u16],
     buffer: &mut [u8],
 ) -> io::Result<usize> {
-    let l = read_command(script, c.next);
-    let p = at_most(l.x, starts.len());
-    let q = at_most(l.y, neighbours.len());
-    let b = at_most(c.y, buffer.len());
+    let line = line_after(script, c);
     let answer = write_by(
         c.letter,
         c.x as usize,
-        &starts[..p],
-        &neighbours[..q],
-        &mut buffer[..b],
+        front(starts, line.x),
+        front(neighbours, line.y),
+        front_mut(buffer, c.y),
     );
-    let s = sum8(buffer);
-    match answer {
-        Counting::Refused(r) => print_line(rt, c.letter, &[refusal_number(r) as u64, 0, s])?,
-        Counting::Count(k) => print_line(rt, c.letter, &[0, k as u64, s])?,
-    }
-    Ok(l.next)
+    print_outcome(
+        rt,
+        c.letter,
+        answer.map(|count| [count as u64]),
+        &[checksum(buffer)],
+    )?;
+    Ok(line.next)
 }
 
-// Runs the command at a place, and returns the place of the next one.
+// Runs a command, and returns the place of the next one.
 fn step(
     rt: &impl Print,
     script: &[u8],
-    at: usize,
+    c: Command,
     starts: &mut [u32; STARTS],
     neighbours: &mut [u16; NEIGHBOURS],
     buffer: &mut [u8; BUFFER],
 ) -> io::Result<usize> {
-    let c = read_command(script, at);
-    if (c.letter == b'R') | (c.letter == b'I') {
-        return run_read(rt, script, c, starts, neighbours);
-    }
-    if c.letter == b'S' {
-        return Ok(set32(c, starts));
-    }
-    if c.letter == b'E' {
-        return Ok(set16(c, neighbours));
-    }
-    if c.letter == b'A' {
-        return run_accept(rt, script, c, starts, neighbours);
-    }
-    if (c.letter == b'W') | (c.letter == b'X') {
-        return run_write(rt, script, c, starts, neighbours, buffer);
+    match c.letter {
+        b'R' | b'I' => return run_read(rt, script, c, starts, neighbours),
+        b'A' => return run_accept(rt, script, c, starts, neighbours),
+        b'W' | b'X' => return run_write(rt, script, c, starts, neighbours, buffer),
+        b'S' => replace(c, starts),
+        b'E' => replace(c, neighbours),
+        _ => {}
     }
     Ok(c.next)
 }
 
 // Runs all commands. There are no more of them than bytes.
 fn run(rt: &impl Print, script: &[u8]) -> io::Result<()> {
-    let mut starts = [7u32; STARTS];
-    let mut neighbours = [7u16; NEIGHBOURS];
-    let mut buffer = [35u8; BUFFER];
+    let mut starts = [7; STARTS];
+    let mut neighbours = [7; NEIGHBOURS];
+    let mut buffer = [35; BUFFER];
     let mut at = 0;
     for _ in 0..script.len() {
-        at = step(rt, script, at, &mut starts, &mut neighbours, &mut buffer)?;
+        let Some(c) = read_command(script, at) else {
+            break;
+        };
+        at = step(rt, script, c, &mut starts, &mut neighbours, &mut buffer)?;
     }
     Ok(())
 }
 
-fn read_and_run(rt: &(impl Input + Print), input: &mut [u8]) -> io::Result<()> {
-    let (Ok(length) | Err(length)) = base_input::read_front(&mut rt.reader(), input);
-    run(rt, &input[..length])
-}
-
-// An array of this type is lent without a look at its entries, which keeps the check short.
-fn run_in(rt: &(impl Input + Print), input: &mut [u8; INPUT]) -> io::Result<()> {
-    read_and_run(rt, input)
-}
-
 fn main(rt: HostRuntime) -> io::Result<()> {
     let mut input = [0u8; INPUT];
-    run_in(&rt, &mut input)
+    base_input::with_front(&rt, &mut input, |script| run(&rt, script))
 }
