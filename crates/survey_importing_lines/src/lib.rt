@@ -77,6 +77,7 @@ fn keep_link(bits: &mut [u64; 16384], a: usize, b: usize) -> usize
 }
 
 // Reads m edge lines from a place on into the empty matrix, and the end of the file behind them; answers how many links it has.
+// kept: a loop of its own beside `read_links`. What a line adds and what may come behind the last one differ; a loop over both is longer
 pub fn read_edges(
     text: &[u8],
     at: usize,

@@ -13,12 +13,6 @@ use Rattle.model.specs.Reading.{limits_of, counts_of}
 use Rattle.model.proofs.Links.{first_taken}
 use Rattle.model.proofs.Acceptance.{in_range}
 
--- the counts are within the limits
-pub record InLimits (N M n m : ℕ) : Type 0 where
-  pub some_node : 1 ≤ n
-  pub size : n ≤ N
-  pub few : m ≤ M
-
 -- what the limits make of a first line's counts, by the tests that they pass
 module _ (N M p q n m : ℕ) (rest : List ℕ) where
   pub no_node : n < 1 → refused 2 ≡ limits_of N M p q (n, m, rest)
@@ -33,23 +27,23 @@ module _ (N M p q n m : ℕ) (rest : List ℕ) where
   unfolding limits_of
   many_links h k j = rw (in_range N n h k, lt-ltb M m j)
 
-  module _ (w : InLimits N M n m) where
+  module _ (some_node : 1 ≤ n) (size : n ≤ N) (few : m ≤ M) where
     sized : outside N n ≡ false
-    sized = in_range N n w.some_node w.size
+    sized = in_range N n some_node size
 
     pub starts_short : short_starts n p ≡ true → refused 8 ≡ limits_of N M p q (n, m, rest)
     unfolding limits_of
-    starts_short j = rw (sized, le-ltb M m w.few, j)
+    starts_short j = rw (sized, le-ltb M m few, j)
 
     pub neighbours_short : q < 2 * m → refused 8 ≡ limits_of N M p q (n, m, rest)
     unfolding limits_of
-    neighbours_short j = rw (sized, le-ltb M m w.few, lt-ltb q (2 * m) j, or-true (ltb p (n + 1)))
+    neighbours_short j = rw (sized, le-ltb M m few, lt-ltb q (2 * m) j, or-true (ltb p (n + 1)))
 
     pub counted : n + 1 ≤ p → 2 * m ≤ q → answered (n, m, rest) ≡ limits_of N M p q (n, m, rest)
     unfolding counts_of
     counted r j =
         sym (first_taken N M p q (n, m, rest)
-        (record { some_node = w.some_node; size = w.size; few = w.few; room = r; list_room = j }))
+        (record { some_node = some_node; size = size; few = few; room = r; list_room = j }))
 
 -- the first line
 module _ (N M p q : ℕ) {o : Option (ℕ × ℕ × List ℕ)} where

@@ -11,6 +11,7 @@ ghost use Rattle.survey_stops.specs.Stops.{head_says, edges_stop, kept_line, fil
 use survey_reading_lines::Limits;
 
 // Where a text stops: the line, counted from 1, and the count of nodes that its first line gives, 0 where that line is refused.
+// kept: 0 and not an Option, since `nodes_in`, on which the definitions of the sentences rest, says 0
 #[derive(Clone, Copy)]
 pub struct Place {
     pub line: usize,
@@ -58,6 +59,7 @@ pub fn reading_stops(text: &[u8], most_nodes: usize, most_links: usize) -> Place
 }
 
 // How many of m edge lines from a place on are taken before one is refused.
+// kept: a loop of its own beside `links_taken`. Edges need no matrix; a loop over both is longer than the two
 fn edges_taken(text: &[u8], at: usize, n: usize, m: usize) -> usize
     ensures { LinesTaken m result (uncommented (drop at text.now))
         (edges_stop n m (uncommented (drop at text.now))) }

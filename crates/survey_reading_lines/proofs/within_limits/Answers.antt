@@ -1,8 +1,9 @@
 use mathlib.Core.Path.{sym}
 use borrow.Author.Tests.{ltb-false}
-use Rattle.survey_reading_lines.proofs.FirstLaws.{InLimits, no_node, many_nodes, many_links, starts_short, neighbours_short, counted}
+use Rattle.survey_reading_lines.proofs.FirstLaws.{no_node, many_nodes, many_links, starts_short, neighbours_short, counted}
 use Rattle.survey_reading_lines.proofs.within_limits.Goals as goal
-use Rattle.survey_reading_lines.proofs.within_limits.Goals.{then-line-lt1-via-then-line-lt1, then-line-lt1-via-else-line-lt1+then-limits-line, then-short_starts-via-then-short_starts, then-short_starts-via-else-short_starts+then-limits-m}
+use Rattle.survey_reading_lines.proofs.within_limits.Goals.{then-line-lt1-via-then-line-lt1, then-line-lt1-via-else-line-lt1+then-limits-line}
+use Rattle.survey_reading_lines.proofs.within_limits.Goals.{then-short_starts-via-then-short_starts, then-short_starts-via-else-short_starts+then-limits-m}
 
 pub returns-then-line-lt1 : goal.returns-then-line-lt1
 returns-then-line-lt1 c text = elim c.then-line-lt1.branch [
@@ -15,13 +16,11 @@ returns-then-limits-line-2 c text = many_links _ _ _ _ _ _ _ c.if-line-lt1.false
 
 pub returns-then-short_starts : goal.returns-then-short_starts
 returns-then-short_starts c text =
-    let within : InLimits c.args.limits.nodes c.args.limits.links c.args.line.a c.args.line.b = record { some_node = c.if-line-lt1.false; size = c.if-limits-line.false; few = c.if-limits-line-2.false } in
     elim c.then-short_starts.branch [
-      | then-short_starts-via-then-short_starts w ↦ starts_short _ _ _ _ _ _ _ within (sym w.if-short_starts.ensures)
-      | then-short_starts-via-else-short_starts+then-limits-m w ↦ neighbours_short _ _ _ _ _ _ _ within w.if-limits-m.true
+      | then-short_starts-via-then-short_starts w ↦ starts_short _ _ _ _ _ _ _ c.if-line-lt1.false c.if-limits-line.false c.if-limits-line-2.false (sym w.if-short_starts.ensures)
+      | then-short_starts-via-else-short_starts+then-limits-m w ↦ neighbours_short _ _ _ _ _ _ _ c.if-line-lt1.false c.if-limits-line.false c.if-limits-line-2.false w.if-limits-m.true
     ]
 
 pub returns : goal.returns
 returns c text =
-    let within : InLimits c.args.limits.nodes c.args.limits.links c.args.line.a c.args.line.b = record { some_node = c.if-line-lt1.false; size = c.if-limits-line.false; few = c.if-limits-line-2.false } in
-    counted _ _ _ _ _ _ _ within (ltb-false _ _ (sym c.if-short_starts.ensures)) c.if-limits-m.false
+    counted _ _ _ _ _ _ _ c.if-line-lt1.false c.if-limits-line.false c.if-limits-line-2.false (ltb-false _ _ (sym c.if-short_starts.ensures)) c.if-limits-m.false

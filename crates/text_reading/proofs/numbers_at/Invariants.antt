@@ -6,4 +6,7 @@ use Rattle.text_reading.proofs.Shapes.{prepended, last_of}
 use Rattle.text_reading.proofs.numbers_at.Given as goal
 
 abbrev pub invariant-loop : goal.invariant-loop
-invariant-loop l = (l.counter ≤ l.count) × (prepended (last_of l.counter l.numbers.third_last l.numbers.second_last l.numbers.last) (numbers_first l.separator (l.count - l.counter) (drop l.numbers.end l.text)) ≡ numbers_first l.separator l.count (drop l.at l.text))
+invariant-loop l =
+    let read = last_of l.counter l.numbers.third_last l.numbers.second_last l.numbers.last in
+    let rest = numbers_first l.separator (l.count - l.counter) (drop l.numbers.end l.text) in
+    (l.counter ≤ l.count) × (prepended read rest ≡ numbers_first l.separator l.count (drop l.at l.text))
