@@ -52,8 +52,7 @@ pub fn build(
     if base_refusals::bad_size(n) {
         return Err(Refusal::NodeCount);
     }
-    let above = base_refusals::bad_threshold(t);
-    if above {
+    if base_refusals::bad_threshold(t) {
         return Err(Refusal::BadThreshold);
     }
     if base_refusals::short_starts(n, starts.len())

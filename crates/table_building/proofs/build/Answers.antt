@@ -1,4 +1,6 @@
-use mathlib.Core.Path.{sym}
+use mathlib.Core.Path.{◌≡◌, sym, ◌∙◌}
+use mathlib.Core.Bool.{false}
+use Rattle.model.specs.Threshold.{bad_threshold}
 use borrow.Author.Tests.{lt-ltb, le-ltb, ltb-false}
 use Rattle.model.specs.Building.{building}
 use Rattle.model.proofs.Acceptance.{size_bounds}
@@ -12,9 +14,9 @@ pub returns-then-bad_size-clause-hubs_after : goal.returns-then-bad_size-clause-
 unfolding building
 returns-then-bad_size-clause-hubs_after c = rw (← c.if-bad_size.ensures)
 
-pub returns-then-above-clause-hubs_after : goal.returns-then-above-clause-hubs_after
+pub returns-then-bad_threshold-clause-hubs_after : goal.returns-then-bad_threshold-clause-hubs_after
 unfolding building
-returns-then-above-clause-hubs_after c = rw (← c.if-bad_size.ensures, ← c.if-above.ensures)
+returns-then-bad_threshold-clause-hubs_after c = rw (← c.if-bad_size.ensures, sym c.bad_threshold.ensures ∙ c.if-bad_threshold.true)
 
 pub short_starts-requires : goal.short_starts-requires
 short_starts-requires c = (size_bounds _ (sym c.if-bad_size.ensures)).1
@@ -26,13 +28,14 @@ short_tables-requires c = (size_bounds _ (sym c.if-bad_size.ensures)).1
 pub returns-then-short_starts-clause-hubs_after : goal.returns-then-short_starts-clause-hubs_after
 unfolding building
 returns-then-short_starts-clause-hubs_after c =
+    let split : bad_threshold c.args.t ≡ false = sym c.bad_threshold.ensures ∙ c.if-bad_threshold.false in
     elim c.then-short_starts.branch [
       | then-short_starts-via-then-short_starts w ↦
-          rw (← c.if-bad_size.ensures, ← c.if-above.ensures, ← w.if-short_starts.ensures)
+          rw (← c.if-bad_size.ensures, split, ← w.if-short_starts.ensures)
       | then-short_starts-via-else-short_starts+then-short_tables w ↦
-          rw (← c.if-bad_size.ensures, ← c.if-above.ensures, ← w.if-short_starts.ensures, ← w.if-short_tables.ensures)
+          rw (← c.if-bad_size.ensures, split, ← w.if-short_starts.ensures, ← w.if-short_tables.ensures)
       | then-short_starts-via-else-short_starts+else-short_tables+then-hubs-n w ↦
-          rw (← c.if-bad_size.ensures, ← c.if-above.ensures, ← w.if-short_starts.ensures, ← w.if-short_tables.ensures, lt-ltb _ _ w.if-hubs-n.true)
+          rw (← c.if-bad_size.ensures, split, ← w.if-short_starts.ensures, ← w.if-short_tables.ensures, lt-ltb _ _ w.if-hubs-n.true)
     ]
 
 pub survey-requires : goal.survey-requires
@@ -43,9 +46,10 @@ survey-requires c =
 pub returns-in_default-clause-hubs_after : goal.returns-in_default-clause-hubs_after
 unfolding building
 returns-in_default-clause-hubs_after c =
+    let split : bad_threshold c.args.t ≡ false = sym c.bad_threshold.ensures ∙ c.if-bad_threshold.false in
     rw (
       ← c.if-bad_size.ensures,
-      ← c.if-above.ensures,
+      split,
       ← c.if-short_starts.ensures,
       ← c.if-short_tables.ensures,
       le-ltb _ _ c.if-hubs-n.false,
@@ -68,9 +72,9 @@ build_tables-requires c = survey_rooms c.in-Some.survey c.in-Some.ensures (room 
 pub returns-clause-hubs_after : goal.returns-clause-hubs_after
 returns-clause-hubs_after c =
     (build_done c.in-Some.survey c.in-Some.ensures (room (goal.at.returns-clause-hubs_after c).After-survey)
-    (threshold_bound _ (sym c.if-above.ensures)) c.in_force-s.ensures c.build_tables.ensures).0
+    (threshold_bound _ (sym c.bad_threshold.ensures ∙ c.if-bad_threshold.false)) c.in_force-s.ensures c.build_tables.ensures).0
 
 pub returns-clause-build_right : goal.returns-clause-build_right
 returns-clause-build_right c =
     (build_done c.in-Some.survey c.in-Some.ensures (room (goal.at.returns-clause-build_right c).After-survey)
-    (threshold_bound _ (sym c.if-above.ensures)) c.in_force-s.ensures c.build_tables.ensures).1
+    (threshold_bound _ (sym c.bad_threshold.ensures ∙ c.if-bad_threshold.false)) c.in_force-s.ensures c.build_tables.ensures).1
