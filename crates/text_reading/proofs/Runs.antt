@@ -5,7 +5,7 @@ use mathlib.Core.Logic.{⊎_elim}
 use mathlib.Core.Bool.{true, false, not, ◌&&◌}
 use mathlib.Core.List.{List, [], ◌∷◌, ◌++◌}
 use Prim.Native.Nat.{ℕ, zero, suc, ◌+◌, ◌-◌, ◌*◌, ◌^◌, ◌≤◌, ◌<◌}
-use native.Mathlib.Nat.{pow-suc, pow-le-pow_right, zero-lt-suc, lt_of_lt_of_le}
+use native.Mathlib.Nat.{pow-suc}
 use native.Mathlib.Numerals.{add-one}
 use native.Mathlib.Omega.{arith}
 use borrow.Author.Tests.{leb-true}
@@ -124,7 +124,3 @@ module _ {t : List ℕ} {v i : ℕ} (r : Read t v i) where
 
   pub read_end : length t ≤ i → (v ≡ value_of (run t)) × (length t ≡ length (run t))
   read_end h = let a = all_read (ap run (drop_of_length-le t h) ∙ run_nil) in (a.0, omega (arith, r.within, a.1))
-
-  -- ten digits fit 64 bits, and one more does too
-  pub read_small : i ≤ 10 → v < 10 ^ 10
-  read_small h = lt_of_lt_of_le r.small (pow-le-pow_right {n = 10} (zero-lt-suc 9) {i = i} {j = 10} h)
