@@ -92,7 +92,8 @@ pub part_by : (part : Part) {m v : ℕ} {count : Count ℕ} {old new : List ℕ}
     → ((x : ℕ) → left_in part x ≡ left x) → PartIs m (steps (graph part.survey) may left part.goal (left v) v) count old new
 unfolding steps_in
 part_by part {m} {v} {count} {old} {new} p h may left e f =
-    let same = steps_same part.survey.n _ part.survey.accepted.lists.graph (member part.allowed.now) may (left_in part) left part.goal e (λ x l. f x) (left_in part v) v h in
+    let same = steps_same part.survey.n _ part.survey.accepted.lists.graph (member part.allowed.now) may (left_in part) left
+    part.goal e (λ x l. f x) (left_in part v) v h in
     subst (λ (d : ℕ). PartIs m (steps (graph part.survey) may left part.goal d v) count old new) (f v) (rw same at p)
 
 -- every node below n is in their set

@@ -146,8 +146,8 @@ module _ {part : Part} {d v : ℕ} {nodes : List ℕ} (going : Going part d v no
     step_on {r} new w =
         let below = step_below in
         let f : x ≡ none → ⊥ = λ z. omega (arith, part.survey.accepted.size) in
-        let sound = steps_sound part.survey.n _ part.survey.accepted.lists.graph _ (left_in part) part.goal (d - 1) x below in
         let one : suc (d - 1) ≡ d = omega (arith, step.some_left) in
+        let sound = steps_sound part.survey.n _ part.survey.accepted.lists.graph _ (left_in part) part.goal (d - 1) x below in
         subst (λ (o : Option (List ℕ)). (r ≡ is_found o) × Leaves o nodes new)
         (sym (steps_on _ _ _ part.goal d v x step.some_left (some_found _ _ step.search).0 f))
         (before_done _ _ _ _ going.room (linked part.survey.n (graph part.survey)) (d - 1) x part.goal one sound w)
