@@ -21,7 +21,7 @@ pub fn fill_full(survey: &Survey, hubs: &[u16], full: &mut [u16])
     let mut all = [0u64; 16];
     base_nodeset::insert_below(&mut all, survey.n);
     let size = survey.n * survey.n;
-    full[..size].fill(NONE);
+    base_lists::fill(&mut full[..size], NONE);
     for hub in hubs {
         search_one_source::search_row(survey, &all, *hub as usize, full);
     }
@@ -37,7 +37,7 @@ fn low_row(survey: &Survey, low_nodes: &[u64; 16], a: usize, low: &mut [u16])
         search_one_source::search_row(survey, low_nodes, a, low);
     } else {
         let start = a * survey.n;
-        low[start..start + survey.n].fill(NONE);
+        base_lists::fill(&mut low[start..start + survey.n], NONE);
     }
 }
 

@@ -1,19 +1,13 @@
-use mathlib.Core.Path.{◌≡◌}
-use Prim.Native.Nat.{◌*◌, ◌<◌}
+use Prim.Native.Nat.{◌<◌}
 use native.Mathlib.Omega.{arith}
 use lib.Dec.{lt→ltb}
-use lib.ListN.{length, get_or, replicate, take}
-use Rattle.model.specs.Basics.{none}
+use lib.ListN.{get_or}
 use Rattle.model.proofs.Ascending.{get_d_has}
 use Rattle.table_distances.proofs.Distances.{full_none, full_next, full_done}
-use Rattle.table_distances.proofs.fill_full.Goals.{After-fill}
 use Rattle.table_distances.proofs.fill_full.Goals as goal
 
-filled : (c : After-fill) → c.fill.new.self ≡ replicate (length (take (c.args.survey.now.n * c.args.survey.now.n) c.args.full.now)) none
-filled c = c.fill.ensures.after (λ y same. same)
-
 pub loop-hub-init : goal.loop-hub-init
-loop-hub-init c = full_none _ _ c.requires.room (filled (goal.at.loop-hub-init c).After-fill)
+loop-hub-init c = full_none _ _ c.requires.room c.fill.ensures
 
 pub search_row-requires : goal.search_row-requires
 search_row-requires c =
@@ -27,4 +21,4 @@ loop-hub-preserved c =
     c.insert_below.ensures c.search_row.ensures
 
 pub returns : goal.returns
-returns c = full_done _ _ c.requires.room (filled (goal.at.returns c).After-fill) c.loop-hub.invariant (omega arith)
+returns c = full_done _ _ c.requires.room c.fill.ensures c.loop-hub.invariant (omega arith)

@@ -7,12 +7,14 @@ loop-hub-init c = row_none c.requires.tables.1 c.requires.by_index.1 c.copy_from
 
 pub bounds-full-first : goal.bounds-full-first
 bounds-full-first c =
-    let inside : HubInside c.args.survey.now.n c.args.hubs.now c.args.a c.loop-hub.hub-index = hub_inside c.requires.by_index.0 c.requires.by_index.1 c.loop-hub-test.true in
+    let inside : HubInside c.args.survey.now.n c.args.hubs.now c.args.a c.loop-hub.hub-index
+    = hub_inside c.requires.by_index.0 c.requires.by_index.1 c.loop-hub-test.true in
     omega arith
 
 pub slice_bounds-relax-end : goal.slice_bounds-relax-end
 slice_bounds-relax-end c =
-    let inside : HubInside c.args.survey.now.n c.args.hubs.now c.args.a c.loop-hub.hub-index = hub_inside c.requires.by_index.0 c.requires.by_index.1 c.loop-hub-test.true in
+    let inside : HubInside c.args.survey.now.n c.args.hubs.now c.args.a c.loop-hub.hub-index
+    = hub_inside c.requires.by_index.0 c.requires.by_index.1 c.loop-hub-test.true in
     omega arith
 
 pub loop-hub-preserved : goal.loop-hub-preserved
