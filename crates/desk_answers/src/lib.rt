@@ -1,32 +1,29 @@
 // What is said of a survey that was read: a pair, a walk, the test and the hubs.
 #![tactic(auto)]
 
-ghost use Rattle.std.specs.Prelude.{◌≡◌, ◌+◌, ◌*◌, ◌≤◌, length};
+ghost use Rattle.std.specs.Prelude.{◌≡◌, ◌≢◌, ◌+◌, ◌*◌, ◌≤◌, length};
 ghost use Rattle.model.specs.Answers.{answered};
 ghost use Rattle.model.specs.Basics.{none, up_to, keep};
-ghost use Rattle.model.specs.Survey.{neighbours_of, Accepted};
 ghost use Rattle.model.specs.Hubs.{is_high};
 ghost use Rattle.base_lists.specs.Written.{Wrote};
+ghost use Rattle.survey_neighbours.specs.SurveyGraph.{graph};
 ghost use Rattle.desk_answers.specs.Said.{far_node, pair_said, walked_said, walk_said, test_said, hubs_said};
 
-use model::{Answer, Asking, NONE, Testing};
+use model::{Answer, NONE};
+use survey_neighbours::Survey;
 
 // The node that is refused: a, unless it is below n.
+#[tactic(auto, unfolding(crate::specs::Said::far_node))]
 fn far_node(n: usize, a: usize, b: usize) -> usize
     ensures { result ≡ far_node n a b }
 {
-    if n <= a {
-        return a;
-    }
-    b
+    if n <= a { a } else { b }
 }
 
 // Builds the tables of a survey for threshold s and says what they answer to nodes a and b, from the first byte on.
 pub fn say_pair(
-    n: usize,
+    survey: &Survey<'_>,
     s: usize,
-    starts: &[u32],
-    neighbours: &[u16],
     full: &mut [u16],
     low: &mut [u16],
     report: &mut [u16],
@@ -34,42 +31,45 @@ pub fn say_pair(
     b: usize,
     out: &mut [u8],
 ) -> usize
-    requires { Accepted n starts.now neighbours.now × (300 ≤ length out.old)
-        × (length full.old ≡ n * n) × (length low.old ≡ n * n) × (length report.old ≡ n * n) }
-    ensures { Wrote out.old out.new 0 result
-        (pair_said n s (neighbours_of starts.now neighbours.now) a b) }
+    requires { 300 ≤ length out.old }
+    requires tables { (length full.old ≡ survey.now.n * survey.now.n) × (length low.old ≡ survey.now.n * survey.now.n)
+        × (length report.old ≡ survey.now.n * survey.now.n) }
+    ensures { Wrote out.old out.new 0 result (pair_said survey.now.n s (graph survey.now) a b) }
 {
+    let n = survey.n;
     let mut hubs = [0u16; 1024];
-    table_building::build_tables(n, s, starts, neighbours, full, low, report, &mut hubs);
+    table_building::build_tables(survey, s, full, low, report, &mut hubs);
     match answer_pair::ask(n, full, low, report, a, b) {
-        Asking::Refused(_) => {
-            desk_refusals::write_node_refused(out, 0, far_node(n, a, b) as u64, n as u64)
-        }
-        Asking::Answered(x) => desk_sentences::write_pair(out, 0, a as u64, b as u64, x),
+        Ok(x) => desk_sentences::write_pair(out, 0, a as u64, b as u64, x),
+        Err(_) => desk_refusals::write_node_refused(out, 0, far_node(n, a, b) as u64, n as u64),
     }
 }
 
 // Says the answer to a pair, and the nodes of its walk.
-fn say_walked(n: usize, a: usize, b: usize, x: Answer, walk: &[u16], out: &mut [u8]) -> usize
-    requires walk_len_bound { (length walk.now ≤ 2048) × (20000 ≤ length out.old) }
-    requires report_in_bounds { (x.report ≡ none → ⊥) → x.report + 1 ≤ length walk.now }
+fn say_walked(
+    n: usize,
+    a: usize,
+    b: usize,
+    x: Answer,
+    walk: &[u16; 2048],
+    out: &mut [u8],
+) -> usize
+    requires { 20000 ≤ length out.old }
+    requires report_in_bounds { x.report ≢ none → x.report + 1 ≤ 2048 }
     ensures { Wrote out.old out.new 0 result (walked_said n a b (answered x) walk.now) }
 {
     let i = desk_sentences::write_pair(out, 0, a as u64, b as u64, x);
     if x.report == NONE {
         return i;
     }
-    let k = x.report as usize + 1;
-    desk_sentences::write_walk(out, i, &walk[..k])
+    desk_sentences::write_walk(out, i, &walk[..x.report as usize + 1])
 }
 
 // Builds the tables of a survey, for the threshold s in force where t is given, and says the walk of nodes a and b.
 pub fn say_walk(
-    n: usize,
+    survey: &Survey<'_>,
     t: usize,
     s: usize,
-    starts: &[u32],
-    neighbours: &[u16],
     full: &mut [u16],
     low: &mut [u16],
     report: &mut [u16],
@@ -77,19 +77,23 @@ pub fn say_walk(
     b: usize,
     out: &mut [u8],
 ) -> usize
-    requires { Accepted n starts.now neighbours.now × (20000 ≤ length out.old)
-        × (length full.old ≡ n * n) × (length low.old ≡ n * n) × (length report.old ≡ n * n) }
+    requires { 20000 ≤ length out.old }
+    requires tables { (length full.old ≡ survey.now.n * survey.now.n) × (length low.old ≡ survey.now.n * survey.now.n)
+        × (length report.old ≡ survey.now.n * survey.now.n) }
     ensures { Wrote out.old out.new 0 result
-        (walk_said n t s starts.now neighbours.now a b) }
+        (walk_said survey.now.n t s survey.now.starts.now survey.now.neighbours.now a b) }
 {
+    let Survey {
+        n,
+        starts,
+        neighbours,
+    } = *survey;
     let mut hubs = [0u16; 1024];
     let mut walk = [0u16; 2048];
-    table_building::build_tables(n, s, starts, neighbours, full, low, report, &mut hubs);
+    table_building::build_tables(survey, s, full, low, report, &mut hubs);
     match walk_writing::write_walk(n, t, starts, neighbours, full, low, report, a, b, &mut walk) {
-        Asking::Refused(_) => {
-            desk_refusals::write_node_refused(out, 0, far_node(n, a, b) as u64, n as u64)
-        }
-        Asking::Answered(x) => say_walked(n, a, b, x, &walk, out),
+        Ok(x) => say_walked(n, a, b, x, &walk, out),
+        Err(_) => desk_refusals::write_node_refused(out, 0, far_node(n, a, b) as u64, n as u64),
     }
 }
 
@@ -99,30 +103,28 @@ pub fn say_test(n: usize, t: usize, starts: &[u32], neighbours: &[u16], out: &mu
     ensures { Wrote out.old out.new 0 result (test_said n t starts.now neighbours.now) }
 {
     match answer_two_or_four::test(n, t, starts, neighbours) {
-        Testing::Refused(_) => desk_refusals::write_threshold_refused(out, 0, t as u64),
-        Testing::Answered(x) => desk_sentences::write_verdict(out, 0, x),
+        Ok(x) => desk_sentences::write_verdict(out, 0, x),
+        Err(_) => desk_refusals::write_threshold_refused(out, 0, t as u64),
     }
 }
 
 // How many nodes are high by threshold s.
-fn high_count(n: usize, s: usize, starts: &[u32], neighbours: &[u16]) -> usize
-    requires { Accepted n starts.now neighbours.now }
-    ensures { result ≡ length (keep (is_high s (neighbours_of starts.now neighbours.now)) (up_to n)) }
+fn high_count(survey: &Survey<'_>, s: usize) -> usize
+    ensures { result ≡ length (keep (is_high s (graph survey.now)) (up_to survey.now.n)) }
 {
     let mut high = [0u64; 16];
-    table_degree_split::high_nodes(n, s, starts, neighbours, &mut high);
+    table_degree_split::high_nodes(survey, s, &mut high);
     base_nodeset::count(&high)
 }
 
 // Says the hubs of a survey for threshold s, and how many nodes are high, from the first byte on.
-pub fn say_hubs(n: usize, s: usize, starts: &[u32], neighbours: &[u16], out: &mut [u8]) -> usize
-    requires { Accepted n starts.now neighbours.now × (20000 ≤ length out.old) }
-    ensures { Wrote out.old out.new 0 result
-        (hubs_said n s (neighbours_of starts.now neighbours.now)) }
+pub fn say_hubs(survey: &Survey<'_>, s: usize, out: &mut [u8]) -> usize
+    requires { 20000 ≤ length out.old }
+    ensures { Wrote out.old out.new 0 result (hubs_said survey.now.n s (graph survey.now)) }
 {
     let mut list = [0u16; 1024];
-    let count = table_hubs::choose_hubs(n, s, starts, neighbours, &mut list);
+    let count = table_hubs::choose_hubs(survey, s, &mut list);
     let i = desk_sentences::write_hubs(out, 0, &list[..count]);
-    let high = high_count(n, s, starts, neighbours);
-    desk_sentences::write_high(out, i, high as u64, n as u64, s as u64)
+    let high = high_count(survey, s);
+    desk_sentences::write_high(out, i, high as u64, survey.n as u64, s as u64)
 }

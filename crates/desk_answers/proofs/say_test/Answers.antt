@@ -1,11 +1,11 @@
-use mathlib.Core.Path.{refl}
-use Rattle.desk_answers.proofs.SaidLaws.{tested_refused, tested_answered}
+use mathlib.Core.Path.{sym}
+use Rattle.desk_answers.specs.Said.{tested_said, test_said}
 use Rattle.desk_answers.proofs.say_test.Goals as goal
 
-pub returns-in-Refused : goal.returns-in-Refused
-returns-in-Refused c =
-    rw (tested_refused _ _ _ _ _ c.in-Refused.ensures.result_value refl) c.write_threshold_refused.ensures.wrote
+pub returns-in-Ok : goal.returns-in-Ok
+unfolding test_said tested_said
+returns-in-Ok c = rw (sym c.in-Ok.ensures.result_value) c.write_verdict.ensures.wrote
 
-pub returns-in-Answered : goal.returns-in-Answered
-returns-in-Answered c =
-    rw (tested_answered _ _ _ _ _ c.in-Answered.ensures.result_value refl) c.write_verdict.ensures.wrote
+pub returns-in-Err : goal.returns-in-Err
+unfolding test_said tested_said
+returns-in-Err c = rw (sym c.in-Err.ensures.result_value) c.write_threshold_refused.ensures.wrote

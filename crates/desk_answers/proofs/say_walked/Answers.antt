@@ -16,8 +16,4 @@ unfolding walked_said nodes_said
 returns c =
     let within = c.requires.report_in_bounds c.if-x-eq-NONE.false in
     let few = length-take-le (c.args.x.report + 1) c.args.walk.now within in
-    let v = c.write_pair-i.ensures in
-    let w = c.write_walk.ensures in
-    rw (ne_eqb _ _ c.if-x-eq-NONE.false) (wrote_then
-    (omega (arith, few, within, c.requires.walk_len_bound, v.wrote.ends, v.upper_bound, w.wrote.ends, w.upper_bound))
-    v.wrote w.wrote)
+    rw (ne_eqb _ _ c.if-x-eq-NONE.false) (wrote_then (omega (arith, few)) c.write_pair-i.ensures.wrote c.write_walk.ensures.wrote)
