@@ -48,6 +48,9 @@ most_links_of Survey = 16384
 most_links_of Listing = 2048
 most_links_of File = 16384
 
+abbrev pub most_of : Source → Size
+most_of source = record { nodes = most_nodes_of source; links = most_links_of source }
+
 -- a file is taken if it is not too long
 unfoldable pub too_long : Source → List ℕ → Bool
 too_long Survey text = false
@@ -71,8 +74,7 @@ text_stop source text = record {
   line = line_at text (read_stop (most_nodes_of source) (most_links_of source) text);
   first = 0;
   last = nodes_in (first_says (most_nodes_of source) (most_links_of source) text) - 1;
-  most_nodes = most_nodes_of source;
-  most_links = most_links_of source;
+  most = most_of source;
 }
 
 abbrev pub file_stop : List ℕ → Stop
@@ -81,8 +83,7 @@ file_stop text = record {
   line = file_line text;
   first = 1;
   last = nodes_in (head_says (uncommented text));
-  most_nodes = most_nodes_of File;
-  most_links = most_links_of File;
+  most = most_of File;
 }
 
 abbrev pub stop_of : Source → List ℕ → Stop

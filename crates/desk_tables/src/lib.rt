@@ -11,7 +11,7 @@ use survey_neighbours::Survey;
 const TABLE: usize = 1048576;
 
 // What is said of two nodes: their answer, or their walk too.
-pub trait Asked {
+pub trait Said {
     ghost walks: { Bool };
 
     // Says it by the tables, which are split by s, from the first byte on; a walk is given the threshold t.
@@ -37,7 +37,7 @@ pub trait Asked {
 pub struct Pair;
 
 #[tactic(auto, unfolding(crate::specs::Nodes::asked_by))]
-impl Asked for Pair {
+impl Said for Pair {
     ghost walks = { false };
 
     fn say(
@@ -59,7 +59,7 @@ impl Asked for Pair {
 pub struct Walk;
 
 #[tactic(auto, unfolding(crate::specs::Nodes::asked_by))]
-impl Asked for Walk {
+impl Said for Walk {
     ghost walks = { true };
 
     fn say(
@@ -78,7 +78,7 @@ impl Asked for Walk {
 }
 
 // Says what is asked in arrays, lent whole, so that the check does not look at their entries.
-fn say_in<K: Asked>(
+fn say_in<K: Said>(
     survey: &Survey<'_>,
     t: usize,
     s: usize,
@@ -108,7 +108,7 @@ fn say_in<K: Asked>(
 }
 
 // The same by the threshold in force where t is given, with tables of its own: 6 MiB of the stack.
-pub fn say_nodes<K: Asked>(
+pub fn say_nodes<K: Said>(
     survey: &Survey<'_>,
     t: usize,
     a: usize,
