@@ -31,7 +31,7 @@ pub fn say_pair(
     b: usize,
     out: &mut [u8],
 ) -> usize
-    requires { 300 ≤ length out.old }
+    requires room { 300 ≤ length out.old }
     requires tables { (length full.old ≡ survey.now.n * survey.now.n) × (length low.old ≡ survey.now.n * survey.now.n)
         × (length report.old ≡ survey.now.n * survey.now.n) }
     ensures { Wrote out.old out.new 0 result (pair_said survey.now.n s (graph survey.now) a b) }
@@ -54,7 +54,7 @@ fn say_walked(
     walk: &[u16; 2048],
     out: &mut [u8],
 ) -> usize
-    requires { 20000 ≤ length out.old }
+    requires room { 20000 ≤ length out.old }
     requires report_in_bounds { x.report ≢ none → x.report + 1 ≤ 2048 }
     ensures { Wrote out.old out.new 0 result (walked_said n a b (answered x) walk.now) }
 {
@@ -77,7 +77,7 @@ pub fn say_walk(
     b: usize,
     out: &mut [u8],
 ) -> usize
-    requires { 20000 ≤ length out.old }
+    requires room { 20000 ≤ length out.old }
     requires tables { (length full.old ≡ survey.now.n * survey.now.n) × (length low.old ≡ survey.now.n * survey.now.n)
         × (length report.old ≡ survey.now.n * survey.now.n) }
     ensures { Wrote out.old out.new 0 result

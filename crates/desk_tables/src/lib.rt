@@ -26,7 +26,7 @@ pub trait Said {
         b: usize,
         out: &mut [u8],
     ) -> usize
-        requires { 200000 ≤ length out.old }
+        requires room { 200000 ≤ length out.old }
         requires tables { (length full.old ≡ survey.now.n * survey.now.n) × (length low.old ≡ survey.now.n * survey.now.n)
             × (length report.old ≡ survey.now.n * survey.now.n) }
         ensures { Wrote out.old out.new 0 result
