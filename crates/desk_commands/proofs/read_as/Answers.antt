@@ -1,15 +1,12 @@
+use mathlib.Core.Path.{◌∙◌, sym}
 use Rattle.desk_commands.specs.Commands.{read_as}
-use Rattle.desk_commands.proofs.CommandLaws.{read_long, import_long}
+use Rattle.desk_commands.proofs.CommandLaws.{survey_read}
 use Rattle.desk_commands.proofs.read_as.Goals as goal
 
 pub returns-in-Survey : goal.returns-in-Survey
-unfolding read_as
-returns-in-Survey c = rw c.in-Survey.is (read_long _ c.requires.0 c.requires.1 _ _ c.read_within.ensures)
-
-pub returns-in-Listing : goal.returns-in-Listing
-unfolding read_as
-returns-in-Listing c = rw c.in-Listing.is (read_long _ c.requires.0 c.requires.1 _ _ c.read_within-in-Listing.ensures)
+returns-in-Survey c =
+    rw (c.told-starts, c.told-neighbours, c.most_of-most.ensures) at c.read_within.ensures ∙ sym (survey_read _ _ c.in-Survey.is)
 
 pub returns-in-File : goal.returns-in-File
 unfolding read_as
-returns-in-File c = rw c.in-File.is (import_long _ c.requires.0 c.requires.1 c.import_survey.ensures.neighbours_after)
+returns-in-File c = rw c.in-File.is (rw (c.told-starts, c.told-neighbours) at c.import_survey.ensures.neighbours_after)
