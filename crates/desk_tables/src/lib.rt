@@ -77,7 +77,8 @@ impl Said for Walk {
     }
 }
 
-// Says what is asked in arrays, lent whole, so that the check does not look at their entries.
+// Says what is asked in tables of any size.
+// kept: with the arrays of `say_nodes` in this function, the check looks at each of their entries and does not end.
 fn say_in<K: Said>(
     survey: &Survey<'_>,
     t: usize,

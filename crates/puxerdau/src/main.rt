@@ -2,10 +2,11 @@
 // asked and what is answered.
 #![tactic(auto)]
 
-ghost use Rattle.std.specs.Prelude.{◌≡◌, ◌≤◌, length};
+ghost use Rattle.std.specs.Prelude.{◌≤◌, length};
 
+use desk_commands::Asked;
 use desk_usage::Fault;
-use desk_words::{Command, Named, Question, Taken};
+use desk_words::{Command, Question, Threshold, WordFault};
 use std::env::{Env, FillError};
 use std::io;
 
@@ -20,13 +21,6 @@ const STARTS: usize = 1025;
 const NEIGHBOURS: usize = 32768;
 
 const OUT: usize = 200000;
-
-// What the words ask, or what is wrong with them.
-#[derive(Clone, Copy)]
-enum Understood {
-    Asks(Question),
-    Wrong(Fault),
-}
 
 // How many words there are, the program's name among them.
 fn word_count(rt: &impl Env) -> usize {
@@ -46,7 +40,12 @@ fn read_word(rt: &impl Env, i: usize, word: &mut [u8]) -> usize
 }
 
 // What word i makes of a question.
-fn take_word(rt: &impl Env, command: Command, q: Question, i: usize) -> Taken {
+fn take_word(
+    rt: &impl Env,
+    command: Command,
+    q: Question,
+    i: usize,
+) -> Result<Question, WordFault> {
     let mut word = [0u8; WORD];
     let k = read_word(rt, i, &mut word);
     let said = desk_words::word_of(&word[..k]);
@@ -54,81 +53,66 @@ fn take_word(rt: &impl Env, command: Command, q: Question, i: usize) -> Taken {
 }
 
 // What the words after the command ask. There are `count` words, the program's name among them.
-fn understand(rt: &impl Env, command: Command, count: usize) -> Understood {
+fn understand(rt: &impl Env, command: Command, count: usize) -> Result<Question, Fault> {
     let mut q = desk_words::nothing_yet();
     for i in 2..count {
-        match take_word(rt, command, q, i) {
-            Taken::Asks(r) => q = r,
-            Taken::NoNumber => return Understood::Wrong(Fault::NoNumber(i as u64 - 1)),
-            Taken::TooMany => return Understood::Wrong(Fault::TooMany(i as u64 - 1)),
-        }
+        let place = i as u64 - 1;
+        q = take_word(rt, command, q, i).map_err(|fault| Fault::Word(place, fault))?;
     }
     if !desk_words::is_whole(command, q) {
-        return Understood::Wrong(Fault::Missing);
+        return Err(Fault::Missing);
     }
-    Understood::Asks(q)
+    Ok(q)
+}
+
+// What is asked by words that are understood; without a threshold, or a node that a command does not ask for, 0.
+fn asked(command: Command, q: Question) -> Asked {
+    let t = match q.threshold {
+        Threshold::Given(t) => t,
+        Threshold::Unnamed | Threshold::NumberNext => 0,
+    };
+    Asked {
+        command,
+        t: t as usize,
+        a: q.a.unwrap_or(0) as usize,
+        b: q.b.unwrap_or(0) as usize,
+    }
 }
 
 // Reads the text, if the command needs one, and returns how many bytes it has. A read that fails ends it.
 fn read_text(rt: &impl Input, command: Command, text: &mut [u8]) -> usize
     ensures { result ≤ length text.new }
 {
-    if desk_words::reads_text(command) {
-        let (Ok(length) | Err(length)) = base_input::read_front(&mut rt.reader(), text);
-        return length;
+    if !desk_words::reads_text(command) {
+        return 0;
     }
-    0
+    let (Ok(length) | Err(length)) = base_input::read_front(&mut rt.reader(), text);
+    length
 }
 
 // Reads the text, if the command needs one, and prints the answer.
-fn answer_with(
-    rt: &(impl Input + Print),
-    command: Command,
-    q: Question,
-    text: &mut [u8],
-    starts: &mut [u32],
-    neighbours: &mut [u16],
-    out: &mut [u8],
-) -> io::Result<()>
-    requires { (length starts.old ≡ 1025) × (length neighbours.old ≡ 32768) × (200000 ≤ length out.old) }
-{
-    let k = read_text(rt, command, text);
-    let r = desk_commands::say(
-        command,
-        q.threshold as usize,
-        q.a as usize,
-        q.b as usize,
-        &text[..k],
-        starts,
-        neighbours,
-        out,
-    );
-    rt.write_all(&out[..r])
-}
-
-// The same with arrays, lent whole, so that the check does not look at their entries.
 fn answer_in(
     rt: &(impl Input + Print),
-    command: Command,
-    q: Question,
+    asked: Asked,
     text: &mut [u8; TEXT],
     starts: &mut [u32; STARTS],
     neighbours: &mut [u16; NEIGHBOURS],
     out: &mut [u8; OUT],
 ) -> io::Result<()> {
-    answer_with(rt, command, q, text, starts, neighbours, out)
+    let k = read_text(rt, asked.command, text);
+    let r = desk_commands::say(asked, &text[..k], starts, neighbours, out);
+    rt.write_all(&out[..r])
 }
 
 // The same with lists of its own.
-fn answer(rt: &(impl Input + Print), command: Command, q: Question) -> io::Result<()> {
+fn answer(rt: &(impl Input + Print), asked: Asked) -> io::Result<()> {
     let mut text = [0u8; TEXT];
     let mut starts = [0u32; STARTS];
     let mut neighbours = [0u16; NEIGHBOURS];
     let mut out = [0u8; OUT];
     answer_in(
         rt,
-        command,
-        q,
+        asked,
         &mut text,
         &mut starts,
         &mut neighbours,
@@ -149,10 +133,10 @@ fn print_no_command(rt: &impl Print) -> io::Result<()> {
     rt.write_all(&line[..k])
 }
 
-// The command that the first word names; none is `help`.
-fn first_word(rt: &impl Env, count: usize) -> Named {
+// The command that the first word names; without words, `help`.
+fn first_word(rt: &impl Env, count: usize) -> Option<Command> {
     if count < 2 {
-        return Named::Is(Command::Help);
+        return Some(Command::Help);
     }
     let mut word = [0u8; WORD];
     let k = read_word(rt, 1, &mut word);
@@ -161,11 +145,11 @@ fn first_word(rt: &impl Env, count: usize) -> Named {
 
 fn main(rt: HostRuntime) -> io::Result<()> {
     let count = word_count(&rt);
-    match first_word(&rt, count) {
-        Named::Unknown => print_no_command(&rt),
-        Named::Is(command) => match understand(&rt, command, count) {
-            Understood::Wrong(wrong) => print_fault(&rt, command, wrong),
-            Understood::Asks(q) => answer(&rt, command, q),
-        },
+    let Some(command) = first_word(&rt, count) else {
+        return print_no_command(&rt);
+    };
+    match understand(&rt, command, count) {
+        Ok(q) => answer(&rt, asked(command, q)),
+        Err(fault) => print_fault(&rt, command, fault),
     }
 }

@@ -4,4 +4,4 @@ use Rattle.desk_tables.proofs.say_nodes.Goals as goal
 
 pub returns : goal.returns
 unfolding nodes_asked
-returns c = rw (sym c.in_force-s.ensures) c.say_in.ensures
+returns g c = rw (sym c.in_force-s.ensures) c.say_in.ensures
