@@ -124,15 +124,5 @@ pub fn say_nodes<K: Said>(
     let mut full = [0u16; TABLE];
     let mut low = [0u16; TABLE];
     let mut report = [0u16; TABLE];
-    say_in::<K>(
-        survey,
-        t,
-        s,
-        &mut full,
-        &mut low,
-        &mut report,
-        a,
-        b,
-        out,
-    )
+    say_in::<K>(survey, t, s, &mut full, &mut low, &mut report, a, b, out)
 }

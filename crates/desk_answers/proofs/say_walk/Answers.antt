@@ -9,7 +9,8 @@ use Rattle.desk_answers.proofs.say_walk.Goals as goal
 
 pub say_walked-requires-clause-report_in_bounds : goal.say_walked-requires-clause-report_in_bounds
 say_walked-requires-clause-report_in_bounds c some =
-    front_within _ _ (c.in-Ok.ensures.walk_sound _ refl some).count
+    let within = front_within _ _ (c.in-Ok.ensures.walk_sound _ refl some).count in
+    omega (arith, within, length-replicate {A = ℕ} 2048 0)
 
 pub returns-in-Ok : goal.returns-in-Ok
 unfolding walked_said
