@@ -17,6 +17,8 @@ pub struct Limits {
     pub links: usize,
     pub starts: usize,
     pub neighbours: usize,
+    pub ghost few_nodes: { nodes ≤ 1024 },
+    pub ghost few_links: { links ≤ 16384 },
 }
 
 // Whether the matrix has a link.
@@ -88,7 +90,6 @@ pub fn read_links(
 
 // The counts that a first line says, if they are within the limits.
 pub fn within_limits(line: Pair<u64>, limits: Limits) -> Result<Pair<usize>, Refusal>
-    requires { (limits.nodes ≤ 1024) × (limits.links ≤ 16384) }
     ensures { (text : List ℕ) → line_answer text result
         ≡ limits_of limits.nodes limits.links limits.starts limits.neighbours (line.a, line.b, drop line.end text) }
 {
@@ -111,7 +112,6 @@ pub fn within_limits(line: Pair<u64>, limits: Limits) -> Result<Pair<usize>, Ref
 
 // The first line, within limits: the counts of nodes and links, and the place after it.
 pub fn first_line(text: &[u8], limits: Limits) -> Result<Pair<usize>, Refusal>
-    requires { (limits.nodes ≤ 1024) × (limits.links ≤ 16384) }
     ensures { line_answer text.now result
         ≡ counts_of limits.nodes limits.links limits.starts limits.neighbours (line 83 text.now) }
 {
