@@ -12,18 +12,18 @@ use borrow.Author.Fill.{fill_more}
 use borrow.Author.Tests.{lt-ltb, le-ltb, eq-eqb}
 use lib.Bits.{bit_and}
 use lib.Count.{ones, count_trailing_zeros}
-use lib.Dec.{T, ltb}
+use lib.Dec.{ltb}
 use lib.ListN.{length, get_or, set, drop, length-set, length-append, replicate, get_or-eq_default}
 use lib.Pow.{pow_pos}
 use lib.Seq.{get_or-set_other}
-use Rattle.model.specs.Basics.{from, up_to, has, keep}
+use Rattle.model.specs.Basics.{from, up_to, keep}
 use Rattle.std.specs.Prelude.{if◌then◌else◌, cond, not, ◌==◌, Some, None}
 use Rattle.std.specs.List.{find, position, position_or_len}
 use Rattle.std.proofs.lemmas.Bool.Decides.{nat_tests}
 use Rattle.std.proofs.lemmas.List.Quantifiers.{position-Some}
 use Rattle.std.proofs.lemmas.List.Sums.{fails_before_first}
 use Rattle.model.proofs.Tests.{ltb_same, lt_or, eq_or}
-use Rattle.model.proofs.Lists.{keep_append, keep_length, length_up_to, up_to_add, has_head, has_keep, of_keep, has_up_to}
+use Rattle.model.proofs.Lists.{keep_append, keep_length, length_up_to, up_to_add}
 use Rattle.base_nodeset.specs.NodeSet.{Nodes, bit, member, empty_set, intersection, difference, members_from}
 use Rattle.base_nodeset.proofs.Bits.{bit-bit_and, bit_not, bit_zero, bit_suc, bit_of_zero, shifted}
 use Rattle.base_nodeset.proofs.Bits.{word_bit, empty_words, word_changed, word_kept, set_word}
@@ -217,33 +217,6 @@ module _ (ws : List ℕ) where
   smallest_some i l e =
       let at = position-Some some_bit ws i 0 e in
       clear_first (clear_words i (omega (arith, at.0)) at.2) at.0 (any_bit _ at.1) l
-
--- the smallest member is one, and where there is none, the set is empty
-module _ (ws : List ℕ) where
-  abbrev all_kept : List ℕ
-  all_kept = keep (member ws) (up_to (64 * length ws))
-
-  pub smallest_member : (v : ℕ) → find (member ws) (up_to (64 * length ws)) ≡ Some v → T (member ws v)
-  smallest_member v e = at all_kept refl
-    where
-      at : (k : List ℕ) → all_kept ≡ k → T (member ws v)
-      at [] q = let none = find_none _ _ q in absurd (cc)
-      at (u ∷ k) q =
-          let some = find_some _ _ _ _ q in
-          let same : u ≡ v = cc in
-          let here : T (has u all_kept) = rw q (has_head _ _) in
-          rw same at (of_keep _ _ _ here).1
-
-  pub smallest_of_none : find (member ws) (up_to (64 * length ws)) ≡ None → (x : ℕ) → T (member ws x) → ⊥
-  unfolding has
-  smallest_of_none e x t = ⊎_elim
-      (λ h. at all_kept refl (has_keep (member ws) (up_to (64 * length ws)) x (has_up_to _ x h) t))
-      (λ h. rw (member_past ws x (omega arith)) at t)
-      (lt_or x (64 * length ws))
-    where
-      at : (k : List ℕ) → all_kept ≡ k → T (has x all_kept) → ⊥
-      at [] q h = rw q at h
-      at (u ∷ k) q h = let some = find_some _ _ _ _ q in cc
 
 -- ---- the nodes below n
 
