@@ -13,15 +13,15 @@ use borrow.Author.Tests.{lt-ltb, le-ltb, eq-eqb}
 use lib.Bits.{bit_and}
 use lib.Count.{ones, count_trailing_zeros}
 use lib.Dec.{ltb}
-use lib.ListN.{length, get_or, set, drop, length-set, length-append, replicate, get_or-eq_default}
+use lib.ListN.{length, get_or, set, take, drop, length-set, length-append, replicate, get_or-eq_default}
 use lib.Pow.{pow_pos}
-use lib.Seq.{get_or-set_other}
+use lib.Seq.{get_or-set_other, take-length}
 use Rattle.model.specs.Basics.{from, up_to, keep}
 use Rattle.std.specs.Prelude.{if◌then◌else◌, cond, not, ◌==◌, Some, None}
-use Rattle.std.specs.List.{find, position, position_or_len}
+use Rattle.std.specs.List.{sum_by, find, position, position_or_len}
 use Rattle.std.proofs.lemmas.Bool.Decides.{nat_tests}
 use Rattle.std.proofs.lemmas.List.Quantifiers.{position-Some}
-use Rattle.std.proofs.lemmas.List.Sums.{fails_before_first}
+use Rattle.std.proofs.lemmas.List.Sums.{fails_before_first, sum_by_more}
 use Rattle.model.proofs.Tests.{ltb_same, lt_or, eq_or}
 use Rattle.model.proofs.Lists.{keep_append, keep_length, length_up_to, up_to_add}
 use Rattle.base_nodeset.specs.NodeSet.{Nodes, bit, member, empty_set, intersection, difference, members_from}
@@ -43,29 +43,21 @@ member_past ws x h = rw (get_or-eq_default ws 0 h, bit_of_zero)
 
 -- ---- the size of a set
 
-pub record Total (ws : List ℕ) (total i : ℕ) : Type 0 where
-  pub within : i ≤ length ws
-  pub count : total ≡ length (keep (member ws) (up_to (64 * i)))
+module _ (ws : List ℕ) (fits : (k : ℕ) → get_or ws k 0 < 2 ^ 64) where
+  -- the ones of the first words are their members
+  ones_so_far : (i : ℕ) → i ≤ length ws → sum_by ones (take i ws) ≡ length (keep (member ws) (up_to (64 * i)))
+  unfolding up_to from keep
+  ones_so_far zero h = refl
+  ones_so_far (suc i) h =
+      let next = next_word (member ws) i (get_or ws i 0) (λ k q. word_bit ws i k q) in
+      rw (← add-one i, sum_by_more ones ws i 0 (omega arith), next, length-append, ones_members 64 (64 * i) (get_or ws i 0) (fits i))
+      (ap (λ (k : ℕ). k + ones (get_or ws i 0)) (ones_so_far i (omega arith)))
 
-pub total_none : {ws : List ℕ} → Total ws 0 0
-unfolding up_to from keep
-total_none = record { within = omega arith; count = refl }
+  pub total_is : sum_by ones ws ≡ length (keep (member ws) (up_to (64 * length ws)))
+  total_is = rw take-length at (ones_so_far (length ws) (omega arith))
 
-module _ {ws : List ℕ} {total i : ℕ} (c : Total ws total i) where
-  pub total_few : total ≤ 64 * i
-  total_few = omega (arith, c.count, keep_length (member ws) (up_to (64 * i)), length_up_to (64 * i))
-
-  pub total_more : i < length ws → get_or ws i 0 < 2 ^ 64 → Total ws (total + ones (get_or ws i 0)) (i + 1)
-  total_more h l =
-      let e = next_word _ _ _ (λ k q. word_bit ws i k q) in
-      let m = ones_members 64 (64 * i) (get_or ws i 0) l in
-      record {
-        within = omega arith;
-        count = omega (arith, c.count, ap length e ∙ length-append (keep (member ws) (up_to (64 * i))) (members_from 64 (64 * i) (get_or ws i 0)), m);
-      }
-
-  pub total_all : length ws ≤ i → total ≡ length (keep (member ws) (up_to (64 * length ws)))
-  total_all h = let e : i ≡ length ws = omega (arith, c.within) in c.count ∙ rw e
+  pub total_few : sum_by ones ws ≤ 64 * length ws
+  total_few = omega (arith, total_is, keep_length (member ws) (up_to (64 * length ws)), length_up_to (64 * length ws))
 
 -- ---- sets that are written word by word
 

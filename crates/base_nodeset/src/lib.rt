@@ -27,11 +27,7 @@ pub fn count(words: &[u64]) -> usize
     requires { 64 * length words.now < 2 ^ 32 }
     ensures { result ≡ length (keep (member words.now) (up_to (64 * length words.now))) }
 {
-    let mut total = 0;
-    for word in words {
-        total += word.count_ones() as usize;
-    }
-    total
+    words.iter().map(|word| word.count_ones() as usize).sum()
 }
 
 // A third set becomes the intersection of two.

@@ -1,17 +1,23 @@
-use Prim.Native.Nat.{◌≤◌}
-use native.Mathlib.Omega.{arith}
-use lib.Count.{ones, ones-le}
-use lib.ListN.{get_or}
-use Rattle.base_nodeset.proofs.Words.{total_none, total_few, total_more}
+use Rattle.std.proofs.Common.{rules, tests, of_calls, arith, ◌∙◌, ◌≤◌, ◌*◌, length}
+use Rattle.std.proofs.lemmas.Iterator.{YieldsList-from_slice, YieldsList-from_map}
+use Rattle.std.proofs.lemmas.Iterator.Consumers.{sum_by_from_yields_List, fits_by_from_yields_list}
+use Rattle.std.specs.List.{sum_by}
+use lib.Count.{ones}
+use Rattle.base_nodeset.proofs.Words.{total_few, total_is}
 use Rattle.base_nodeset.proofs.count.Goals as goal
 
-pub loop-word-init : goal.loop-word-init
-loop-word-init c = total_none
+pub sum-requires : goal.sum-requires
+sum-requires c =
+    let few : sum_by ones c.args.words.now ≤ 64 * length c.args.words.now = total_few _ (λ k. (c.type_inv.words k).fits) in
+    record {
+      can = search of_calls;
+      finite = search of_calls;
+      fits = fits_by_from_yields_list ones c.args.words.now c.map.result _
+          (YieldsList-from_map _ ones (YieldsList-from_slice c.args.words.now cc) c.map.ensures.closure (λ x r q k. search (rules, tests))) (omega arith);
+    }
 
-pub overflow_add-total : goal.overflow_add-total
-overflow_add-total c =
-    let few : (ones (get_or c.args.words.now c.loop-word.word-index 0) ≤ 64) = ones-le _ _ (c.type_inv.words _).fits in
-    omega (arith, few, total_few c.loop-word.invariant)
-
-pub loop-word-preserved : goal.loop-word-preserved
-loop-word-preserved c = total_more c.loop-word.invariant c.loop-word-test.true (c.type_inv.words _).fits
+pub returns : goal.returns
+returns c =
+    sum_by_from_yields_List ones c.args.words.now c.map.result _ c.sum.ensures.ran
+    (YieldsList-from_map _ ones (YieldsList-from_slice c.args.words.now cc) c.map.ensures.closure (λ x r q k. search (rules, tests)))
+    ∙ total_is _ (λ k. (c.type_inv.words k).fits)
