@@ -15,22 +15,36 @@ const TABLE: usize = 1048576;
 
 const HUBS: usize = 1024;
 
+// kept: a function of its own, to which the tables are lent as arrays; with slices made where the arrays are, the check took ten minutes.
+fn build(
+    rt: &impl Print,
+    n: usize,
+    starts: &[u32],
+    neighbours: &[u16],
+    full: &mut [u16; TABLE],
+    low: &mut [u16; TABLE],
+    report: &mut [u16; TABLE],
+    hubs: &mut [u16; HUBS],
+) -> io::Result<()> {
+    let answer = table_building::build(n, 0, starts, neighbours, full, low, report, hubs);
+    print_built(rt, answer, full, low, report, hubs)
+}
+
 fn build_and_test(rt: &impl Print, n: usize, starts: &[u32], neighbours: &[u16]) -> io::Result<()> {
     let mut full = [7; TABLE];
     let mut low = [7; TABLE];
     let mut report = [7; TABLE];
     let mut hubs = [7; HUBS];
-    let answer = table_building::build(
+    build(
+        rt,
         n,
-        0,
         starts,
         neighbours,
         &mut full,
         &mut low,
         &mut report,
         &mut hubs,
-    );
-    print_built(rt, answer, &full, &low, &report, &hubs)?;
+    )?;
     print_tested(rt, answer_two_or_four::test(n, 0, starts, neighbours))
 }
 
