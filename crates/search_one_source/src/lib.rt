@@ -20,6 +20,7 @@ fn search_by<V: Visit>(survey: &Survey, count: usize, source: usize, row: &mut [
     requires source_lt_n { (source < survey.now.n) × T (is_open row.old source) × (count ≡ unreached row.old) }
     ensures { row.new ≡ searched survey.now.n (linked survey.now.n (graph survey.now)) source row.old }
 {
+    let survey = *survey; // a copy stays in registers, whatever is written to the row
     row[source] = 0;
     let mut queue = [0u16; 1025];
     queue[0] = source as u16;
