@@ -112,7 +112,7 @@ module _ {n : ℕ} (G : Graph) {s : ℕ} {row₀ row : List ℕ} (list : List �
     pub own_below : (w : ℕ) → T (has w own) → w < length row
     own_below w h = rw S.row_length (g.below v w head_below (rw e at h))
 
-    -- and the search goes on to the next node of the queue, or ends where all open nodes are in it
+    -- and the search goes on to the next node of the queue
     module _ (o : get_or row₀ s 0 ≡ none) {q : Progress} (f : q ≡ visited_all (get_or row v 0 + 1) own before) where
       kept : Kept (edges n G row₀) s n row₀ c before head (G v) q
       kept =
@@ -129,20 +129,21 @@ module _ {n : ℕ} (G : Graph) {s : ℕ} {row₀ row : List ℕ} (list : List �
           let both = of_between (is_open row₀) (linked n G) v w (rw (kept.grown.same_at head l ∙ v_is) at u) in
           kept.found _ (linked_has n G v w both.1) (eqb→eq _ none both.0)
 
-      -- and so do those of all nodes of the queue, where no open node is left
-      all_taken_lem : q.tail ≡ c → (i w : ℕ) → i < q.tail → T (edges n G row₀ (at q i) w) → Queued q w
-      all_taken_lem z i w k u =
-          let both = of_between (is_open row₀) (linked n G) (at q i) w u in
-          let h = linked_ends n G _ w (kept.inv.node i k) both.1 in
-          kept.inv.queued _ h (eqb→eq _ none both.0)
-          (λ x. omega (arith, some_unreached q.row w (rw kept.inv.row_length h) x, kept.inv.count))
-
       pub search_turn : Searching n G s row₀ c q (head + 1)
       search_turn = advance kept.inv _ (omega arith)
           (λ i w h k m u. taken w (subst (λ (j : ℕ). T (edges n G row₀ (at q j) w)) (omega arith) u))
 
-      pub search_stop : q.tail ≡ c → Searching n G s row₀ c q q.tail
-      search_stop z = advance kept.inv q.tail (omega (arith, kept.grown.longer)) (λ i w h k m u. all_taken_lem z i w m u)
+-- where no open node is left, the links of all nodes of the queue lead to nodes of the queue
+pub search_stop : {n : ℕ} (G : Graph) {s : ℕ} {row₀ : List ℕ} {c : ℕ} {p : Progress} {head : ℕ} → Searching n G s row₀ c p head
+    → head ≤ p.tail → p.tail ≡ c → Searching n G s row₀ c p p.tail
+search_stop {n} G {row₀ = row₀} {p = p} {head = head} S l z = advance S p.tail l queued
+  where
+    queued : (i w : ℕ) → head ≤ i → i < p.tail → i < p.tail → T (edges n G row₀ (at p i) w) → Queued p w
+    queued i w h k m u =
+        let both = of_between (is_open row₀) (linked n G) (at p i) w u in
+        let below = linked_ends n G _ w (S.node i k) both.1 in
+        S.queued _ below (eqb→eq _ none both.0)
+        (λ x. omega (arith, some_unreached p.row w (rw S.row_length below) x, S.count))
 
 -- the end
 pub search_end : {n : ℕ} (G : Graph) {s : ℕ} {row₀ : List ℕ} {c : ℕ} {p : Progress} {head : ℕ} → Searching n G s row₀ c p head

@@ -26,15 +26,12 @@ fn search_by<V: Visit>(survey: &Survey, count: usize, source: usize, row: &mut [
     queue[0] = source as u16;
     let mut head = 0;
     let mut tail = 1;
-    while head < tail {
+    // until every open node is found, or all that can be
+    while head < tail && tail != count {
         let v = queue[head] as usize;
         let d = row[v] + 1;
         let own = survey.own(v);
         tail = search_queue::visit_all::<V>(own, d, count, row, &mut queue, tail);
-        // every open node is found; a test and not a new head, so that the next node need not wait for the queue's end
-        if tail == count {
-            return;
-        }
         head += 1;
     }
 }

@@ -24,16 +24,15 @@ visit_all-tail-requires-clause-by_index g c =
       omega (arith, near),
     )
 
-pub returns-then-tail-count : goal.returns-then-tail-count
-returns-then-tail-count g c =
-    let all = search_stop (graph c.args.survey.now) c.loop-head.queue c.loop-head.invariant c.loop-head-test.true c.args.survey.now.accepted.lists.graph
-    c.own-own.ensures (eqb→eq _ none c.requires.source_lt_n.1) c.visit_all-tail.ensures c.if-tail-count.true in
-    search_end _ all (le_refl _) c.requires.source_lt_n.0
-
 pub loop-head-preserved : goal.loop-head-preserved
 loop-head-preserved g c =
     search_turn (graph c.args.survey.now) c.loop-head.queue c.loop-head.invariant c.loop-head-test.true c.args.survey.now.accepted.lists.graph
     c.own-own.ensures (eqb→eq _ none c.requires.source_lt_n.1) c.visit_all-tail.ensures
 
-pub returns : goal.returns
-returns g c = search_end _ c.loop-head.invariant c.loop-head-test.false c.requires.source_lt_n.0
+pub returns-else-tail-count : goal.returns-else-tail-count
+returns-else-tail-count g c =
+    let all = search_stop (graph c.args.survey.now) c.loop-head.invariant (omega arith) c.if-tail-count.false in
+    search_end _ all (le_refl _) c.requires.source_lt_n.0
+
+pub returns-after-loop-head : goal.returns-after-loop-head
+returns-after-loop-head g c = search_end _ c.loop-head.invariant c.loop-head-test.false c.requires.source_lt_n.0
