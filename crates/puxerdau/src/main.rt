@@ -110,14 +110,7 @@ fn answer(rt: &(impl Input + Print), asked: Asked) -> io::Result<()> {
     let mut starts = [0u32; STARTS];
     let mut neighbours = [0u16; NEIGHBOURS];
     let mut out = [0u8; OUT];
-    answer_in(
-        rt,
-        asked,
-        &mut text,
-        &mut starts,
-        &mut neighbours,
-        &mut out,
-    )
+    answer_in(rt, asked, &mut text, &mut starts, &mut neighbours, &mut out)
 }
 
 // Prints what is wrong with the words behind a command.

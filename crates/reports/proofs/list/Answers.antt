@@ -5,7 +5,7 @@ use Rattle.model.proofs.ReadBack.{write_fits}
 use Rattle.reports.proofs.list.Goals as goal
 
 pub slice_bounds-write_all-end : goal.slice_bounds-write_all-end
-slice_bounds-write_all-end g c = write_fits (listing _) _ _ _ c.in-Count.ensures.buffer_after
+slice_bounds-write_all-end g c = write_fits (listing _) _ _ _ c.in-Ok.ensures.buffer_after
 
-pub slice_bounds-write_all-end-in-Count : goal.slice_bounds-write_all-end-in-Count
-slice_bounds-write_all-end-in-Count g c = sym (length-take-le _ _ (write_fits (listing _) _ _ _ c.in-Count.ensures.buffer_after))
+pub slice_bounds-write_all-end-in-Ok : goal.slice_bounds-write_all-end-in-Ok
+slice_bounds-write_all-end-in-Ok g c = sym (length-take-le _ _ (write_fits (listing _) _ _ _ c.in-Ok.ensures.buffer_after))
