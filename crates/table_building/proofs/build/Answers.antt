@@ -5,7 +5,7 @@ use borrow.Author.Tests.{lt-ltb, le-ltb, ltb-false}
 use Rattle.model.specs.Building.{building}
 use Rattle.model.proofs.Acceptance.{size_bounds}
 use Rattle.model.proofs.Threshold.{threshold_bound}
-use Rattle.table_building.proofs.BuildingLaws.{Room, survey_rooms, build_done}
+use Rattle.table_building.proofs.BuildingLaws.{Room, build_done}
 use Rattle.table_building.proofs.build.Goals.{then-short_starts-via-then-short_starts, then-short_starts-via-else-short_starts+then-short_tables}
 use Rattle.table_building.proofs.build.Goals.{then-short_starts-via-else-short_starts+else-short_tables+then-hubs-n, After-survey}
 use Rattle.table_building.proofs.build.Goals as goal
@@ -62,12 +62,6 @@ room c = record {
   tables_long = sym c.if-short_tables.ensures;
   hubs_long = c.if-hubs-n.false;
 }
-
-pub in_force-s-requires : goal.in_force-s-requires
-in_force-s-requires c = size_bounds _ (sym c.if-bad_size.ensures)
-
-pub build_tables-requires : goal.build_tables-requires
-build_tables-requires c = survey_rooms c.in-Some.survey c.in-Some.ensures (room (goal.at.build_tables-requires c).After-survey)
 
 pub returns-clause-hubs_after : goal.returns-clause-hubs_after
 returns-clause-hubs_after c =
