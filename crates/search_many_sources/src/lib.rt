@@ -55,7 +55,7 @@ impl<'a, 'b> Group<'a, 'b> {
     {
         let mut sum = near[v];
         self.join_neighbours(v, near, &mut sum);
-        far[v] = sum;
+        search_source_sets::put_row(&sum, &mut far[v]);
         let found = search_source_sets::remove_row(&near[v], &mut sum);
         if found == 0 {
             return false;
@@ -66,7 +66,9 @@ impl<'a, 'b> Group<'a, 'b> {
         true
     }
 
-    // One level: every node's part. Returns false only if no source is new at a node.
+    // One level: every node's part. Returns false only if no source is new at a node. Not put into its caller, where the compiler would take
+    // the rows apart into single lanes.
+    #[inline(never)]
     fn level(&self, d: u16, near: &Rows, far: &mut Rows, table: &mut [u16]) -> bool
         requires { length table.old ≡ nodes self.now * nodes self.now }
         ensures { Level (nodes self.now) (allowed self.now) (links self.now) d

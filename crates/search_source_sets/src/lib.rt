@@ -25,8 +25,8 @@ pub fn insert_source(row: &mut Row, j: usize)
 pub fn join_row(row: &Row, sum: &mut Row)
     ensures { (j : ℕ) → in_row sum.new j ≡ (in_row row.now j || in_row sum.old j) }
 {
-    for (i, lane) in sum.iter_mut().enumerate() {
-        *lane |= row[i];
+    for i in 0..16 {
+        sum[i] |= row[i];
     }
 }
 
@@ -41,14 +41,24 @@ pub fn join_rows(list: &[u16], rows: &Rows, sum: &mut Row)
     }
 }
 
+// A row becomes another one.
+pub fn put_row(row: &Row, to: &mut Row)
+    ensures { to.new ≡ row.now }
+{
+    // kept: a loop and not `*to = *row`, for which the compiler keeps a row in memory that is else in registers
+    for i in 0..16 {
+        to[i] = row[i];
+    }
+}
+
 // Takes the sources of another row out of a row: those that are new stay. Returns the bits that some lane has then.
 pub fn remove_row(row: &Row, sum: &mut Row) -> u16
     ensures { RowLeft row.now sum.old sum.new result }
 {
     let mut found = 0;
-    for (i, lane) in sum.iter_mut().enumerate() {
-        let new = *lane & !row[i];
-        *lane = new;
+    for i in 0..16 {
+        let new = sum[i] & !row[i];
+        sum[i] = new;
         found |= new;
     }
     found
