@@ -145,7 +145,7 @@ pub struct Shape<'a> {
 }
 
 impl<'a> Shape<'a> {
-    // Whether a line may have it.
+    // Whether a line may have it: a word of one line, a separator below the digits that is no line feed, and at most three numbers.
     fn is_possible(&self) -> bool
         ensures { result ≡ is_shape self.now.word.now self.now.separator self.now.count }
     {
