@@ -74,6 +74,7 @@ pub fn threshold_of(n: usize) -> Result<usize, Refusal>
 
 // The threshold in force where a caller gives t: 0 stands for the stored one. The open calls hand it down, so that nothing below them sees
 // that 0.
+// kept: the C interface, in which t is a number and 0 the stored threshold
 #[tactic(auto, unfolding(model::specs::Threshold::in_force))]
 pub fn in_force(n: usize, t: usize) -> usize
     requires { (1 ≤ n) × (n ≤ 1024) }
