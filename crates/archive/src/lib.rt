@@ -21,14 +21,14 @@ ghost use Rattle.base_answer_codes.specs.Code.{no_field, count_field, size_field
 ghost use Rattle.base_answer_codes.specs.Code.{decoded, no_value, count_in, size_in, answer_in, test_in, IsCode};
 ghost use Rattle.base_answer_codes.specs.Code.{read_decoded, write_decoded, build_decoded, walk_decoded};
 
-use base_answer_codes::{accepting_code, asking_code, counting_code, reading_code, testing_code};
+use base_answer_codes::code;
 
 // The stored threshold of n nodes.
 #[unsafe(no_mangle)]
 pub extern "C" fn puxerdau_threshold(n: usize) -> u64
     ensures { IsCode count_field count_in (threshold_answer n) result }
 {
-    counting_code(base_threshold::threshold_of(n))
+    code(base_threshold::threshold_of(n))
 }
 
 // Reads a survey from its text into two lists.
@@ -40,7 +40,7 @@ pub extern "C" fn puxerdau_read(text: &[u8], starts: &mut [u32], neighbours: &mu
         ≡ reading text.now (length starts.old) (length neighbours.old) }
     ensures read_right { ReadRight text.now (read_decoded result starts.new neighbours.new) }
 {
-    reading_code(survey_reading::read_survey(text, starts, neighbours))
+    code(survey_reading::read_survey(text, starts, neighbours))
 }
 
 // Writes a survey's text into a buffer.
@@ -57,7 +57,7 @@ pub extern "C" fn puxerdau_write(
         ≡ writing n starts.now neighbours.now buffer.old }
     ensures write_right { WriteRight n starts.now neighbours.now (write_decoded result buffer.new) }
 {
-    counting_code(survey_writing::write_survey(n, starts, neighbours, buffer))
+    code(survey_writing::write_survey(n, starts, neighbours, buffer))
 }
 
 // Reads a survey from a DIMACS edge file into two lists.
@@ -69,7 +69,7 @@ pub extern "C" fn puxerdau_import(text: &[u8], starts: &mut [u32], neighbours: &
         ≡ importing text.now (length starts.old) (length neighbours.old) }
     ensures import_right { ImportRight text.now (read_decoded result starts.new neighbours.new) }
 {
-    reading_code(survey_importing::import_survey(text, starts, neighbours))
+    code(survey_importing::import_survey(text, starts, neighbours))
 }
 
 // Writes a survey as a DIMACS edge file into a buffer.
@@ -86,7 +86,7 @@ pub extern "C" fn puxerdau_export(
         ≡ exporting n starts.now neighbours.now buffer.old }
     ensures export_right { ExportRight n starts.now neighbours.now (write_decoded result buffer.new) }
 {
-    counting_code(survey_writing::export_survey(n, starts, neighbours, buffer))
+    code(survey_writing::export_survey(n, starts, neighbours, buffer))
 }
 
 // Whether the lists are a survey's.
@@ -94,7 +94,7 @@ pub extern "C" fn puxerdau_export(
 pub extern "C" fn puxerdau_accept(n: usize, starts: &[u32], neighbours: &[u16]) -> u64
     ensures { IsCode no_field no_value (accepting n starts.now neighbours.now) result }
 {
-    accepting_code(survey_acceptance::accept(n, starts, neighbours))
+    code(survey_acceptance::accept(n, starts, neighbours))
 }
 
 // Builds the three tables and the hub list of a survey, split by the threshold t, or by the stored one where t is 0.
@@ -118,7 +118,7 @@ pub extern "C" fn puxerdau_build(
     ensures build_right { BuildRight n t starts.now neighbours.now
         (build_decoded result full.new low.new report.new hubs.new) }
 {
-    counting_code(table_building::build(n, t, starts, neighbours, full, low, report, hubs))
+    code(table_building::build(n, t, starts, neighbours, full, low, report, hubs))
 }
 
 // Asks a pair: the report with its route.
@@ -134,7 +134,7 @@ pub extern "C" fn puxerdau_ask(
     ensures code { IsCode answer_field answer_in (asking n full.now low.now report.now a b) result }
     ensures ask_right { AskRight n full.now low.now report.now a b (decoded answer_in result) }
 {
-    asking_code(answer_pair::ask(n, full, low, report, a, b))
+    code(answer_pair::ask(n, full, low, report, a, b))
 }
 
 // Writes the walk of a pair into a list; t is the threshold of the tables, 0 for the stored one.
@@ -163,7 +163,7 @@ pub extern "C" fn puxerdau_walk(
         full.now low.now report.now a b (length walk.old)
         (walk_decoded result walk.new) }
 {
-    asking_code(walk_writing::write_walk(n, t, starts, neighbours, full, low, report, a, b, walk))
+    code(walk_writing::write_walk(n, t, starts, neighbours, full, low, report, a, b, walk))
 }
 
 // The two-or-four test of a survey, split by the threshold t, or by the stored one where t is 0.
@@ -172,7 +172,7 @@ pub extern "C" fn puxerdau_test(n: usize, t: usize, starts: &[u32], neighbours: 
     ensures code { IsCode test_field test_in (testing n t starts.now neighbours.now) result }
     ensures test_right { TestRight n t starts.now neighbours.now (decoded test_in result) }
 {
-    testing_code(answer_two_or_four::test(n, t, starts, neighbours))
+    code(answer_two_or_four::test(n, t, starts, neighbours))
 }
 
 // Writes the listing of a text into a buffer.
@@ -182,5 +182,5 @@ pub extern "C" fn puxerdau_list(text: &[u8], buffer: &mut [u8]) -> u64
     ensures buffer_after { write_decoded result buffer.new ≡ writing_listing text.now buffer.old }
     ensures text_len_bound { length (listing text.now) ≤ most_listing }
 {
-    counting_code(listing_writing::write_listing(text, buffer))
+    code(listing_writing::write_listing(text, buffer))
 }

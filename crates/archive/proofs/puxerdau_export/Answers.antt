@@ -4,7 +4,7 @@ use Rattle.model.specs.Writing.{AfterWriting}
 use Rattle.archive.proofs.Fits.{file_fits}
 use Rattle.archive.proofs.puxerdau_export.Goals as goal
 
-pub counting_code-requires : goal.counting_code-requires
-counting_code-requires c =
+pub code-requires : goal.code-requires
+code-requires c =
     let answer = ap (λ (x : AfterWriting). x.answer) c.export_survey.ensures.buffer_after in
     λ k e. omega (arith, file_fits _ _ _ _ (sym answer ∙ e))

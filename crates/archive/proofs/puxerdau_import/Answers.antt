@@ -7,8 +7,8 @@ use Rattle.base_answer_codes.proofs.Decoding.{passed_on}
 use Rattle.archive.proofs.Fits.{import_fits}
 use Rattle.archive.proofs.puxerdau_import.Goals as goal
 
-pub reading_code-requires : goal.reading_code-requires
-reading_code-requires c =
+pub code-requires : goal.code-requires
+code-requires c =
     let answer = ap (λ (x : AfterReading). x.answer) c.import_survey.ensures.neighbours_after in
     λ s e. omega (arith, import_fits _ _ _ (sym answer ∙ e))
 
@@ -16,4 +16,4 @@ pub returns-clause-import_right : goal.returns-clause-import_right
 returns-clause-import_right c =
     (passed_on size_field size_in (λ (x : AfterReading). x.answer)
     (λ o. record { answer = o; starts = c.import_survey.new.starts; neighbours = c.import_survey.new.neighbours })
-    (ImportRight _) (λ o. refl) c.reading_code.ensures c.import_survey.ensures.neighbours_after c.import_survey.ensures.import_right).1.1
+    (ImportRight _) (λ o. refl) c.code.ensures c.import_survey.ensures.neighbours_after c.import_survey.ensures.import_right).1.1

@@ -7,8 +7,8 @@ use Rattle.base_answer_codes.proofs.Decoding.{passed_on}
 use Rattle.archive.proofs.Fits.{read_fits}
 use Rattle.archive.proofs.puxerdau_read.Goals as goal
 
-pub reading_code-requires : goal.reading_code-requires
-reading_code-requires c =
+pub code-requires : goal.code-requires
+code-requires c =
     let answer = ap (λ (x : AfterReading). x.answer) c.read_survey.ensures.neighbours_after in
     λ s e. omega (arith, read_fits _ _ _ (sym answer ∙ e))
 
@@ -16,4 +16,4 @@ pub returns-clause-read_right : goal.returns-clause-read_right
 returns-clause-read_right c =
     (passed_on size_field size_in (λ (x : AfterReading). x.answer)
     (λ o. record { answer = o; starts = c.read_survey.new.starts; neighbours = c.read_survey.new.neighbours })
-    (ReadRight _) (λ o. refl) c.reading_code.ensures c.read_survey.ensures.neighbours_after c.read_survey.ensures.read_right).1.1
+    (ReadRight _) (λ o. refl) c.code.ensures c.read_survey.ensures.neighbours_after c.read_survey.ensures.read_right).1.1

@@ -3,5 +3,5 @@ use native.Mathlib.Omega.{arith}
 use Rattle.archive.proofs.Fits.{searches_fit}
 use Rattle.archive.proofs.puxerdau_test.Goals as goal
 
-pub testing_code-requires : goal.testing_code-requires
-testing_code-requires c = λ t e. omega (arith, searches_fit _ _ _ _ (sym c.test.ensures.result_value ∙ e))
+pub code-requires : goal.code-requires
+code-requires c = λ t e. omega (arith, searches_fit _ _ _ _ (sym c.test.ensures.result_value ∙ e))
