@@ -15,7 +15,7 @@ const TABLE: usize = 1048576;
 
 const HUBS: usize = 1024;
 
-// kept: a function of its own, to which the tables are lent as arrays; with slices made where the arrays are, the check took ten minutes.
+// kept: a function of its own, to which the tables are lent as arrays; with slices made where the arrays are, the check took ten minutes
 fn build(
     rt: &impl Print,
     n: usize,
