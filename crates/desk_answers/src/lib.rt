@@ -46,14 +46,7 @@ pub fn say_pair(
 }
 
 // Says the answer to a pair, and the nodes of its walk.
-fn say_walked(
-    n: usize,
-    a: usize,
-    b: usize,
-    x: Answer,
-    walk: &[u16; 2048],
-    out: &mut [u8],
-) -> usize
+fn say_walked(n: usize, a: usize, b: usize, x: Answer, walk: &[u16; 2048], out: &mut [u8]) -> usize
     requires room { 20000 ≤ length out.old }
     requires report_in_bounds { x.report ≢ none → x.report + 1 ≤ 2048 }
     ensures { Wrote out.old out.new 0 result (walked_said n a b (answered x) walk.now) }

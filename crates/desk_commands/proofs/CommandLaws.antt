@@ -11,7 +11,7 @@ use Rattle.std.specs.Result.{IsOk}
 use Rattle.std.proofs.Common.{rules}
 use Rattle.model.specs.declared.Refusal.{Refusal}
 use Rattle.model.specs.declared.Size.{Size}
-use Rattle.model.specs.Answers.{answered, outcome}
+use Rattle.model.specs.Answers.{answered}
 use Rattle.model.specs.Basics.{over}
 use Rattle.model.specs.Survey.{Accepted}
 use Rattle.model.specs.Reading.{read_returned}
