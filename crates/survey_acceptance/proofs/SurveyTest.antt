@@ -1,15 +1,12 @@
 -- The tests made one after the other are together the test for a survey.
 -- Assumes nothing.
-use mathlib.Core.Path.{◌≡◌, sym}
+use mathlib.Core.Path.{◌≡◌}
 use mathlib.Core.Bool.{Bool, true, false, ◌&&◌}
 use mathlib.Core.List.{List}
 use Prim.Native.Nat.{ℕ, ◌+◌, ◌/◌, ◌%◌, ◌≤◌, ◌<◌}
 use native.Mathlib.Omega.{arith}
 use lib.Dec.{eqb, leb, eqb→eq, leb→le, le→leb}
-use lib.ListN.{length, get_or, take, length-take}
-use lib.Seq.{get_or-take}
-use Rattle.std.specs.Bool.{MatchBool}
-use Rattle.std.specs.List.Sorted.{IsNonDecreasing}
+use lib.ListN.{length, get_or}
 use Rattle.model.specs.Basics.{up_to, all}
 use Rattle.model.specs.Survey.{is_survey, IsSurvey}
 use Rattle.model.proofs.Tests.{and_l, and_r, and_i, eq_T, T_true, true_T, no_false, false_no}
@@ -23,22 +20,6 @@ rises starts v = leb (get_or starts v 0) (get_or starts (v + 1) 0)
 
 abbrev pub starts_rise : ℕ → List ℕ → Bool
 starts_rise n starts = eqb (get_or starts 0 0) 0 && all (rises starts) (up_to n)
-
--- the first n + 1 starts never fall: what `is_sorted` says of them
-pub sorted_rise : (n : ℕ) (starts : List ℕ) (r : Bool) → n + 1 ≤ length starts
-    → MatchBool r (IsNonDecreasing (take (n + 1) starts))
-    ((k : ℕ) × (k + 1 < length (take (n + 1) starts)) × ((d : ℕ) → get_or (take (n + 1) starts) (k + 1) d < get_or (take (n + 1) starts) k d))
-    → r ≡ all (rises starts) (up_to n)
-sorted_rise n starts true l h =
-    sym (T_true _ (all_of (rises starts) (up_to n) (λ v m.
-    let k = of_up_to n v m in
-    le→leb _ _ (rw (get_or-take (n + 1) starts v 0 (omega arith), get_or-take (n + 1) starts (v + 1) 0 (omega arith)) at (h v (v + 1) 0 (omega arith) (omega (arith, length-take (n + 1) starts)))))))
-sorted_rise n starts false l (k, kn, falls) =
-    sym (no_false _ (λ t.
-    let b : k < n = omega (arith, kn, length-take (n + 1) starts) in
-    let rise = leb→le (get_or starts k 0) (get_or starts (k + 1) 0) (of_all (rises starts) (up_to n) t k (has_up_to n k b)) in
-    let fall = rw (get_or-take (n + 1) starts k 0 (omega arith), get_or-take (n + 1) starts (k + 1) 0 (omega arith)) at (falls 0) in
-    omega arith))
 
 -- ---- the test for a survey, by facts
 
