@@ -18,7 +18,7 @@ pub trait Coded {
     ghost value_in: { ℕ → Self };
 
     // Which values have room in the field.
-    ghost Fits: { Self → Type 0 };
+    ghost Fits: { Self → Type 0 } = { λ _. Unit {0} };
 
     fn field(self) -> u64
         requires { Fits self }
@@ -42,8 +42,6 @@ impl Coded for () {
     ghost field = { no_field };
 
     ghost value_in = { no_value };
-
-    ghost Fits = { λ _. Unit {0} };
 
     fn field(self) -> u64 {
         0
@@ -79,8 +77,6 @@ impl Coded for Answer {
     ghost field = { answer_field };
 
     ghost value_in = { answer_in };
-
-    ghost Fits = { λ _. Unit {0} };
 
     fn field(self) -> u64 {
         self.report as u64 + 65536 * (route_number(self.route) + 65536 * hub_number(self.route))

@@ -1,18 +1,8 @@
-// Lists that are filled or copied.
+// Lists that are copied.
 #![tactic(auto)]
 
-ghost use Rattle.std.specs.Prelude.{◌≡◌, reverse, ◌+◌, ◌≤◌, length, replicate};
+ghost use Rattle.std.specs.Prelude.{◌≡◌, reverse, ◌+◌, ◌≤◌, length};
 ghost use Rattle.base_lists.specs.Written.{Wrote};
-
-// Every entry becomes the value.
-pub fn fill<T: Copy>(list: &mut [T], value: T)
-    ensures { list.new ≡ replicate (length list.old) value }
-{
-    // kept: a loop and not the slice's `fill`, which asks that a copy does not fail, and `Copy` does not promise that
-    for entry in list.iter_mut() {
-        *entry = value;
-    }
-}
 
 // The entries from a place on become those of another list.
 pub fn copy<T: Copy>(from: &[T], list: &mut [T], at: usize)

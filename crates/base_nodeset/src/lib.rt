@@ -7,6 +7,11 @@ ghost use Rattle.model.specs.Basics.{up_to, has, keep};
 ghost use Rattle.std.specs.Prelude.{if◌then◌else◌};
 ghost use Rattle.base_nodeset.specs.NodeSet.{member, inserted, intersection, difference, members_from};
 
+// A set of the nodes of a survey, and one of its links: bit 1024 * a + b is link a-b.
+pub type NodeSet = [u64; 16];
+
+pub type Matrix = [u64; 16384];
+
 pub fn insert(words: &mut [u64], v: usize)
     requires { v / 64 < length words.old }
     ensures { member words.new ≡ inserted (member words.old) v }
@@ -60,7 +65,7 @@ pub fn smallest(words: &[u64]) -> Option<usize>
 }
 
 // The nodes below n, put into the empty set: whole words, and the low bits of one more.
-pub fn insert_below(words: &mut [u64; 16], n: usize)
+pub fn insert_below(words: &mut NodeSet, n: usize)
     requires { (words.old ≡ replicate 16 0) × (n ≤ 1024) }
     ensures { member words.new ≡ (λ v. ltb v n) }
 {

@@ -8,6 +8,7 @@ ghost use Rattle.base_nodeset.specs.NodeSet.{member};
 ghost use Rattle.survey_neighbours.specs.SurveyGraph.{graph};
 ghost use Rattle.search_many_sources.specs.Levels.{distances};
 
+use base_nodeset::NodeSet;
 use model::NONE;
 use search_source_sets::{Row, Rows};
 use survey_neighbours::Survey;
@@ -16,7 +17,7 @@ use survey_neighbours::Survey;
 #[derive(Clone, Copy)]
 struct Group<'a, 'b> {
     survey: Survey<'a>,
-    allowed: &'b [u64; 16],
+    allowed: &'b NodeSet,
     base: usize,
     ghost begins: { base < survey.n },
 }
@@ -148,12 +149,12 @@ impl<'a, 'b> Group<'a, 'b> {
 
 // The fewest links between all allowed nodes through allowed nodes, as a table: node v's row has the distances from all sources, which
 // are the distances to them. Returns whether the table is filled; it is not where the search would have more than 256 levels.
-pub fn search_all(survey: &Survey, allowed: &[u64; 16], table: &mut [u16]) -> bool
+pub fn search_all(survey: &Survey, allowed: &NodeSet, table: &mut [u16]) -> bool
     requires { length table.old ≡ survey.now.n * survey.now.n }
     ensures { result ≡ true
         → table.new ≡ distances survey.now.n (member allowed.now) (graph survey.now) }
 {
-    base_lists::fill(table, NONE);
+    table.fill(NONE);
     for number in 0..survey.n.div_ceil(256) {
         let group = Group {
             survey: *survey,

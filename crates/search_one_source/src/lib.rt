@@ -10,6 +10,7 @@ ghost use Rattle.base_nodeset.specs.NodeSet.{member};
 ghost use Rattle.search_queue.specs.Visiting.{unreached};
 ghost use Rattle.search_one_source.specs.OpenNodes.{is_open, searched};
 
+use base_nodeset::NodeSet;
 use model::NONE;
 use search_queue::{ByBranch, Visit, WithoutBranch};
 use survey_neighbours::Survey;
@@ -52,7 +53,7 @@ pub fn search_open(survey: &Survey, count: usize, source: usize, row: &mut [u16]
 }
 
 // Breadth-first search from `source` through allowed nodes only. The row gets the fewest links to each node, or none.
-pub fn search(survey: &Survey, allowed: &[u64; 16], source: usize, row: &mut [u16])
+pub fn search(survey: &Survey, allowed: &NodeSet, source: usize, row: &mut [u16])
     requires { (source < survey.now.n) × T (member allowed.now source) × (length row.old ≡ survey.now.n) }
     ensures { row.new ≡ map (fewest (between (member allowed.now)
         (linked survey.now.n (graph survey.now))) survey.now.n source) (up_to survey.now.n) }
@@ -69,7 +70,7 @@ pub fn search(survey: &Survey, allowed: &[u64; 16], source: usize, row: &mut [u1
 }
 
 // The same into row `source` of a table of n rows of n entries each.
-pub fn search_row(survey: &Survey, allowed: &[u64; 16], source: usize, table: &mut [u16])
+pub fn search_row(survey: &Survey, allowed: &NodeSet, source: usize, table: &mut [u16])
     requires { (source < survey.now.n) × T (member allowed.now source) × (survey.now.n * survey.now.n ≤ length table.old) }
     ensures { table.new ≡ written table.old (source * survey.now.n) (map (fewest (between (member allowed.now)
         (linked survey.now.n (graph survey.now))) survey.now.n source) (up_to survey.now.n)) }

@@ -18,8 +18,8 @@ pub fn import_survey(
         ≡ importing text.now (length starts.old) (length neighbours.old) }
     ensures import_right { ImportRight text.now (read_returned result starts.new neighbours.new) }
 {
-    base_lists::fill(starts, 0);
-    base_lists::fill(neighbours, 0);
+    starts.fill(0);
+    neighbours.fill(0);
     let Pair { a: n, b: m, end } = survey_importing_lines::head_line(
         text,
         starts.len(),

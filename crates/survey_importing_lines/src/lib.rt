@@ -9,6 +9,7 @@ ghost use Rattle.model.specs.Dimacs.{uncommented, head_word, edge_word, head_of,
 ghost use Rattle.survey_reading_lines.specs.LinesRead.{Holds, Told};
 ghost use Rattle.survey_importing_lines.specs.FileLines.{Passed, file_answer};
 
+use base_nodeset::Matrix;
 use model::Refusal;
 use survey_reading_lines::Limits;
 use text_reading::Pair;
@@ -64,7 +65,7 @@ pub fn edge_at(text: &[u8], at: usize, n: usize) -> Result<Pair<usize>, Refusal>
 }
 
 // Puts a link into the matrix, unless it is there, and returns how many links that adds.
-fn keep_link(bits: &mut [u64; 16384], a: usize, b: usize) -> usize
+fn keep_link(bits: &mut Matrix, a: usize, b: usize) -> usize
     requires { (a < 1024) × (b < 1024) }
     ensures { (links : List (ℕ × ℕ)) → Holds bits.old links
         → (result ≡ length (once_after links ((a, b) ∷ []))) × Holds bits.new (once_after links ((a, b) ∷ []) ++ links) }
@@ -83,7 +84,7 @@ pub fn read_edges(
     at: usize,
     n: usize,
     m: usize,
-    bits: &mut [u64; 16384],
+    bits: &mut Matrix,
 ) -> Result<usize, Refusal>
     requires { (n ≤ 1024) × (bits.old ≡ replicate 16384 0) }
     ensures { Told (map_answer (once_after []) (read_edges n m (uncommented (drop at text.now)))) result bits.new }

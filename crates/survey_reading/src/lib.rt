@@ -22,8 +22,8 @@ pub fn read_within(
         ≡ reading_of (length starts.old) (length neighbours.old)
         (parse most_nodes most_links (length starts.old) (length neighbours.old) text.now) }
 {
-    base_lists::fill(starts, 0);
-    base_lists::fill(neighbours, 0);
+    starts.fill(0);
+    neighbours.fill(0);
     let limits = Limits {
         nodes: most_nodes,
         links: most_links,

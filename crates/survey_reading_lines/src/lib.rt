@@ -7,6 +7,7 @@ ghost use Rattle.model.specs.Reading.{read_links, limits_of, counts_of};
 ghost use Rattle.base_nodeset.specs.Matrix.{edges_in};
 ghost use Rattle.survey_reading_lines.specs.LinesRead.{Holds, link_in, line_answer, Told};
 
+use base_nodeset::Matrix;
 use model::Refusal;
 use text_reading::Pair;
 
@@ -22,7 +23,7 @@ pub struct Limits {
 }
 
 // Whether the matrix has a link.
-pub fn has_link(bits: &[u64; 16384], a: usize, b: usize) -> bool
+pub fn has_link(bits: &Matrix, a: usize, b: usize) -> bool
     requires { (a < 1024) × (b < 1024) }
     ensures { result ≡ edges_in bits.now a b }
 {
@@ -30,7 +31,7 @@ pub fn has_link(bits: &[u64; 16384], a: usize, b: usize) -> bool
 }
 
 // Puts a link into the matrix, both ways round.
-pub fn insert_link(bits: &mut [u64; 16384], a: usize, b: usize)
+pub fn insert_link(bits: &mut Matrix, a: usize, b: usize)
     requires { (a < 1024) × (b < 1024) }
     ensures { (links : List (ℕ × ℕ)) → Holds bits.old links → Holds bits.new ((a, b) ∷ links) }
 {
@@ -43,7 +44,7 @@ pub fn link_at(
     text: &[u8],
     at: usize,
     n: usize,
-    bits: &[u64; 16384],
+    bits: &Matrix,
 ) -> Result<Pair<usize>, Refusal>
     requires { n ≤ 1024 }
     ensures { line_answer text.now result ≡ link_in n (edges_in bits.now) (drop at text.now) }
@@ -71,7 +72,7 @@ pub fn read_links(
     at: usize,
     n: usize,
     m: usize,
-    bits: &mut [u64; 16384],
+    bits: &mut Matrix,
 ) -> Result<usize, Refusal>
     requires { (n ≤ 1024) × (bits.old ≡ replicate 16384 0) }
     ensures { Told (read_links n m [] (drop at text.now)) result bits.new }

@@ -8,6 +8,8 @@ ghost use Rattle.model.specs.Reading.{starts_of, neighbours_from};
 ghost use Rattle.base_nodeset.specs.NodeSet.{members_from};
 ghost use Rattle.survey_reading_lists.specs.MatrixRows.{rows_in};
 
+use base_nodeset::Matrix;
+
 // Writes the set bits of a word, ascending, at a place of the list, where its lowest bit stands for `base`.
 fn write_word(word: u64, base: usize, neighbours: &mut [u16], at: usize) -> usize
     requires { (base ≤ 960) × (at + length (members_from 64 base word) ≤ length neighbours.old) }
@@ -25,7 +27,7 @@ fn write_word(word: u64, base: usize, neighbours: &mut [u16], at: usize) -> usiz
 }
 
 // Writes the neighbours of a node, ascending, at a place of the list, and returns the place after them.
-fn write_row(bits: &[u64; 16384], v: usize, neighbours: &mut [u16], at: usize) -> usize
+fn write_row(bits: &Matrix, v: usize, neighbours: &mut [u16], at: usize) -> usize
     requires { (v < 1024) × (at + length (rows_in bits.now v) ≤ length neighbours.old) }
     ensures { Wrote neighbours.old neighbours.new at result (rows_in bits.now v) }
 {
@@ -37,7 +39,7 @@ fn write_row(bits: &[u64; 16384], v: usize, neighbours: &mut [u16], at: usize) -
 }
 
 // Writes the two lists of n nodes with the matrix's links.
-pub fn write_lists(bits: &[u64; 16384], n: usize, starts: &mut [u32], neighbours: &mut [u16])
+pub fn write_lists(bits: &Matrix, n: usize, starts: &mut [u32], neighbours: &mut [u16])
     requires n_bound { (n ≤ 1024) × (n + 1 ≤ length starts.old) }
     requires bits_in_bounds { (length (neighbours_from n (rows_in bits.now)) ≤ length neighbours.old)
         × (length (neighbours_from n (rows_in bits.now)) ≤ 32768) }

@@ -8,6 +8,7 @@ ghost use Rattle.model.specs.Dimacs.{uncommented};
 ghost use Rattle.survey_stops.specs.Stops.{LinesTaken, nodes_in, line_at, first_says, links_stop, read_stop};
 ghost use Rattle.survey_stops.specs.Stops.{head_says, edges_stop, kept_line, file_line};
 
+use base_nodeset::Matrix;
 use survey_reading_lines::Limits;
 
 // Where a text stops: the line, counted from 1, and the count of nodes that its first line gives, 0 where that line is refused.
@@ -19,7 +20,7 @@ pub struct Place {
 }
 
 // How many of m link lines from a place on are taken before one is refused. The matrix is empty.
-fn links_taken(text: &[u8], at: usize, n: usize, m: usize, bits: &mut [u64; 16384]) -> usize
+fn links_taken(text: &[u8], at: usize, n: usize, m: usize, bits: &mut Matrix) -> usize
     requires { (n ≤ 1024) × (bits.old ≡ replicate 16384 0) }
     ensures { LinesTaken m result (drop at text.now) (links_stop n m [] (drop at text.now)) }
 {

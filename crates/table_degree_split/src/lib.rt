@@ -6,10 +6,11 @@ ghost use Rattle.model.specs.Hubs.{is_high, is_low};
 ghost use Rattle.base_nodeset.specs.NodeSet.{member};
 ghost use Rattle.survey_neighbours.specs.SurveyGraph.{graph};
 
+use base_nodeset::NodeSet;
 use survey_neighbours::Survey;
 
 // The nodes with at least s neighbours, put into the empty set.
-pub fn high_nodes(survey: &Survey, s: usize, words: &mut [u64; 16])
+pub fn high_nodes(survey: &Survey, s: usize, words: &mut NodeSet)
     requires { words.old ≡ replicate 16 0 }
     ensures { member words.new ≡ (λ v. ltb v survey.now.n && is_high s (graph survey.now) v) }
 {
@@ -21,7 +22,7 @@ pub fn high_nodes(survey: &Survey, s: usize, words: &mut [u64; 16])
 }
 
 // The nodes with fewer than s neighbours, put into the empty set.
-pub fn low_nodes(survey: &Survey, s: usize, words: &mut [u64; 16])
+pub fn low_nodes(survey: &Survey, s: usize, words: &mut NodeSet)
     requires { words.old ≡ replicate 16 0 }
     ensures { member words.new ≡ (λ v. ltb v survey.now.n && is_low s (graph survey.now) v) }
 {

@@ -9,6 +9,7 @@ ghost use Rattle.base_nodeset.specs.NodeSet.{member};
 ghost use Rattle.search_many_sources.specs.Levels.{distance, distances};
 ghost use Rattle.survey_neighbours.specs.SurveyGraph.{graph};
 
+use base_nodeset::NodeSet;
 use model::NONE;
 use survey_neighbours::Survey;
 
@@ -21,14 +22,14 @@ pub fn fill_full(survey: &Survey, hubs: &[u16], full: &mut [u16])
     let mut all = [0u64; 16];
     base_nodeset::insert_below(&mut all, survey.n);
     let size = survey.n * survey.n;
-    base_lists::fill(&mut full[..size], NONE);
+    full[..size].fill(NONE);
     for hub in hubs {
         search_one_source::search_row(survey, &all, *hub as usize, full);
     }
 }
 
 // Row a of Low: the fewest links from a through low nodes, if a is low; else all none.
-fn low_row(survey: &Survey, low_nodes: &[u64; 16], a: usize, low: &mut [u16])
+fn low_row(survey: &Survey, low_nodes: &NodeSet, a: usize, low: &mut [u16])
     requires { (a < survey.now.n) × (survey.now.n * survey.now.n ≤ length low.old) }
     ensures { low.new ≡ written low.old (a * survey.now.n)
         (map (distance survey.now.n (member low_nodes.now) (graph survey.now) a) (up_to survey.now.n)) }
@@ -37,12 +38,12 @@ fn low_row(survey: &Survey, low_nodes: &[u64; 16], a: usize, low: &mut [u16])
         search_one_source::search_row(survey, low_nodes, a, low);
     } else {
         let start = a * survey.n;
-        base_lists::fill(&mut low[start..start + survey.n], NONE);
+        low[start..start + survey.n].fill(NONE);
     }
 }
 
 // Low row by row, from one low node after the other.
-fn low_rows(survey: &Survey, low_nodes: &[u64; 16], low: &mut [u16])
+fn low_rows(survey: &Survey, low_nodes: &NodeSet, low: &mut [u16])
     requires { survey.now.n * survey.now.n ≤ length low.old }
     ensures { low.new ≡ over (distances survey.now.n (member low_nodes.now) (graph survey.now)) low.old }
 {

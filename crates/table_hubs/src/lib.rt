@@ -9,11 +9,12 @@ ghost use Rattle.base_nodeset.specs.NodeSet.{member, intersection, difference};
 ghost use Rattle.survey_neighbours.specs.SurveyGraph.{graph};
 ghost use Rattle.table_hubs.specs.Bounds.{Bounded};
 
+use base_nodeset::NodeSet;
 use model::NONE;
 use survey_neighbours::Survey;
 
 // The closed neighbourhood of a node.
-fn closed_set(survey: &Survey, v: usize) -> [u64; 16]
+fn closed_set(survey: &Survey, v: usize) -> NodeSet
     requires { v < survey.now.n }
     ensures { member result ≡ (λ x. has x (closed (graph survey.now) v)) }
 {
@@ -27,7 +28,7 @@ fn closed_set(survey: &Survey, v: usize) -> [u64; 16]
 }
 
 // The nodes that are newly covered if v becomes a hub: the words of its closed neighbourhood masked with those of the uncovered nodes.
-fn newly_covered(survey: &Survey, v: usize, uncovered: &[u64; 16]) -> [u64; 16]
+fn newly_covered(survey: &Survey, v: usize, uncovered: &NodeSet) -> NodeSet
     requires { v < survey.now.n }
     ensures { member result
         ≡ intersection (λ x. has x (closed (graph survey.now) v)) (member uncovered.now) }
@@ -38,7 +39,7 @@ fn newly_covered(survey: &Survey, v: usize, uncovered: &[u64; 16]) -> [u64; 16]
 }
 
 // How many nodes are newly covered if v becomes a hub: the ones of that set are counted.
-fn gain_of(survey: &Survey, v: usize, uncovered: &[u64; 16]) -> u16
+fn gain_of(survey: &Survey, v: usize, uncovered: &NodeSet) -> u16
     requires { v < survey.now.n }
     ensures { result ≡ gain (graph survey.now) (keep (member uncovered.now) (up_to survey.now.n)) v }
 {
@@ -47,7 +48,7 @@ fn gain_of(survey: &Survey, v: usize, uncovered: &[u64; 16]) -> u16
 
 // The node that newly covers most nodes; on a tie, the one with the smallest number. A node whose bound is not above the most found so
 // far cannot be that node, and its gain is not counted; else its gain becomes its bound.
-fn best_node(survey: &Survey, uncovered: &[u64; 16], bounds: &mut [u16; 1024]) -> usize
+fn best_node(survey: &Survey, uncovered: &NodeSet, bounds: &mut [u16; 1024]) -> usize
     requires { Bounded survey.now.n (graph survey.now) (keep (member uncovered.now) (up_to survey.now.n)) bounds.old }
     ensures value { result
         ≡ best survey.now.n (graph survey.now) (keep (member uncovered.now) (up_to survey.now.n)) }
@@ -70,7 +71,7 @@ fn best_node(survey: &Survey, uncovered: &[u64; 16], bounds: &mut [u16; 1024]) -
 }
 
 // Takes the nodes that v newly covers out of the uncovered nodes.
-fn cover(survey: &Survey, v: usize, uncovered: &mut [u64; 16])
+fn cover(survey: &Survey, v: usize, uncovered: &mut NodeSet)
     requires { v < survey.now.n }
     ensures { member uncovered.new
         ≡ difference (member uncovered.old) (λ x. has x (closed (graph survey.now) v)) }
@@ -97,6 +98,6 @@ pub fn choose_hubs(survey: &Survey, s: usize, list: &mut [u16]) -> usize
         count += 1;
         cover(survey, hub, &mut uncovered);
     }
-    base_lists::fill(&mut list[count..n], NONE);
+    list[count..n].fill(NONE);
     count
 }

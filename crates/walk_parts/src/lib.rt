@@ -8,6 +8,7 @@ ghost use Rattle.survey_neighbours.specs.SurveyGraph.{graph};
 ghost use Rattle.walk_parts.specs.Found.{is_found, Leaves, PartIs};
 ghost use Rattle.walk_parts.specs.Inside.{Inside};
 
+use base_nodeset::NodeSet;
 use survey_neighbours::Survey;
 
 // What is the same at each step of a part: the survey, the nodes that may be entered, the node where it ends, and a table with the links
@@ -15,7 +16,7 @@ use survey_neighbours::Survey;
 #[derive(Clone, Copy)]
 struct Part<'a> {
     survey: Survey<'a>,
-    allowed: &'a [u64; 16],
+    allowed: &'a NodeSet,
     goal: usize,
     table: &'a [u16],
     stride: usize,

@@ -130,7 +130,7 @@ pub fn write_walk(
     ensures walk_right { WalkRight n t starts.now neighbours.now full.now low.now
         report.now a b (length walk.old) (walk_returned result walk.new) }
 {
-    base_lists::fill(walk, model::NONE);
+    walk.fill(model::NONE);
     let pair = Pair::judge(n, t, starts, neighbours, full, low, report, a, b)?;
     let s = base_threshold::in_force(n, t);
     pair.write(s, walk)

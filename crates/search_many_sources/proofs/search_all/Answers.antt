@@ -5,7 +5,7 @@ use Rattle.search_many_sources.proofs.GroupDistances.{grouped_none, grouped_unfi
 use Rattle.search_many_sources.proofs.search_all.Goals as goal
 
 pub loop-number-init : goal.loop-number-init
-loop-number-init c = grouped_none _ _ _ _ _ c.requires c.fill.ensures
+loop-number-init c = grouped_none _ _ _ _ _ c.requires (c.fill.ensures.after (λ y e. e))
 
 pub search-requires-clause-unfilled : goal.search-requires-clause-unfilled
 search-requires-clause-unfilled c = grouped_unfilled _ _ _ _ _ c.loop-number.invariant

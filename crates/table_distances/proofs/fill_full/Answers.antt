@@ -7,7 +7,7 @@ use Rattle.table_distances.proofs.Distances.{full_none, full_next, full_done}
 use Rattle.table_distances.proofs.fill_full.Goals as goal
 
 pub loop-hub-init : goal.loop-hub-init
-loop-hub-init c = full_none _ _ c.requires.room c.fill.ensures
+loop-hub-init c = full_none _ _ c.requires.room (c.fill.ensures.after (λ y e. e))
 
 pub search_row-requires : goal.search_row-requires
 search_row-requires c =
@@ -21,4 +21,4 @@ loop-hub-preserved c =
     c.insert_below.ensures c.search_row.ensures
 
 pub returns : goal.returns
-returns c = full_done _ _ c.requires.room c.fill.ensures c.loop-hub.invariant (omega arith)
+returns c = full_done _ _ c.requires.room (c.fill.ensures.after (λ y e. e)) c.loop-hub.invariant (omega arith)

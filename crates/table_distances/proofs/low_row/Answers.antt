@@ -13,5 +13,5 @@ returns-else-contains c =
     let n = c.args.survey.now.n in
     let start = c.args.a * n in
     let size : length (mid_of start (start + n - start) c.args.low.now) ≡ n = part_length _ _ _ c.requires.0 c.requires.1 in
-    row_put start _ _ _ _ (c.fill.auto.list ∙ size) (c.fill.ensures ∙ ap (λ (k : ℕ). replicate k none) size
+    row_put start _ _ _ _ (c.fill.auto.self ∙ size) ((c.fill.ensures.after (λ y e. e)) ∙ ap (λ (k : ℕ). replicate k none) size
     ∙ distance_none _ (member c.args.low_nodes.now) _ _ (sym c.contains.ensures ∙ c.if-contains.false))

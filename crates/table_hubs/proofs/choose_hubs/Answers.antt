@@ -43,8 +43,8 @@ slice_bounds-fill-start c = (choosing_part c.loop-uncovered.invariant.0).0
 
 pub returns-clause-value : goal.returns-clause-value
 returns-clause-value c =
-    (choosing_all c.loop-uncovered.invariant.0 c.smallest.ensures c.is_some.ensures c.loop-uncovered-test.false c.fill.ensures).0
+    (choosing_all c.loop-uncovered.invariant.0 c.smallest.ensures c.is_some.ensures c.loop-uncovered-test.false (c.fill.ensures.after (λ y e. e))).0
 
 pub returns-clause-list_after : goal.returns-clause-list_after
 returns-clause-list_after c =
-    (choosing_all c.loop-uncovered.invariant.0 c.smallest.ensures c.is_some.ensures c.loop-uncovered-test.false c.fill.ensures).1
+    (choosing_all c.loop-uncovered.invariant.0 c.smallest.ensures c.is_some.ensures c.loop-uncovered-test.false (c.fill.ensures.after (λ y e. e))).1

@@ -12,7 +12,7 @@ returns-in_err-pair c =
     let a = c.args in
     let e : c.from_residual.result ≡ Err c.in_err-pair.field-0.0 = grind (arith, common_steps) in
     let w = written a.n a.t a.starts.now a.neighbours.now a.full.now a.low.now a.report.now a.a a.b (length a.walk.now)
-    {r = walk_returned c.from_residual.result c.fill.new.list} (rw (e, c.in_err-pair.ensures.by_index _, c.fill.ensures)) in
+    {r = walk_returned c.from_residual.result c.fill.new.self} (rw (e, c.in_err-pair.ensures.by_index _, (c.fill.ensures.after (λ y e. e)))) in
     record { walk_after = w.0; walk_sound = w.1.0; walk_right = w.1.1 }
 
 pub returns : goal.returns
@@ -23,5 +23,5 @@ returns c =
     let nodes = judged_nodes c.in_ok-pair.pair judged.judged in
     let w = written a.n a.t a.starts.now a.neighbours.now a.full.now a.low.now a.report.now a.a a.b (length a.walk.now)
     {r = walk_returned c.write.result c.write.new.walk}
-    (c.write.ensures ∙ rw (judged.by_index _, c.fill.ensures, length-replicate, nodes, c.in_force-s.ensures)) in
+    (c.write.ensures ∙ rw (judged.by_index _, (c.fill.ensures.after (λ y e. e)), length-replicate, nodes, c.in_force-s.ensures)) in
     record { walk_after = w.0; walk_sound = w.1.0; walk_right = w.1.1 }
