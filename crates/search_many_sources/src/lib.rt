@@ -14,6 +14,7 @@ use search_source_sets::{Row, Rows};
 use survey_neighbours::Survey;
 
 // The sources of a group: the allowed nodes among 256 that follow one another, from `base` on.
+// kept: a list and a clause for its length; a type of table has a count of nodes too, and needs a clause that it is the survey's
 #[derive(Clone, Copy)]
 struct Group<'a, 'b> {
     survey: Survey<'a>,
