@@ -41,7 +41,7 @@ impl<'a, 'b> Group<'a, 'b> {
         ensures { (j : ℕ) → in_row sum.new j
             ≡ ((allowed self.now v && any (λ x. reached rows.now x j) (links self.now v)) || in_row sum.old j) }
     {
-        let allowed = self.allowed;
+        let allowed = self.allowed; // a copy of the reference, which the borrow checker wants
         if base_nodeset::contains(allowed, v) {
             search_source_sets::join_rows(self.survey.own(v), rows, sum);
         }

@@ -40,7 +40,7 @@ impl Part<'_> {
         requires { x < self.now.survey.n }
         ensures { result ≡ leads_on self.now d x }
     {
-        let allowed = self.allowed;
+        let allowed = self.allowed; // a copy of the reference, which the borrow checker wants
         usize::from(self.left(x)) == d && base_nodeset::contains(allowed, x)
     }
 
