@@ -104,9 +104,6 @@ pub record Removed (b a₀ a : List ℕ) (i : ℕ) : Type 0 where
   pub made : Made (difference (member a₀) (member b)) (length a₀) a i
   pub rest : (j : ℕ) → i ≤ j → get_or a j 0 ≡ get_or a₀ j 0
 
-pub removed_none : {b a₀ : List ℕ} → Removed b a₀ a₀ 0
-removed_none = record { made = made_none refl; rest = λ j h. refl }
-
 module _ {b a₀ a : List ℕ} {i : ℕ} (r : Removed b a₀ a i) where
   pub removed_more : i < length a → get_or b i 0 < 2 ^ 64 → Removed b a₀ (set a i (bit_and (get_or a i 0) ((2 ^ 64 - 1) - get_or b i 0))) (i + 1)
   unfolding member difference

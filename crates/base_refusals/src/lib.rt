@@ -10,6 +10,7 @@ ghost use Rattle.model.specs.Pair.{bad_pair};
 
 use model::Refusal;
 
+// kept: no From, which would stand in `model`, and that has no functions
 pub fn refusal_number(r: Refusal) -> u32
     ensures { result ≡ number r }
 {

@@ -20,6 +20,7 @@ fn far_node(n: usize, a: usize, b: usize) -> usize
     if n <= a { a } else { b }
 }
 
+// kept: the three tables stay three lists, as the calls that fill and ask them take them.
 // Builds the tables of a survey for threshold s and says what they answer to nodes a and b, from the first byte on.
 pub fn say_pair(
     survey: &Survey<'_>,

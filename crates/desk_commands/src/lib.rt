@@ -137,6 +137,7 @@ fn survey_text(survey: &Survey<'_>, out: &mut [u8]) -> usize
 }
 
 // The same as an edge file.
+// kept: the two are one call each; one function with that call as a parameter is no plainer.
 fn survey_file(survey: &Survey<'_>, out: &mut [u8]) -> usize
     requires { 200000 ≤ length out.old }
     ensures { Wrote out.old out.new 0 result (export_of survey.now.n survey.now.starts.now survey.now.neighbours.now) }

@@ -61,6 +61,7 @@ fn is_word(word: &[u8], name: &[u8]) -> bool
 }
 
 // The command that a word names.
+// kept: a `match` on byte strings leaves 54 goals, one for each byte at which a word may differ.
 #[tactic(auto, unfolding(crate::specs::Words::command_of, crate::specs::Words::if_named, model::specs::Basics::bytes))]
 pub fn command_of(word: &[u8]) -> Option<Command>
     ensures { result ≡ command_of word.now }

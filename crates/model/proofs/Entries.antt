@@ -4,7 +4,7 @@ use mathlib.Core.Path.{◌≡◌, refl, sym, ap, ◌∙◌}
 use mathlib.Core.Bool.{false, ◌||◌}
 use mathlib.Core.List.{List, ◌++◌, map}
 use Prim.Native.Nat.{ℕ, zero, suc, ◌+◌, ◌*◌, ◌≤◌, ◌<◌}
-use native.Mathlib.Nat.{add-zero, zero-add, add-suc, suc-add, suc-mul, zero-mul, mul-le-mul, mul-le-mul_right, le_of_suc-le-suc, not-suc-le-zero}
+use native.Mathlib.Nat.{add-zero, zero-add, add-suc, suc-add, suc-mul, zero-mul, mul-le-mul_right, le_of_suc-le-suc, not-suc-le-zero}
 use native.Mathlib.Omega.{arith}
 use lib.ListN.{length, get_or, take, replicate, length-take, length-append, length-map, get_or-append}
 use borrow.Author.Tests.{le-ltb, ltb-false}
@@ -26,11 +26,6 @@ pub get_d_same : (n i d : ℕ) → get_or (replicate n d) i d ≡ d
 get_d_same zero i d = refl
 get_d_same (suc n) zero d = refl
 get_d_same (suc n) (suc i) d = get_d_same n _ _
-
--- the i-th of the numbers below n is i
-pub get_d_up_to : (n i d : ℕ) → i < n → get_or (up_to n) i d ≡ i
-unfolding up_to
-get_d_up_to n i d h = get_d_numbers _ _ _ _ h ∙ zero-add _
 
 get_d_from : (g : ℕ → ℕ) (k m i d : ℕ) → i < m → get_or (map g (from k m)) i d ≡ g (k + i)
 unfolding from
@@ -86,9 +81,6 @@ module _ (n : ℕ) (f : ℕ → ℕ → ℕ) where
 -- an entry's place in its table; and a table has at most 1,048,576 entries
 pub place_inside : (n a b : ℕ) → a < n → b < n → a * n + b < n * n
 place_inside n a b ha hb = omega (arith, suc-mul a n, mul-le-mul_right n ha)
-
-pub square_small : (n : ℕ) → n ≤ 1024 → n * n ≤ 1048576
-square_small n h = mul-le-mul h h
 
 -- entries of a longer list whose front is a table
 pub entry_front : (n : ℕ) (t u : List ℕ) → take (n * n) t ≡ u → (a b : ℕ) → a < n → b < n → entry_at n t a b ≡ entry_at n u a b

@@ -106,10 +106,10 @@ links_sound n (suc m) done (c ∷ text) ls e =
 -- ---- the whole text
 
 -- counts of nodes and links within the limits, for which the lists have room
-pub record Within (most_nodes_of most_links_of p q n m : ℕ) : Type 0 where
+pub record Within (most_nodes most_links p q n m : ℕ) : Type 0 where
   pub some_node : 1 ≤ n
-  pub size : n ≤ most_nodes_of
-  pub few : m ≤ most_links_of
+  pub size : n ≤ most_nodes
+  pub few : m ≤ most_links
   pub room : n + 1 ≤ p
   pub list_room : 2 * m ≤ q
 
@@ -150,8 +150,8 @@ module _ (N M p q : ℕ) where
       )
 
 -- a text that is accepted, with lists of p and q entries: its counts are within the limits, it is the text of its links, and each is new
-pub record TextRead (most_nodes_of most_links_of p q : ℕ) (text : List ℕ) (x : Parsed) : Type 0 where
-  pub within : Within most_nodes_of most_links_of p q x.nodes (length x.links)
+pub record TextRead (most_nodes most_links p q : ℕ) (text : List ℕ) (x : Parsed) : Type 0 where
+  pub within : Within most_nodes most_links p q x.nodes (length x.links)
   pub is_text : text ≡ survey_text x.nodes (length x.links) x.links
   pub fresh : AllFresh x.nodes [] x.links
 

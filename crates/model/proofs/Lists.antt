@@ -9,7 +9,7 @@ use native.Mathlib.Nat.{le_step, le_refl, add-zero, add-suc, suc-add, zero-add}
 use native.Mathlib.Omega.{arith}
 use lib.Dec.{T, eqb, eqb→eq, eqb_refl}
 use lib.ListN.{length}
-use Rattle.model.specs.Basics.{from, up_to, has, any, all, keep, first_of, gather, same}
+use Rattle.model.specs.Basics.{from, up_to, has, any, all, keep, first_of, gather}
 use Rattle.std.specs.Prelude.{if◌then◌else◌}
 use Rattle.model.proofs.Tests.{and_l, and_r, and_i, or_l, or_r, or_e, eq_or}
 
@@ -138,10 +138,6 @@ first_from p d k (suc m) = go (p k) refl (first_from p d (suc k) m)
 pub first_below : (p : ℕ → Bool) (d n : ℕ) → First p d 0 n (first_of p d (up_to n))
 unfolding up_to
 first_below p d n = first_from p d 0 n
-
--- the same for a number that is known to be the one found
-pub first_of_lem : (p : ℕ → Bool) (d n : ℕ) {r : ℕ} → r ≡ first_of p d (up_to n) → First p d 0 n r
-first_of_lem p d n e = rw e (first_below p d n)
 
 -- it is at most d, where d is not below n
 pub first_most : (p : ℕ → Bool) (d n : ℕ) → n ≤ d → first_of p d (up_to n) ≤ d
@@ -385,19 +381,6 @@ of_append x (y ∷ k) l h = ⊎_elim
     (or_e (eqb x y) _ h)
 
 -- ---- two lists that are the same
-
-pub same_eq : (k l : List ℕ) → T (same k l) → k ≡ l
-unfolding same
-same_eq [] [] t = refl
-same_eq [] (y ∷ l) t = absurd t
-same_eq (x ∷ k) [] t = absurd t
-same_eq (x ∷ k) (y ∷ l) t =
-    ap₂ (λ (z : ℕ) (r : List ℕ). z ∷ r) (eqb→eq _ _ (and_l (eqb x y) _ t)) (same_eq k l (and_r (eqb x y) _ t))
-
-pub same_refl : (l : List ℕ) → T (same l l)
-unfolding same
-same_refl [] = tt
-same_refl (x ∷ l) = and_i (eqb x x) _ (eqb_refl x) (same_refl l)
 
 -- ---- gathering twice
 

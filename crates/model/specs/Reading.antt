@@ -10,21 +10,21 @@ use Rattle.model.specs.SurveyText.{line}
 use Rattle.model.specs.Survey.{Graph, outside, short_starts}
 
 -- rule 10.2, behind the line's form: the refusals in their order, for any limits and for lists of p and q entries
-abbrev pub limit_refusals : (most_nodes_of most_links_of p q n m : ℕ) → Refusals
-limit_refusals most_nodes_of most_links_of p q n m =
-    (2 when outside most_nodes_of n)
-    ∷ (3 when ltb most_links_of m)
+abbrev pub limit_refusals : (most_nodes most_links p q n m : ℕ) → Refusals
+limit_refusals most_nodes most_links p q n m =
+    (2 when outside most_nodes n)
+    ∷ (3 when ltb most_links m)
     ∷ (8 when short_starts n p || ltb q (2 * m))
     ∷ []
 
 -- rule 10.2: n, m and the text after the first line
-unfoldable pub limits_of : (most_nodes_of most_links_of p q : ℕ) → ℕ × ℕ × List ℕ → Outcome (ℕ × ℕ × List ℕ)
-limits_of most_nodes_of most_links_of p q f = judged refused (limit_refusals most_nodes_of most_links_of p q f.0 f.1) (answered f)
+unfoldable pub limits_of : (most_nodes most_links p q : ℕ) → ℕ × ℕ × List ℕ → Outcome (ℕ × ℕ × List ℕ)
+limits_of most_nodes most_links p q f = judged refused (limit_refusals most_nodes most_links p q f.0 f.1) (answered f)
 
 -- rule 10.2: the first line
-unfoldable pub counts_of : (most_nodes_of most_links_of p q : ℕ) → Option (ℕ × ℕ × List ℕ) → Outcome (ℕ × ℕ × List ℕ)
-counts_of most_nodes_of most_links_of p q missing = refused 1
-counts_of most_nodes_of most_links_of p q (some f) = limits_of most_nodes_of most_links_of p q f
+unfoldable pub counts_of : (most_nodes most_links p q : ℕ) → Option (ℕ × ℕ × List ℕ) → Outcome (ℕ × ℕ × List ℕ)
+counts_of most_nodes most_links p q missing = refused 1
+counts_of most_nodes most_links p q (some f) = limits_of most_nodes most_links p q f
 
 -- rule 2.5: a and b are the ends of one of these links, either way round
 unfoldable pub named : List (ℕ × ℕ) → ℕ → ℕ → Bool
@@ -73,8 +73,8 @@ unfoldable pub parse_links : Outcome (ℕ × ℕ × List ℕ) → Outcome Parsed
 parse_links o = and_then o (λ f. parsed f.0 (read_links f.0 f.1 [] f.2))
 
 -- rules 2.4 and 2.5: the whole text, within limits on its counts
-unfoldable pub parse : (most_nodes_of most_links_of p q : ℕ) → List ℕ → Outcome Parsed
-parse most_nodes_of most_links_of p q text = parse_links (counts_of most_nodes_of most_links_of p q (line 83 text))
+unfoldable pub parse : (most_nodes most_links p q : ℕ) → List ℕ → Outcome Parsed
+parse most_nodes most_links p q text = parse_links (counts_of most_nodes most_links p q (line 83 text))
 
 -- each node's neighbours by these links, ascending (rule 3.2)
 unfoldable pub graph_of : ℕ → List (ℕ × ℕ) → Graph

@@ -14,6 +14,7 @@ use search_source_sets::{Row, Rows};
 use survey_neighbours::Survey;
 
 // The sources of a group: the allowed nodes among 256 that follow one another, from `base` on.
+// kept: a list and a clause for its length; a type of table has a count of nodes too, and needs a clause that it is the survey's
 #[derive(Clone, Copy)]
 struct Group<'a, 'b> {
     survey: Survey<'a>,
@@ -40,7 +41,7 @@ impl<'a, 'b> Group<'a, 'b> {
         ensures { (j : ℕ) → in_row sum.new j
             ≡ ((allowed self.now v && any (λ x. reached rows.now x j) (links self.now v)) || in_row sum.old j) }
     {
-        let allowed = self.allowed;
+        let allowed = self.allowed; // a copy of the reference, which the borrow checker wants
         if base_nodeset::contains(allowed, v) {
             search_source_sets::join_rows(self.survey.own(v), rows, sum);
         }

@@ -70,6 +70,7 @@ pub fn search(survey: &Survey, allowed: &NodeSet, source: usize, row: &mut [u16]
 }
 
 // The same into row `source` of a table of n rows of n entries each.
+// kept: a list and a clause for its length; a type of table has a count of nodes too, and needs a clause that it is the survey's
 pub fn search_row(survey: &Survey, allowed: &NodeSet, source: usize, table: &mut [u16])
     requires { (source < survey.now.n) × T (member allowed.now source) × (survey.now.n * survey.now.n ≤ length table.old) }
     ensures { table.new ≡ written table.old (source * survey.now.n) (map (fewest (between (member allowed.now)

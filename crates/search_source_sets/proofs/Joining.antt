@@ -96,9 +96,6 @@ module _ (list : List ℕ) (rows : List (List ℕ)) (f₀ : List ℕ) where
 pub record Found (lanes : List ℕ) (found i : ℕ) : Type 0 where
   pub cover : (k : ℕ) → k < i → (b : ℕ) → T (bit (get_or lanes k 0) b) → T (bit found b)
 
-pub found_none : (lanes : List ℕ) → Found lanes 0 0
-found_none lanes = record { cover = λ k h. absurd (omega arith) }
-
 pub found_more : (lanes : List ℕ) (found i w : ℕ) → i < length lanes → Found lanes found i → Found (set lanes i w) (bit_or found w) (i + 1)
 found_more lanes found i w l f = record {
   cover = below_next (λ (k : ℕ). (b : ℕ) → T (bit (get_or (set lanes i w) k 0) b) → T (bit (bit_or found w) b)) i

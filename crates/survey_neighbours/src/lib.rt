@@ -16,6 +16,7 @@ pub struct Survey<'a> {
 
 // The neighbours of node v: from where its row starts to where the next one does.
 #[tactic(auto, unfolding(model::specs::Survey::neighbours_of))]
+// kept: a function beside the method, which asks `Rows` only, with n for its clause; docs/RULES.md, 3.4, names it
 pub fn own<'a>(n: usize, starts: &[u32], neighbours: &'a [u16], v: usize) -> &'a [u16]
     requires { Rows n starts.now neighbours.now × (v < n) }
     ensures { result.now ≡ neighbours_of starts.now neighbours.now v }

@@ -10,6 +10,7 @@ use survey_reading_lines::Limits;
 use text_reading::Pair;
 
 // Reads a survey within limits on its counts. Refused, both lists are all zero.
+// kept: a function of its own beside `import_survey`; they share the order of five calls, and a trait for the two that differ is longer
 pub fn read_within(
     text: &[u8],
     most_nodes: usize,

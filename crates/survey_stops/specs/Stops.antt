@@ -63,8 +63,8 @@ Refused first next goesOn text rest k =
 -- ---- a survey text
 
 -- what its first line says, read into the longest lists
-abbrev pub first_says : (most_nodes_of most_links_of : ℕ) → List ℕ → Outcome (ℕ × ℕ × List ℕ)
-first_says most_nodes_of most_links_of text = counts_of most_nodes_of most_links_of 1025 32768 (line 83 text)
+abbrev pub first_says : (most_nodes most_links : ℕ) → List ℕ → Outcome (ℕ × ℕ × List ℕ)
+first_says most_nodes most_links text = counts_of most_nodes most_links 1025 32768 (line 83 text)
 
 -- after the links `done`, a text from the first of m link lines on that is refused; what is behind the last where all are taken
 unfoldable pub links_stop : (n m : ℕ) (done : List (ℕ × ℕ)) → List ℕ → List ℕ
@@ -72,16 +72,16 @@ links_stop n zero done text = text
 links_stop n (suc m) done text = stop_or text (λ l. links_stop n m ((l.0, l.1) ∷ done) l.2) (link_in n (named done) text)
 
 -- the text from the line on at which reading stops
-unfoldable pub read_stop : (most_nodes_of most_links_of : ℕ) → List ℕ → List ℕ
-read_stop most_nodes_of most_links_of text = stop_or text (λ f. links_stop f.0 f.1 [] f.2) (first_says most_nodes_of most_links_of text)
+unfoldable pub read_stop : (most_nodes most_links : ℕ) → List ℕ → List ℕ
+read_stop most_nodes most_links text = stop_or text (λ f. links_stop f.0 f.1 [] f.2) (first_says most_nodes most_links text)
 
 -- what the next link line says
 abbrev pub next_link : (n : ℕ) → Next
 next_link n done t = link_in n (named done) t
 
 -- the refusal k of a text is about the line at which reading it stops
-abbrev pub ReadRefused : (most_nodes_of most_links_of : ℕ) (text : List ℕ) (k : ℕ) → Type 0
-ReadRefused most_nodes_of most_links_of text k = Refused (first_says most_nodes_of most_links_of text) next_link 7 text (read_stop most_nodes_of most_links_of text) k
+abbrev pub ReadRefused : (most_nodes most_links : ℕ) (text : List ℕ) (k : ℕ) → Type 0
+ReadRefused most_nodes most_links text k = Refused (first_says most_nodes most_links text) next_link 7 text (read_stop most_nodes most_links text) k
 
 -- ---- a file
 

@@ -14,6 +14,7 @@ use model::NONE;
 use survey_neighbours::Survey;
 
 // Full: row h holds the fewest links from h to each node if h is a hub; every other row is all none.
+// kept: a list and a clause for its length; a type of table has a count of nodes too, and needs a clause that it is the survey's
 pub fn fill_full(survey: &Survey, hubs: &[u16], full: &mut [u16])
     requires room { survey.now.n * survey.now.n ≤ length full.old }
     requires by_index { (h : ℕ) → T (has h hubs.now) → h < survey.now.n }

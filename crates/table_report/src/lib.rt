@@ -31,6 +31,7 @@ fn set_links(own: &[u16], row: &mut [u16])
 }
 
 // Row a of Report: the least of Low's row and, over all hubs, the sums of two entries of Full; then 1 at a's neighbours and 0 at a itself.
+// kept: a list and a clause for its length; a type of table has a count of nodes too, and needs a clause that it is the survey's
 fn report_row(survey: &Survey, full: &[u16], low: &[u16], hubs: &[u16], a: usize, row: &mut [u16])
     requires tables { (survey.now.n * survey.now.n ≤ length full.now) × (survey.now.n * survey.now.n ≤ length low.now) }
     requires by_index { ((h : ℕ) → T (has h hubs.now) → h < survey.now.n) × (a < survey.now.n) × (length row.old ≡ survey.now.n) }

@@ -7,6 +7,7 @@ use test_scripts::{
 };
 
 // The lists that the calls are lent. `numbers` are those that command N of the program `test_tables` sets.
+// kept: numbers by their places, since number i is what a script's line N,i,x sets
 #[derive(Drop)]
 pub struct Lists<'a> {
     pub numbers: [u64; 9],

@@ -203,7 +203,6 @@ pub fn print_tested(rt: &impl Print, answer: Result<TestResult, Refusal>) -> io:
 }
 
 // Reads a text, or, by the letter I, a file.
-// kept: a match on the letter, since the clause says what each letter reads
 fn read_by(
     letter: u8,
     text: &[u8],

@@ -45,7 +45,6 @@ fn run_accept(
 }
 
 // Writes a survey's text, or, by the letter X, its file.
-// kept: a match on the letter, since the clause says what each letter writes
 fn write_by(
     letter: u8,
     n: usize,

@@ -65,10 +65,6 @@ run_split (b ∷ t) =
     run_cases (λ r. b ∷ t ≡ r ++ drop (length r) (b ∷ t)) b t
     (λ d. ap (λ (x : List ℕ). b ∷ x) (run_split t)) (λ d. refl)
 
-pub run_rest : (t : List ℕ) → NoDigit (drop (length (run t)) t)
-run_rest [] = rw run_nil tt
-run_rest (b ∷ t) = run_cases (λ r. NoDigit (drop (length r) (b ∷ t))) b t (λ d. run_rest t) (λ d. d)
-
 -- the digits among the first bytes are the first of the digits
 pub run_take : (k : ℕ) (t : List ℕ) → run (take k t) ≡ take k (run t)
 run_take zero t = run_nil

@@ -22,6 +22,7 @@ struct Digits {
 }
 
 // The last three of some numbers, and the place after them. Where there are fewer, the first of the three say nothing.
+// kept: the last three and no array of N, since a shape has its count as a value
 #[derive(Clone, Copy)]
 pub struct Numbers {
     pub third_last: u64,
@@ -203,6 +204,7 @@ impl<'a> LineReader<'a> {
 }
 
 // The line of two numbers at a place.
+// kept: text and place and no reader, since the place is what a line gives for the next one, and a reader would be made of it at each turn
 pub fn pair_at(text: &[u8], at: usize, word: &[u8], separator: u8) -> Option<Pair<u64>>
     ensures { found text.now result ≡ pair_by word.now separator (drop at text.now) }
 {

@@ -40,7 +40,7 @@ impl Part<'_> {
         requires { x < self.now.survey.n }
         ensures { result ≡ leads_on self.now d x }
     {
-        let allowed = self.allowed;
+        let allowed = self.allowed; // a copy of the reference, which the borrow checker wants
         usize::from(self.left(x)) == d && base_nodeset::contains(allowed, x)
     }
 
@@ -87,6 +87,7 @@ impl Part<'_> {
 }
 
 // The part from a to b over nodes that are low for threshold s: their distances from b stand in a column of Low.
+// kept: a list and a clause for its length; a type of table has a count of nodes too, and needs a clause that it is the survey's
 pub fn low_part(
     survey: &Survey<'_>,
     s: usize,

@@ -35,6 +35,7 @@ pub fn write_link(
 }
 
 // Writes the walk over nodes that are low for threshold s into a list that is all none. The steps are judged before the list's length.
+// kept: a list and a clause for its length; a type of table has a count of nodes too, and needs a clause that it is the survey's
 pub fn write_low(
     survey: &Survey<'_>,
     s: usize,
