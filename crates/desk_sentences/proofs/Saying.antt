@@ -14,7 +14,21 @@ use Rattle.model.specs.Numbers.{digits}
 use Rattle.model.specs.Basics.{gather, bytes}
 use Rattle.model.proofs.Numbers.{length_le}
 use Rattle.model.proofs.Loops.{drop_next}
+use Rattle.text_writing.specs.declared.Writer.{Writer}
+use Rattle.text_writing.specs.Writes.{Writes}
+use Rattle.text_writing.proofs.Writing.{room_after, writes_append}
 use Rattle.desk_sentences.specs.Sentences.{sentence, counted, nodes_end, hubs_line}
+
+-- ---- a text of at most k bytes, and a text behind it
+
+module _ {old mid : Writer} {t : List ℕ} (k : ℕ) (few : mid.at ≤ old.at + k) (p : Writes old mid t) where
+  pub room_behind : (j : ℕ) → old.at + k + j ≤ length old.buf.now → mid.at + j ≤ length mid.buf.now
+  room_behind j h = room_after p j (omega (arith, p.wrote.ends, few, h))
+
+  pub writes_behind : {new : Writer} {u : List ℕ} (j : ℕ) → new.at ≤ mid.at + j → old.at + k + j ≤ length old.buf.now
+      → Writes mid new u → Writes old new (t ++ u)
+  writes_behind {u = u} j fewer h q =
+      writes_append t u (omega (arith, p.wrote.ends, few, q.wrote.ends, fewer, h, length-append t u)) p q
 
 -- ---- a sentence
 

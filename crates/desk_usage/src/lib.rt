@@ -2,11 +2,11 @@
 #![tactic(auto)]
 
 ghost use Rattle.std.specs.Prelude.{◌+◌, ◌≤◌, length};
-ghost use Rattle.base_lists.specs.Written.{Wrote};
+ghost use Rattle.text_writing.specs.Writes.{Writes};
 ghost use Rattle.desk_usage.specs.Usage.{no_command, usage, fault, fault_line, help};
 
 use desk_words::{Command, WordFault};
-use text_writing::write_text;
+use text_writing::Writer;
 
 // What is wrong: word k, and why; a word is missing; or the file is too long.
 #[derive(Clone, Copy, PartialEq, Eq)]
@@ -16,94 +16,80 @@ pub enum Fault {
     TooLong,
 }
 
-// Writes that the first word is not a command at a place, and returns the place after it.
+// Writes that the first word is not a command.
 #[tactic(auto, unfolding(crate::specs::Usage::no_command, model::specs::Basics::bytes))]
-pub fn write_no_command(buf: &mut [u8], at: usize) -> usize
-    requires { at + 170 ≤ length buf.old }
-    ensures { Wrote buf.old buf.new at result no_command }
+pub fn write_no_command(writer: &mut Writer<'_>)
+    requires { writer.old.at + 170 ≤ length writer.old.buf.now }
+    ensures { Writes writer.old writer.new no_command }
 {
-    write_text(
-        buf,
-        at,
+    writer.text(
         b"not understood: the first word is not a command; usage: puxerdau COMMAND [WORDS ..] < survey.txt; commands: pair walk test hubs reports check write export import help\n",
-    )
+    );
 }
 
-// Writes how a command is used at a place, and returns the place after it.
+// Writes how a command is used.
 #[tactic(auto, unfolding(crate::specs::Usage::usage, model::specs::Basics::bytes))]
-fn write_usage(buf: &mut [u8], at: usize, command: Command) -> usize
-    requires { at + 60 ≤ length buf.old }
-    ensures wrote { Wrote buf.old buf.new at result (usage command) }
-    ensures upper_bound { result ≤ at + 60 }
+fn write_usage(writer: &mut Writer<'_>, command: Command)
+    requires { writer.old.at + 60 ≤ length writer.old.buf.now }
+    ensures wrote { Writes writer.old writer.new (usage command) }
+    ensures upper_bound { writer.new.at ≤ writer.old.at + 60 }
 {
     match command {
-        Command::Pair => write_text(buf, at, b"pair A B [--threshold T] < survey.txt\n"),
-        Command::Walk => write_text(buf, at, b"walk A B [--threshold T] < survey.txt\n"),
-        Command::Test => write_text(buf, at, b"test [--threshold T] < survey.txt\n"),
-        Command::Hubs => write_text(buf, at, b"hubs [--threshold T] < survey.txt\n"),
-        Command::Reports => write_text(buf, at, b"reports [--threshold T] < survey.txt\n"),
-        Command::Check => write_text(buf, at, b"check < survey.txt\n"),
-        Command::Write => write_text(buf, at, b"write < survey.txt\n"),
-        Command::Export => write_text(buf, at, b"export < survey.txt\n"),
-        Command::Import => write_text(buf, at, b"import < edges.col\n"),
-        Command::Help => write_text(buf, at, b"help\n"),
+        Command::Pair => writer.text(b"pair A B [--threshold T] < survey.txt\n"),
+        Command::Walk => writer.text(b"walk A B [--threshold T] < survey.txt\n"),
+        Command::Test => writer.text(b"test [--threshold T] < survey.txt\n"),
+        Command::Hubs => writer.text(b"hubs [--threshold T] < survey.txt\n"),
+        Command::Reports => writer.text(b"reports [--threshold T] < survey.txt\n"),
+        Command::Check => writer.text(b"check < survey.txt\n"),
+        Command::Write => writer.text(b"write < survey.txt\n"),
+        Command::Export => writer.text(b"export < survey.txt\n"),
+        Command::Import => writer.text(b"import < edges.col\n"),
+        Command::Help => writer.text(b"help\n"),
     }
 }
 
-// Writes what is wrong at a place, and returns the place after it.
+// Writes what is wrong.
 #[tactic(auto, unfolding(crate::specs::Usage::fault, model::specs::Basics::bytes))]
-fn write_wrong(buf: &mut [u8], at: usize, wrong: Fault) -> usize
-    requires { at + 140 ≤ length buf.old }
-    ensures wrote { Wrote buf.old buf.new at result (fault wrong) }
-    ensures upper_bound { result ≤ at + 140 }
+fn write_wrong(writer: &mut Writer<'_>, wrong: Fault)
+    requires { writer.old.at + 140 ≤ length writer.old.buf.now }
+    ensures wrote { Writes writer.old writer.new (fault wrong) }
+    ensures upper_bound { writer.new.at ≤ writer.old.at + 140 }
 {
     match wrong {
         Fault::Word(k, WordFault::NoNumber) => desk_sentences::write_sentence(
-            buf,
-            at,
+            writer,
             b"not understood: word # after the command is not a number (one to ten digits, no leading zero); usage: puxerdau ",
             &[k],
         ),
         Fault::Word(k, WordFault::TooMany) => desk_sentences::write_sentence(
-            buf,
-            at,
+            writer,
             b"not understood: word # after the command is one too many; usage: puxerdau ",
             &[k],
         ),
-        Fault::Missing => {
-            write_text(
-                buf,
-                at,
-                b"not understood: a word is missing; usage: puxerdau ",
-            )
-        }
-        Fault::TooLong => write_text(
-            buf,
-            at,
+        Fault::Missing => { writer.text(b"not understood: a word is missing; usage: puxerdau ") }
+        Fault::TooLong => writer.text(
             b"not taken: the file has more than 524287 bytes (leave out comments); usage: puxerdau ",
         ),
     }
 }
 
-// Writes what is wrong and how the command is used at a place, and returns the place after it.
-pub fn write_fault(buf: &mut [u8], at: usize, wrong: Fault, command: Command) -> usize
-    requires { at + 200 ≤ length buf.old }
-    ensures wrote { Wrote buf.old buf.new at result (fault_line wrong command) }
-    ensures upper_bound { result ≤ at + 200 }
+// Writes what is wrong and how the command is used.
+pub fn write_fault(writer: &mut Writer<'_>, wrong: Fault, command: Command)
+    requires { writer.old.at + 200 ≤ length writer.old.buf.now }
+    ensures wrote { Writes writer.old writer.new (fault_line wrong command) }
+    ensures upper_bound { writer.new.at ≤ writer.old.at + 200 }
 {
-    let i = write_wrong(buf, at, wrong);
-    write_usage(buf, i, command)
+    write_wrong(writer, wrong);
+    write_usage(writer, command);
 }
 
-// Writes what `help` says at a place, and returns the place after it.
+// Writes what `help` says.
 #[tactic(auto, unfolding(crate::specs::Usage::help, model::specs::Basics::bytes))]
-pub fn write_help(buf: &mut [u8], at: usize) -> usize
-    requires { at + 2000 ≤ length buf.old }
-    ensures { Wrote buf.old buf.new at result help }
+pub fn write_help(writer: &mut Writer<'_>)
+    requires { writer.old.at + 2000 ≤ length writer.old.buf.now }
+    ensures { Writes writer.old writer.new help }
 {
-    write_text(
-        buf,
-        at,
+    writer.text(
         b"puxerdau: how many links a message needs between two nodes of a survey\n\
             usage: puxerdau COMMAND [WORDS ..] < survey.txt\n\
             \n\
@@ -126,5 +112,5 @@ pub fn write_help(buf: &mut [u8], at: usize) -> usize
             line feed. An edge file is in DIMACS form.\n\
             A report is never below the fewest links, and at most two above them.\n\
             What is refused is said in one line: refused, a number, the place, and why.\n",
-    )
+    );
 }

@@ -6,26 +6,28 @@ ghost use Rattle.base_lists.specs.Written.{Wrote};
 ghost use Rattle.model.specs.Answers.{number, refused, answered};
 ghost use Rattle.model.specs.Listing.{listing_of, listing_text, listing, writing_listing};
 ghost use Rattle.model.specs.Writing.{writing_of, write_returned};
+ghost use Rattle.text_writing.specs.Writes.{HasRoom, Writes};
 ghost use Rattle.survey_neighbours.specs.SurveyGraph.{graph};
 ghost use Rattle.listing_writing.specs.Length.{most_listing};
 
 use answer_pair::Tables;
 use model::Refusal;
 use survey_neighbours::Survey;
+use text_writing::Writer;
 
-// Builds the three tables of a survey for threshold s and writes its listing, from the first byte on. Returns the listing's length.
+// Builds the three tables of a survey for threshold s and writes its listing.
 fn list_tables(
     survey: &Survey<'_>,
     s: usize,
     full: &mut [u16],
     low: &mut [u16],
     report: &mut [u16],
-    lines: &mut [u8],
-) -> usize
+    writer: &mut Writer<'_>,
+)
     requires sizes { let size = survey.now.n * survey.now.n in (survey.now.n ≤ 128)
         × (length full.old ≡ size) × (length low.old ≡ size) × (length report.old ≡ size) }
-    requires room { length (listing_of survey.now.n s (graph survey.now)) ≤ length lines.old }
-    ensures { Wrote lines.old lines.new 0 result (listing_of survey.now.n s (graph survey.now)) }
+    requires room { HasRoom writer.old (listing_of survey.now.n s (graph survey.now)) }
+    ensures { Writes writer.old writer.new (listing_of survey.now.n s (graph survey.now)) }
 {
     let n = survey.n;
     let mut hubs = [0; 128];
@@ -36,11 +38,11 @@ fn list_tables(
         low,
         report,
     };
-    let i = text_writing::write_line(lines, 0, b"R", b',', &[n as u32, count as u32]);
-    listing_lines::write_pairs(&tables, lines, i)
+    writer.line(b"R", b',', &[n as u32, count as u32]);
+    listing_lines::write_pairs(&tables, writer);
 }
 
-// The same with its own lists for the tables, of a survey of at most 128 nodes.
+// The same with its own lists for the tables, of a survey of at most 128 nodes, from the first byte on. Returns the listing's length.
 pub fn list_survey(survey: &Survey<'_>, s: usize, lines: &mut [u8]) -> usize
     requires { (survey.now.n ≤ 128) × (most_listing ≤ length lines.old) }
     ensures { Wrote lines.old lines.new 0 result (listing_of survey.now.n s (graph survey.now)) }
@@ -49,23 +51,28 @@ pub fn list_survey(survey: &Survey<'_>, s: usize, lines: &mut [u8]) -> usize
     let mut full = [0; 16384];
     let mut low = [0; 16384];
     let mut report = [0; 16384];
+    let mut writer = Writer { buf: lines, at: 0 };
     list_tables(
         survey,
         s,
         &mut full[..size],
         &mut low[..size],
         &mut report[..size],
-        lines,
-    )
+        &mut writer,
+    );
+    writer.at
 }
 
 // Writes the listing of a text that is refused, from the first byte on: one line with the refusal's number. Returns its length.
+#[tactic(auto, unfolding(model::specs::Listing::listing_text))]
 fn list_refusal(refusal: Refusal, lines: &mut [u8]) -> usize
     requires { 5 ≤ length lines.old }
     ensures { Wrote lines.old lines.new 0 result (listing_text (refused (number refusal))) }
 {
     let number = base_refusals::refusal_number(refusal);
-    text_writing::write_line(lines, 0, b"X", b',', &[number])
+    let mut writer = Writer { buf: lines, at: 0 };
+    writer.line(b"X", b',', &[number]);
+    writer.at
 }
 
 // Writes the listing of a text with the stored threshold, from the first byte on. Returns its length.

@@ -84,7 +84,7 @@ unfolding text_as up_to rows_from
 text_is first line n starts neighbours = simp sub-zero
 
 module _ (first line : Line) (n : ℕ) (starts neighbours : List ℕ) where
-  pub length_text : length (text_as first line n starts neighbours)
+  length_text : length (text_as first line n starts neighbours)
       ≡ length (head first n starts) + length (rows_from line n (neighbours_of starts neighbours) 0)
   length_text = ap length (text_is first line n starts neighbours) ∙ length-append (head first n starts) _
 

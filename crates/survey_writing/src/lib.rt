@@ -1,18 +1,18 @@
 // Writing a survey as text: back as a survey text, or as a DIMACS edge file.
 #![tactic(auto)]
 
-ghost use Rattle.std.specs.Prelude.{List, ◌≡◌, ℕ, ◌+◌, ◌*◌, ◌<◌, ◌≤◌, length};
-ghost use Rattle.base_lists.specs.Written.{Wrote};
-ghost use Rattle.model.specs.Basics.{over};
+ghost use Rattle.std.specs.Prelude.{List, ◌≡◌, ℕ, ◌*◌, ◌<◌, ◌≤◌, length};
 ghost use Rattle.model.specs.Survey.{accepting};
 ghost use Rattle.model.specs.SurveyText.{line_of};
 ghost use Rattle.model.specs.Writing.{writing, writing_of, write_returned};
 ghost use Rattle.model.specs.Dimacs.{head_line, edge_line, exporting, ExportRight};
 ghost use Rattle.model.specs.Demand.{WriteRight};
+ghost use Rattle.text_writing.specs.Writes.{HasRoom, Writes};
 ghost use Rattle.survey_writing.specs.LinkLines.{lines_of, text_as};
 
 use model::Refusal;
 use survey_neighbours::Survey;
+use text_writing::Writer;
 
 // A form of text: its first line, of n nodes and m links, and its line of a link a-b, which is written at its smaller node a.
 trait Form {
@@ -27,15 +27,15 @@ trait Form {
         requires { (a < 1024) × (b < 65536) }
         ensures { (result ≡ length (link_line a b)) × (result ≤ 24) };
 
-    // Writes the first line from the first byte on, and returns the place after it.
-    fn write_first(n: u32, m: u32, buffer: &mut [u8]) -> usize
-        requires { length (first_line n m) ≤ length buffer.old }
-        ensures { Wrote buffer.old buffer.new 0 result (first_line n m) };
+    // Writes the first line.
+    fn write_first(n: u32, m: u32, writer: &mut Writer<'_>)
+        requires { HasRoom writer.old (first_line n m) }
+        ensures { Writes writer.old writer.new (first_line n m) };
 
-    // Writes the line of a link at a place, and returns the place after it.
-    fn write_link(a: u32, b: u32, buffer: &mut [u8], at: usize) -> usize
-        requires { (a < 1024) × (b < 65536) × (at + length (link_line a b) ≤ length buffer.old) }
-        ensures { Wrote buffer.old buffer.new at result (link_line a b) };
+    // Writes the line of a link.
+    fn write_link(a: u32, b: u32, writer: &mut Writer<'_>)
+        requires { (a < 1024) × (b < 65536) × HasRoom writer.old (link_line a b) }
+        ensures { Writes writer.old writer.new (link_line a b) };
 }
 
 // A survey text.
@@ -55,12 +55,12 @@ impl Form for SurveyText {
         text_writing::line_length(b"L", &[a, b])
     }
 
-    fn write_first(n: u32, m: u32, buffer: &mut [u8]) -> usize {
-        text_writing::write_line(buffer, 0, b"S", b',', &[n, m])
+    fn write_first(n: u32, m: u32, writer: &mut Writer<'_>) {
+        writer.line(b"S", b',', &[n, m]);
     }
 
-    fn write_link(a: u32, b: u32, buffer: &mut [u8], at: usize) -> usize {
-        text_writing::write_line(buffer, at, b"L", b',', &[a, b])
+    fn write_link(a: u32, b: u32, writer: &mut Writer<'_>) {
+        writer.line(b"L", b',', &[a, b]);
     }
 }
 
@@ -81,12 +81,12 @@ impl Form for EdgeFile {
         text_writing::line_length(b"e", &[a + 1, b + 1])
     }
 
-    fn write_first(n: u32, m: u32, buffer: &mut [u8]) -> usize {
-        text_writing::write_line(buffer, 0, b"p edge", b' ', &[n, m])
+    fn write_first(n: u32, m: u32, writer: &mut Writer<'_>) {
+        writer.line(b"p edge", b' ', &[n, m]);
     }
 
-    fn write_link(a: u32, b: u32, buffer: &mut [u8], at: usize) -> usize {
-        text_writing::write_line(buffer, at, b"e", b' ', &[a + 1, b + 1])
+    fn write_link(a: u32, b: u32, writer: &mut Writer<'_>) {
+        writer.line(b"e", b' ', &[a + 1, b + 1]);
     }
 }
 
@@ -116,30 +116,29 @@ fn text_length<F: Form>(survey: &Survey) -> usize
     total
 }
 
-// Writes the lines of a node's links to larger nodes at a place, and returns the place after them.
-fn write_row<F: Form>(a: u32, row: &[u16], buffer: &mut [u8], at: usize) -> usize
-    requires { (a < 1024) × (at + length (lines_of F.link_line a row.now) ≤ length buffer.old) }
-    ensures { Wrote buffer.old buffer.new at result (lines_of F.link_line a row.now) }
+// Writes the lines of a node's links to larger nodes.
+fn write_row<F: Form>(a: u32, row: &[u16], writer: &mut Writer<'_>)
+    requires { (a < 1024) × HasRoom writer.old (lines_of F.link_line a row.now) }
+    ensures { Writes writer.old writer.new (lines_of F.link_line a row.now) }
 {
-    let mut pos = at;
     for b in row {
         let b = u32::from(*b);
         if b > a {
-            pos = F::write_link(a, b, buffer, pos);
+            F::write_link(a, b, writer);
         }
     }
-    pos
 }
 
-// Writes a survey's text, for which there is room, from the first byte on.
-fn write_text<F: Form>(survey: &Survey, buffer: &mut [u8])
-    requires { length (text_as F.first_line F.link_line survey.now.n survey.now.starts.now survey.now.neighbours.now) ≤ length buffer.old }
-    ensures { buffer.new
-        ≡ over (text_as F.first_line F.link_line survey.now.n survey.now.starts.now survey.now.neighbours.now) buffer.old }
+// Writes a survey's text, for which there is room.
+fn write_text<F: Form>(survey: &Survey, writer: &mut Writer<'_>)
+    requires { HasRoom writer.old
+        (text_as F.first_line F.link_line survey.now.n survey.now.starts.now survey.now.neighbours.now) }
+    ensures { Writes writer.old writer.new
+        (text_as F.first_line F.link_line survey.now.n survey.now.starts.now survey.now.neighbours.now) }
 {
-    let mut pos = F::write_first(survey.n as u32, survey.starts[survey.n] / 2, buffer);
+    F::write_first(survey.n as u32, survey.starts[survey.n] / 2, writer);
     for v in 0..survey.n {
-        pos = write_row::<F>(v as u32, survey.own(v), buffer, pos);
+        write_row::<F>(v as u32, survey.own(v), writer);
     }
 }
 
@@ -164,7 +163,7 @@ fn write_as<F: Form>(
     if buffer.len() < length {
         return Err(Refusal::ShortBuffer);
     }
-    write_text::<F>(&survey, buffer);
+    write_text::<F>(&survey, &mut Writer { buf: buffer, at: 0 });
     Ok(length)
 }
 

@@ -11,6 +11,7 @@ use model::Refusal;
 use survey_neighbours::Survey;
 
 // The hub list and the three tables for threshold s; the count of hubs is returned.
+// kept: three lists and no struct; they come apart from C, and a struct of lent lists has to promise of each that it is still that list
 pub fn build_tables(
     survey: &Survey,
     s: usize,

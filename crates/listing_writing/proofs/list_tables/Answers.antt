@@ -1,14 +1,16 @@
 use mathlib.Core.Path.{◌≡◌, ap}
 use mathlib.Core.List.{List, [], ◌∷◌, ◌++◌}
-use Prim.Native.Nat.{ℕ, ◌+◌, ◌≤◌}
+use Prim.Native.Nat.{ℕ}
 use native.Mathlib.Omega.{arith}
-use lib.ListN.{length, length-append}
+use lib.ListN.{length}
 use Rattle.model.specs.Lines.{number_line_of}
 use Rattle.model.specs.SurveyText.{line_of}
 use Rattle.model.specs.Survey.{Graph}
 use Rattle.model.specs.Listing.{pair_lines, listing_of}
 use Rattle.survey_neighbours.specs.SurveyGraph.{graph}
-use Rattle.base_lists.proofs.Written.{wrote_then, wrote_room}
+use Rattle.text_writing.specs.declared.Writer.{Writer}
+use Rattle.text_writing.specs.Writes.{HasRoom}
+use Rattle.text_writing.proofs.Writing.{room_front, room_rest, writes_append}
 use Rattle.table_building.proofs.WholeTables.{AreTables, tables_whole}
 use Rattle.listing_writing.proofs.Whole.{count_few, listing_by_tables}
 use Rattle.listing_writing.proofs.list_tables.Goals.{After-build_tables-count}
@@ -26,9 +28,9 @@ module _ {n s : ℕ} {G : Graph} {count : ℕ} {full low report : List ℕ} (t :
   unfolding line_of
   listed = listing_by_tables t
 
-  -- and both fit where the listing does
-  room : {k : ℕ} → length (listing_of n s G) ≤ k → 0 + length first + length pairs ≤ k
-  room h = omega (arith, ap length listed, length-append first pairs)
+  -- and both have room where the listing has
+  room : (w : Writer) → HasRoom w (listing_of n s G) → HasRoom w (first ++ pairs)
+  room w h = omega (arith, h, ap length listed)
 
 -- the tables that building left
 tables : (c : After-build_tables-count) →
@@ -41,15 +43,18 @@ tables c =
 pub overflow_cast-count : goal.overflow_cast-count
 overflow_cast-count c = omega (arith, count_few (tables (goal.at.overflow_cast-count c).After-build_tables-count))
 
-pub write_line-i-requires : goal.write_line-i-requires
-write_line-i-requires c = omega (arith, room (tables (goal.at.write_line-i-requires c).After-build_tables-count) c.requires.room)
+pub line-requires : goal.line-requires
+line-requires c =
+    let t = tables (goal.at.line-requires c).After-build_tables-count in
+    room_front c.args.writer.now (first t) (pairs t) (room t c.args.writer.now c.requires.room)
 
 pub write_pairs-requires : goal.write_pairs-requires
 write_pairs-requires c =
     let t = tables (goal.at.write_pairs-requires c).After-build_tables-count in
-    wrote_room _ (room t c.requires.room) c.write_line-i.ensures
+    room_rest (first t) (pairs t) (room t c.args.writer.now c.requires.room) c.line.ensures
 
 pub returns : goal.returns
 returns c =
     let t = tables (goal.at.returns c).After-build_tables-count in
-    rw (listed t) at (wrote_then (room t c.requires.room) c.write_line-i.ensures c.write_pairs.ensures)
+    let both = room t c.args.writer.now c.requires.room in
+    rw (listed t) at (writes_append (first t) (pairs t) both c.line.ensures c.write_pairs.ensures)

@@ -1,42 +1,48 @@
-use mathlib.Core.List.{List}
-use Prim.Native.Nat.{ℕ, ◌+◌, ◌≤◌}
+use mathlib.Core.List.{List, ◌++◌}
+use Prim.Native.Nat.{ℕ, ◌+◌}
 use native.Mathlib.Omega.{arith}
-use lib.ListN.{length}
-use Rattle.base_lists.proofs.Written.{wrote_room, wrote_then, wrote_over, left_all, left_fits, left_more, left_none}
 use Rattle.survey_neighbours.specs.SurveyGraph.{graph}
 use Rattle.model.specs.Survey.{neighbours_of}
+use Rattle.text_writing.specs.declared.Writer.{Writer}
+use Rattle.text_writing.specs.Writes.{HasRoom}
+use Rattle.text_writing.proofs.Writing.{room_front, room_rest, writes_append, remains_all, remains_fits, remains_more, remains_none}
 use Rattle.survey_writing.specs.LinkLines.{lines_of, text_as}
-use Rattle.survey_writing.proofs.LineLaws.{Line, rows_from, head, length_text, rows_next, rows_end, text_is}
+use Rattle.survey_writing.proofs.LineLaws.{Line, rows_from, head, rows_next, rows_end, text_is}
 use Rattle.survey_writing.proofs.write_text.Goals as goal
 
 -- where the text has room, the first line and the rows have
-room : (first line : Line) (n : ℕ) (starts neighbours : List ℕ) {size : ℕ} → length (text_as first line n starts neighbours) ≤ size
-    → 0 + length (head first n starts) + length (rows_from line n (neighbours_of starts neighbours) 0) ≤ size
-room first line n starts neighbours h = omega (arith, length_text first line n starts neighbours, h)
+room : (first line : Line) (n : ℕ) (starts neighbours : List ℕ) (w : Writer) → HasRoom w (text_as first line n starts neighbours)
+    → HasRoom w (head first n starts ++ rows_from line n (neighbours_of starts neighbours) 0)
+room first line n starts neighbours w h = rw (text_is first line n starts neighbours) at h
 
-pub write_first-pos-requires : goal.write_first-pos-requires
-write_first-pos-requires g c =
-    omega (arith, room g.F.Form.first_line g.F.Form.link_line c.args.survey.now.n c.args.survey.now.starts.now c.args.survey.now.neighbours.now c.requires)
+pub write_first-requires : goal.write_first-requires
+write_first-requires g c =
+    let survey = c.args.survey.now in
+    room_front c.args.writer.now (head g.F.Form.first_line survey.n survey.starts.now) _
+    (room g.F.Form.first_line g.F.Form.link_line survey.n survey.starts.now survey.neighbours.now c.args.writer.now c.requires)
 
 pub loop-v-init : goal.loop-v-init
 loop-v-init g c =
-    let all = room g.F.Form.first_line g.F.Form.link_line c.args.survey.now.n _ _ c.requires in
-    left_all (wrote_room (rows_from g.F.Form.link_line c.args.survey.now.n (graph c.args.survey.now) 0) all c.write_first-pos.ensures)
+    let survey = c.args.survey.now in
+    let all = room g.F.Form.first_line g.F.Form.link_line survey.n survey.starts.now survey.neighbours.now c.args.writer.now c.requires in
+    remains_all (room_rest (head g.F.Form.first_line survey.n survey.starts.now) _ all c.write_first.ensures)
 
-pub write_row-pos-requires : goal.write_row-pos-requires
-write_row-pos-requires g c =
+pub write_row-requires : goal.write_row-requires
+write_row-requires g c =
+    let lines = lines_of g.F.Form.link_line c.loop-v.v (graph c.args.survey.now c.loop-v.v) in
     let next = rw (rows_next g.F.Form.link_line _ _ _ c.loop-v-test.true) at c.loop-v.invariant in
-    (omega (arith, c.args.survey.now.accepted.size), rw c.own.ensures (left_fits (lines_of g.F.Form.link_line c.loop-v.v (graph c.args.survey.now c.loop-v.v)) _ next))
+    (omega (arith, c.args.survey.now.accepted.size), rw c.own.ensures (remains_fits lines _ next))
 
 pub loop-v-preserved : goal.loop-v-preserved
 loop-v-preserved g c =
+    let rows = rows_from g.F.Form.link_line c.args.survey.now.n (graph c.args.survey.now) in
     let next = rw (rows_next g.F.Form.link_line _ _ _ c.loop-v-test.true) at c.loop-v.invariant in
-    left_more next (rw c.own.ensures at c.write_row-pos.ensures)
+    remains_more {rest = rows (c.loop-v.v + 1)} next (rw c.own.ensures at c.write_row.ensures)
 
 pub returns : goal.returns
 returns g c =
     let survey = c.args.survey.now in
-    let all = room g.F.Form.first_line g.F.Form.link_line survey.n _ _ c.requires in
-    let behind = left_none (rw (rows_end g.F.Form.link_line _ _ _ c.loop-v-test.false) at c.loop-v.invariant) in
-    let whole = wrote_then all c.write_first-pos.ensures behind in
-    (wrote_over _ (rw (← text_is g.F.Form.first_line g.F.Form.link_line survey.n survey.starts.now survey.neighbours.now) at whole)).0
+    let all = room g.F.Form.first_line g.F.Form.link_line survey.n survey.starts.now survey.neighbours.now c.args.writer.now c.requires in
+    let behind = remains_none (rw (rows_end g.F.Form.link_line _ _ _ c.loop-v-test.false) at c.loop-v.invariant) in
+    rw (text_is g.F.Form.first_line g.F.Form.link_line survey.n survey.starts.now survey.neighbours.now)
+    (writes_append (head g.F.Form.first_line survey.n survey.starts.now) _ all c.write_first.ensures behind)

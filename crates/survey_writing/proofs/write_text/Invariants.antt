@@ -1,4 +1,4 @@
-use Rattle.base_lists.proofs.Written.{Left}
+use Rattle.text_writing.proofs.Writing.{Remains}
 use Rattle.survey_neighbours.specs.SurveyGraph.{graph}
 use Rattle.survey_writing.proofs.LineLaws.{rows_from}
 use Rattle.survey_writing.proofs.write_text.Given as goal
@@ -6,4 +6,4 @@ use Rattle.survey_writing.proofs.write_text.Given as goal
 abbrev pub invariant-loop-v : goal.invariant-loop-v
 invariant-loop-v g l =
     let rows = rows_from g.F.Form.link_line l.survey.n (graph l.survey) in
-    Left l.initial.buffer l.buffer l.initial.pos l.pos (rows 0) (rows l.v)
+    Remains l.initial.writer l.writer (rows 0) (rows l.v)
