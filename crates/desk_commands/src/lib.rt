@@ -17,6 +17,7 @@ use desk_usage::Fault;
 use desk_words::Command;
 use model::{Refusal, Size};
 use survey_neighbours::Survey;
+use text_writing::Writer;
 
 // What is asked: a command, the threshold, 0 where there is none, and the nodes.
 #[derive(Clone, Copy, PartialEq, Eq)]
@@ -107,7 +108,9 @@ fn refuse_text(source: Source, text: &[u8], refusal: Refusal, out: &mut [u8]) ->
     ensures { Wrote out.old out.new 0 result (text_refused (number refusal) (stop_of source text.now)) }
 {
     let stop = stop_of(source, text);
-    desk_refusals::write_text_refused(out, 0, refusal, stop)
+    let mut writer = Writer { buf: out, at: 0 };
+    desk_refusals::write_text_refused(&mut writer, refusal, stop);
+    writer.at
 }
 
 // Reads a text into the two lists.
@@ -162,10 +165,14 @@ fn say_of(asked: Asked, survey: &Survey<'_>, links: usize, out: &mut [u8]) -> us
         Command::Reports => {
             listing_writing::list_survey(survey, base_threshold::in_force(n, t), out)
         }
-        Command::Check => desk_sentences::write_accepted(out, 0, n as u64, links as u64),
+        Command::Check => {
+            let mut writer = Writer { buf: out, at: 0 };
+            desk_sentences::write_accepted(&mut writer, n as u64, links as u64);
+            writer.at
+        }
         Command::Write | Command::Import => survey_text(survey, out),
         Command::Export => survey_file(survey, out),
-        Command::Help => desk_usage::write_help(out, 0),
+        Command::Help => desk_usage::say_help(out),
     }
 }
 
@@ -177,7 +184,9 @@ fn say_survey(asked: Asked, survey: &Survey<'_>, links: usize, out: &mut [u8]) -
         (survey_said asked.command asked.t asked.a asked.b (record { nodes = survey.now.n; links = links }) survey.now.starts.now survey.now.neighbours.now) }
 {
     if base_refusals::bad_threshold(asked.t) {
-        return desk_refusals::write_threshold_refused(out, 0, asked.t as u64);
+        let mut writer = Writer { buf: out, at: 0 };
+        desk_refusals::write_threshold_refused(&mut writer, asked.t as u64);
+        return writer.at;
     }
     say_of(asked, survey, links, out)
 }
@@ -221,10 +230,10 @@ pub fn say(
     ensures { Wrote out.old out.new 0 result (command_said asked.command asked.t asked.a asked.b text.now) }
 {
     if !desk_words::reads_text(asked.command) {
-        return desk_usage::write_help(out, 0);
+        return desk_usage::say_help(out);
     }
     if too_long(source_of(asked.command), text) {
-        return desk_usage::write_fault(out, 0, Fault::TooLong, asked.command);
+        return desk_usage::say_fault(Fault::TooLong, asked.command, out);
     }
     say_text(asked, text, starts, neighbours, out)
 }

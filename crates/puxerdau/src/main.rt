@@ -116,13 +116,13 @@ fn answer(rt: &(impl Input + Print), asked: Asked) -> io::Result<()> {
 // Prints what is wrong with the words behind a command.
 fn print_fault(rt: &impl Print, command: Command, wrong: Fault) -> io::Result<()> {
     let mut line = [0u8; 200];
-    let k = desk_usage::write_fault(&mut line, 0, wrong, command);
+    let k = desk_usage::say_fault(wrong, command, &mut line);
     rt.write_all(&line[..k])
 }
 
 fn print_no_command(rt: &impl Print) -> io::Result<()> {
     let mut line = [0u8; 170];
-    let k = desk_usage::write_no_command(&mut line, 0);
+    let k = desk_usage::say_no_command(&mut line);
     rt.write_all(&line[..k])
 }
 
