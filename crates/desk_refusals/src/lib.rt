@@ -152,11 +152,12 @@ pub fn write_node_refused(buf: &mut [u8], at: usize, v: u64, n: u64) -> usize
     ensures wrote { Wrote buf.old buf.new at result (node_refused v n) }
     ensures upper_bound { result ≤ at + 110 }
 {
+    let number = base_refusals::refusal_number(Refusal::NoNode);
     write_sentence(
         buf,
         at,
         b"refused # at node #: the nodes are 0 to #\n",
-        &[Refusal::NoNode as u64, v, n - 1],
+        &[number as u64, v, n - 1],
     )
 }
 
@@ -167,10 +168,11 @@ pub fn write_threshold_refused(buf: &mut [u8], at: usize, t: u64) -> usize
     ensures wrote { Wrote buf.old buf.new at result (threshold_refused t) }
     ensures upper_bound { result ≤ at + 110 }
 {
+    let number = base_refusals::refusal_number(Refusal::BadThreshold);
     write_sentence(
         buf,
         at,
         b"refused # at threshold #: a threshold is at most 1024\n",
-        &[Refusal::BadThreshold as u64, t],
+        &[number as u64, t],
     )
 }
