@@ -10,7 +10,8 @@ use borrow.Author.Tests.{eq-eqb, ne_eqb, le-leb, lt-leb, lt-ltb, le-ltb}
 use native.Mathlib.Numerals.{add-one}
 use lib.Dec.{T, eqb, ltb, leb}
 use lib.ListN.{length}
-use Rattle.std.specs.Prelude.{if◌then◌else◌, Some, None}
+use Rattle.std.specs.Prelude.{if◌then◌else◌, Option, Some, None}
+use Rattle.std.specs.Option.{option_map}
 use Rattle.std.specs.List.{find, range_with_len}
 use Rattle.model.specs.declared.Verdict.{Verdict}
 use Rattle.model.specs.declared.TestResult.{TestResult}
@@ -26,30 +27,45 @@ use Rattle.model.specs.TwoOrFour.{sources, test_result}
 use Rattle.model.proofs.Demand.{testing_right}
 use Rattle.model.proofs.Lists.{of_up_to}
 use Rattle.model.proofs.Tests.{lt_or, or_r}
-use Rattle.search_depths.specs.Depth.{greatest}
-use Rattle.search_depths.proofs.Depths.{deepest_first}
+use Rattle.search_depths.specs.Depth.{greatest, depth_of}
+use Rattle.search_depths.proofs.Depths.{deepest, deepest_missed, deepest_found}
 use Rattle.answer_two_or_four.specs.DepthVerdict.{of_depth, of_searches}
 use Rattle.answer_two_or_four.proofs.DepthVerdict.{verdict_is}
 
 -- ---- searches from the nodes of a list
 
 -- the greatest of all distances from them decides
-pub result_is : (n : ℕ) (G : Graph) (hs : List ℕ) → n ≤ 1024 → {v : Verdict} {d k : ℕ} → v ≡ of_depth d
-    → d ≡ greatest (rows_of n (fewest (linked n G) n) hs) → k ≡ length hs → record { verdict = v; searches = k } ≡ of_searches n G hs
+pub result_is : (n : ℕ) (G : Graph) (hs : List ℕ) → n ≤ 1024 → {v : Verdict} {d : Option ℕ} {k : ℕ} → v ≡ of_depth d
+    → d ≡ depth_of (greatest (rows_of n (fewest (linked n G) n) hs)) → k ≡ length hs → record { verdict = v; searches = k } ≡ of_searches n G hs
 result_is n G hs size e q c =
     ap₂ (λ (x : Verdict) (j : ℕ). record { verdict = x; searches = j }) (e ∙ ap of_depth q ∙ verdict_is n G size hs) c
 
-pub list_depth : (n : ℕ) (G : Graph) {list hs : List ℕ} {d : ℕ} → list ≡ hs → d ≡ max 0 (greatest (rows_of n (fewest (linked n G) n) list))
-    → d ≡ greatest (rows_of n (fewest (linked n G) n) hs)
-list_depth n G o q = omega (arith, ap (λ (l : List ℕ). greatest (rows_of n (fewest (linked n G) n) l)) o)
+-- no depth is below 0
+zero_depth : (x : Option ℕ) → option_map (max 0) x ≡ x
+zero_depth None = refl
+zero_depth (Some x) = ap Some (omega arith)
+
+pub list_depth : (n : ℕ) (G : Graph) {list hs : List ℕ} {d : Option ℕ} → list ≡ hs
+    → d ≡ option_map (max 0) (depth_of (greatest (rows_of n (fewest (linked n G) n) list)))
+    → d ≡ depth_of (greatest (rows_of n (fewest (linked n G) n) hs))
+list_depth n G o q = q ∙ zero_depth _ ∙ ap (λ (l : List ℕ). depth_of (deepest n G l)) o
 
 -- those of a node, and then those of its neighbours
-pub closed_depth : (n : ℕ) (G : Graph) (v : ℕ) {own : List ℕ} {first d : ℕ} → own ≡ G v
-    → first ≡ greatest (map (fewest (linked n G) n v) (up_to n)) → d ≡ max first (greatest (rows_of n (fewest (linked n G) n) own))
-    → d ≡ greatest (rows_of n (fewest (linked n G) n) (closed G v))
-unfolding closed
-closed_depth n G v o e q =
-    omega (arith, ap (λ (l : List ℕ). greatest (rows_of n (fewest (linked n G) n) l)) o, deepest_first n G v (G v))
+module _ (n : ℕ) (G : Graph) (v : ℕ) (size : n ≤ 1024) {first : Option ℕ}
+    (e : first ≡ depth_of (greatest (map (fewest (linked n G) n v) (up_to n)))) where
+  pub closed_missed : first ≡ None → None ≡ depth_of (greatest (rows_of n (fewest (linked n G) n) (closed G v)))
+  unfolding closed
+  closed_missed q = deepest_missed n G size v (G v) e q
+
+  pub closed_depth : {own : List ℕ} {x : ℕ} → own ≡ G v → first ≡ Some x
+      → option_map (max x) (depth_of (greatest (rows_of n (fewest (linked n G) n) own)))
+      ≡ depth_of (greatest (rows_of n (fewest (linked n G) n) (closed G v)))
+  unfolding closed
+  closed_depth {own} {x} o q =
+      ap (λ (l : List ℕ). option_map (max x) (depth_of (deepest n G l))) o
+      ∙ ap (λ (k : ℕ). option_map (max k) (depth_of (deepest n G (G v)))) (omega arith)
+      ∙ deepest_found n G size v (G v) e q 0
+      ∙ zero_depth _
 
 pub closed_count : (G : Graph) (v : ℕ) {own : List ℕ} → own ≡ G v → 1 + length own ≡ length (closed G v)
 unfolding closed

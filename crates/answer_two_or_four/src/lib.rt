@@ -12,7 +12,7 @@ ghost use Rattle.model.specs.Demand.{TestRight};
 ghost use Rattle.survey_neighbours.specs.SurveyGraph.{graph};
 ghost use Rattle.answer_two_or_four.specs.DepthVerdict.{of_depth, of_searches};
 
-use model::{NONE, Refusal, TestResult, Verdict};
+use model::{Refusal, TestResult, Verdict};
 use survey_neighbours::Survey;
 
 // The smallest low node.
@@ -24,13 +24,13 @@ fn smallest_low(survey: &Survey, s: usize) -> Option<usize>
 
 // The verdict on the greatest depth of the searches.
 #[tactic(auto, unfolding(crate::specs::DepthVerdict::of_depth))]
-fn verdict_on(depth: u16) -> Verdict
+fn verdict_on(depth: Option<u16>) -> Verdict
     ensures { result ≡ of_depth depth }
 {
     match depth {
-        0..=2 => Verdict::Short,
-        NONE => Verdict::Parted,
-        _ => Verdict::Long,
+        Some(most) if most <= 2 => Verdict::Short,
+        Some(_) => Verdict::Long,
+        None => Verdict::Parted,
     }
 }
 
@@ -40,8 +40,11 @@ fn test_from(survey: &Survey, v: usize) -> TestResult
     ensures { result ≡ of_searches survey.now.n (graph survey.now) (closed (graph survey.now) v) }
 {
     let own = survey.own(v);
-    let first = search_depths::depth_from(survey, v);
-    let depth = search_depths::greatest_depth(survey, first, own);
+    // kept: with `and_then` the closure has no inferred `ensures`, and the proof does not close
+    let depth = match search_depths::depth_from(survey, v) {
+        Some(first) => search_depths::greatest_depth(survey, first, own),
+        None => None,
+    };
     TestResult {
         verdict: verdict_on(depth),
         searches: 1 + own.len(),

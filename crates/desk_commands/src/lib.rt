@@ -20,6 +20,7 @@ use survey_neighbours::Survey;
 use text_writing::Writer;
 
 // What is asked: a command, the threshold, 0 where there is none, and the nodes.
+// kept: 0 and no Option, since `command_said`, which docs/GUARANTEES.md names, takes numbers
 #[derive(Clone, Copy, PartialEq, Eq)]
 pub struct Asked {
     pub command: Command,
@@ -103,6 +104,7 @@ fn stop_of(source: Source, text: &[u8]) -> Stop
 }
 
 // Says why a text is refused, and at which line, from the first byte on.
+// kept: a bound and no array, since `say` asks no more than that many bytes
 fn refuse_text(source: Source, text: &[u8], refusal: Refusal, out: &mut [u8]) -> usize
     requires { 200000 ≤ length out.old }
     ensures { Wrote out.old out.new 0 result (text_refused (number refusal) (stop_of source text.now)) }
@@ -229,7 +231,7 @@ pub fn say(
     requires { 200000 ≤ length out.old }
     ensures { Wrote out.old out.new 0 result (command_said asked.command asked.t asked.a asked.b text.now) }
 {
-    if !desk_words::reads_text(asked.command) {
+    if !asked.command.reads_text() {
         return desk_usage::say_help(out);
     }
     if too_long(source_of(asked.command), text) {
