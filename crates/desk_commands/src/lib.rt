@@ -17,8 +17,10 @@ use desk_usage::Fault;
 use desk_words::Command;
 use model::{Refusal, Size};
 use survey_neighbours::Survey;
+use text_writing::Writer;
 
 // What is asked: a command, the threshold, 0 where there is none, and the nodes.
+// kept: 0 and no Option, since `command_said`, which docs/GUARANTEES.md names, takes numbers
 #[derive(Clone, Copy, PartialEq, Eq)]
 pub struct Asked {
     pub command: Command,
@@ -102,12 +104,15 @@ fn stop_of(source: Source, text: &[u8]) -> Stop
 }
 
 // Says why a text is refused, and at which line, from the first byte on.
+// kept: a bound and no array, since `say` asks no more than that many bytes
 fn refuse_text(source: Source, text: &[u8], refusal: Refusal, out: &mut [u8]) -> usize
     requires { 200000 ≤ length out.old }
     ensures { Wrote out.old out.new 0 result (text_refused (number refusal) (stop_of source text.now)) }
 {
     let stop = stop_of(source, text);
-    desk_refusals::write_text_refused(out, 0, refusal, stop)
+    let mut writer = Writer { buf: out, at: 0 };
+    desk_refusals::write_text_refused(&mut writer, refusal, stop);
+    writer.at
 }
 
 // Reads a text into the two lists.
@@ -162,10 +167,14 @@ fn say_of(asked: Asked, survey: &Survey<'_>, links: usize, out: &mut [u8]) -> us
         Command::Reports => {
             listing_writing::list_survey(survey, base_threshold::in_force(n, t), out)
         }
-        Command::Check => desk_sentences::write_accepted(out, 0, n as u64, links as u64),
+        Command::Check => {
+            let mut writer = Writer { buf: out, at: 0 };
+            desk_sentences::write_accepted(&mut writer, n as u64, links as u64);
+            writer.at
+        }
         Command::Write | Command::Import => survey_text(survey, out),
         Command::Export => survey_file(survey, out),
-        Command::Help => desk_usage::write_help(out, 0),
+        Command::Help => desk_usage::say_help(out),
     }
 }
 
@@ -177,7 +186,9 @@ fn say_survey(asked: Asked, survey: &Survey<'_>, links: usize, out: &mut [u8]) -
         (survey_said asked.command asked.t asked.a asked.b (record { nodes = survey.now.n; links = links }) survey.now.starts.now survey.now.neighbours.now) }
 {
     if base_refusals::bad_threshold(asked.t) {
-        return desk_refusals::write_threshold_refused(out, 0, asked.t as u64);
+        let mut writer = Writer { buf: out, at: 0 };
+        desk_refusals::write_threshold_refused(&mut writer, asked.t as u64);
+        return writer.at;
     }
     say_of(asked, survey, links, out)
 }
@@ -220,11 +231,11 @@ pub fn say(
     requires { 200000 ≤ length out.old }
     ensures { Wrote out.old out.new 0 result (command_said asked.command asked.t asked.a asked.b text.now) }
 {
-    if !desk_words::reads_text(asked.command) {
-        return desk_usage::write_help(out, 0);
+    if !asked.command.reads_text() {
+        return desk_usage::say_help(out);
     }
     if too_long(source_of(asked.command), text) {
-        return desk_usage::write_fault(out, 0, Fault::TooLong, asked.command);
+        return desk_usage::say_fault(Fault::TooLong, asked.command, out);
     }
     say_text(asked, text, starts, neighbours, out)
 }

@@ -141,10 +141,11 @@ pub fn write_node_refused(writer: &mut Writer<'_>, v: u64, n: u64)
     ensures wrote { Writes writer.old writer.new (node_refused v n) }
     ensures upper_bound { writer.new.at ≤ writer.old.at + 110 }
 {
+    let number = base_refusals::refusal_number(Refusal::NoNode);
     write_sentence(
         writer,
         b"refused # at node #: the nodes are 0 to #\n",
-        &[Refusal::NoNode as u64, v, n - 1],
+        &[number as u64, v, n - 1],
     );
 }
 
@@ -155,9 +156,10 @@ pub fn write_threshold_refused(writer: &mut Writer<'_>, t: u64)
     ensures wrote { Writes writer.old writer.new (threshold_refused t) }
     ensures upper_bound { writer.new.at ≤ writer.old.at + 110 }
 {
+    let number = base_refusals::refusal_number(Refusal::BadThreshold);
     write_sentence(
         writer,
         b"refused # at threshold #: a threshold is at most 1024\n",
-        &[Refusal::BadThreshold as u64, t],
+        &[number as u64, t],
     );
 }

@@ -2,6 +2,7 @@
 #![tactic(auto)]
 
 ghost use Rattle.std.specs.Prelude.{◌+◌, ◌≤◌, length};
+ghost use Rattle.base_lists.specs.Written.{Wrote};
 ghost use Rattle.text_writing.specs.Writes.{Writes};
 ghost use Rattle.desk_usage.specs.Usage.{no_command, usage, fault, fault_line, help};
 
@@ -16,15 +17,17 @@ pub enum Fault {
     TooLong,
 }
 
-// Writes that the first word is not a command.
+// Says that the first word is not a command, from the first byte on.
 #[tactic(auto, unfolding(crate::specs::Usage::no_command, model::specs::Basics::bytes))]
-pub fn write_no_command(writer: &mut Writer<'_>)
-    requires { writer.old.at + 170 ≤ length writer.old.buf.now }
-    ensures { Writes writer.old writer.new no_command }
+pub fn say_no_command(out: &mut [u8]) -> usize
+    requires { 170 ≤ length out.old }
+    ensures { Wrote out.old out.new 0 result no_command }
 {
+    let mut writer = Writer { buf: out, at: 0 };
     writer.text(
         b"not understood: the first word is not a command; usage: puxerdau COMMAND [WORDS ..] < survey.txt; commands: pair walk test hubs reports check write export import help\n",
     );
+    writer.at
 }
 
 // Writes how a command is used.
@@ -73,22 +76,25 @@ fn write_wrong(writer: &mut Writer<'_>, wrong: Fault)
     }
 }
 
-// Writes what is wrong and how the command is used.
-pub fn write_fault(writer: &mut Writer<'_>, wrong: Fault, command: Command)
-    requires { writer.old.at + 200 ≤ length writer.old.buf.now }
-    ensures wrote { Writes writer.old writer.new (fault_line wrong command) }
-    ensures upper_bound { writer.new.at ≤ writer.old.at + 200 }
+// Says what is wrong and how the command is used, from the first byte on.
+pub fn say_fault(wrong: Fault, command: Command, out: &mut [u8]) -> usize
+    requires { 200 ≤ length out.old }
+    ensures wrote { Wrote out.old out.new 0 result (fault_line wrong command) }
+    ensures upper_bound { result ≤ 200 }
 {
-    write_wrong(writer, wrong);
-    write_usage(writer, command);
+    let mut writer = Writer { buf: out, at: 0 };
+    write_wrong(&mut writer, wrong);
+    write_usage(&mut writer, command);
+    writer.at
 }
 
-// Writes what `help` says.
+// Says what `help` says, from the first byte on.
 #[tactic(auto, unfolding(crate::specs::Usage::help, model::specs::Basics::bytes))]
-pub fn write_help(writer: &mut Writer<'_>)
-    requires { writer.old.at + 2000 ≤ length writer.old.buf.now }
-    ensures { Writes writer.old writer.new help }
+pub fn say_help(out: &mut [u8]) -> usize
+    requires { 2000 ≤ length out.old }
+    ensures { Wrote out.old out.new 0 result help }
 {
+    let mut writer = Writer { buf: out, at: 0 };
     writer.text(
         b"puxerdau: how many links a message needs between two nodes of a survey\n\
             usage: puxerdau COMMAND [WORDS ..] < survey.txt\n\
@@ -113,4 +119,5 @@ pub fn write_help(writer: &mut Writer<'_>)
             A report is never below the fewest links, and at most two above them.\n\
             What is refused is said in one line: refused, a number, the place, and why.\n",
     );
+    writer.at
 }

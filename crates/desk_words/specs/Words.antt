@@ -14,7 +14,7 @@ use Rattle.desk_words.specs.declared.Question.{Question}
 use Rattle.desk_words.specs.declared.WordFault.{WordFault}
 use Rattle.desk_words.specs.declared.WordFault.TheVariants.{NoNumber, TooMany}
 
--- the command whose name a word is, or what is found otherwise, or what is found otherwise
+-- the command whose name a word is, or what is found otherwise
 unfoldable pub if_named : (w name : List ℕ) → Command → Option Command → Option Command
 if_named w name c found = if same w name then Some c else found
 

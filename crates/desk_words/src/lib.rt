@@ -61,7 +61,7 @@ fn is_word(word: &[u8], name: &[u8]) -> bool
 }
 
 // The command that a word names.
-// kept: a `match` on byte strings leaves 54 goals, one for each byte at which a word may differ.
+// kept: a test after the other and not a match on the words, which was tried: it needs an answer for each byte at which a word differs
 #[tactic(auto, unfolding(crate::specs::Words::command_of, crate::specs::Words::if_named, model::specs::Basics::bytes))]
 pub fn command_of(word: &[u8]) -> Option<Command>
     ensures { result ≡ command_of word.now }
@@ -112,116 +112,122 @@ pub fn word_of(word: &[u8]) -> Word
     }
 }
 
-// How many nodes a command asks for.
-fn nodes_of(command: Command) -> usize
-    ensures { result ≡ nodes_of command }
-{
-    match command {
-        Command::Pair | Command::Walk => 2,
-        _ => 0,
+impl Command {
+    // How many nodes a command asks for.
+    fn nodes(self) -> usize
+        ensures { result ≡ nodes_of self }
+    {
+        match self {
+            Command::Pair | Command::Walk => 2,
+            _ => 0,
+        }
     }
-}
 
-// Whether a command splits the nodes, and so takes a threshold.
-fn splits(command: Command) -> bool
-    ensures { result ≡ splits_nodes command }
-{
-    matches!(
-        command,
-        Command::Pair | Command::Walk | Command::Test | Command::Hubs | Command::Reports
-    )
-}
+    // Whether a command splits the nodes, and so takes a threshold.
+    fn splits(self) -> bool
+        ensures { result ≡ splits_nodes self }
+    {
+        matches!(
+            self,
+            Command::Pair | Command::Walk | Command::Test | Command::Hubs | Command::Reports
+        )
+    }
 
-// Whether a command reads a text.
-pub fn reads_text(command: Command) -> bool
-    ensures { result ≡ reads_text command }
-{
-    command != Command::Help
+    // Whether a command reads a text.
+    pub fn reads_text(self) -> bool
+        ensures { result ≡ reads_text self }
+    {
+        self != Command::Help
+    }
 }
 
 // The question before the first word after the command.
-pub fn nothing_yet() -> Question
-    ensures { result ≡ nothing_yet }
-{
-    Question {
-        a: None,
-        b: None,
-        threshold: Threshold::Unnamed,
+impl Default for Question {
+    ghost is_default = { λ q. q ≡ nothing_yet };
+
+    fn default() -> Question {
+        Question {
+            a: None,
+            b: None,
+            threshold: Threshold::Unnamed,
+        }
     }
 }
 
-// How many nodes a question has.
-fn node_count(q: Question) -> usize
-    ensures { result ≡ node_count q }
-{
-    usize::from(q.a.is_some()) + usize::from(q.b.is_some())
-}
-
-// A question with a node more: A, or B behind it.
-fn with_node(q: Question, v: u64) -> Question
-    ensures { result ≡ with_node q v }
-{
-    if q.a.is_none() {
-        Question { a: Some(v), ..q }
-    } else {
-        Question { b: Some(v), ..q }
+impl Question {
+    // How many nodes a question has.
+    fn node_count(self) -> usize
+        ensures { result ≡ node_count self }
+    {
+        usize::from(self.a.is_some()) + usize::from(self.b.is_some())
     }
-}
 
-// What a number makes of a question.
-fn take_number(command: Command, q: Question, v: u64) -> Result<Question, WordFault>
-    ensures { result ≡ number_taken command q v }
-{
-    if q.threshold == Threshold::NumberNext {
-        return Ok(Question {
-            threshold: Threshold::Given(v),
-            ..q
-        });
+    // A question with a node more: A, or B behind it.
+    fn with_node(self, v: u64) -> Question
+        ensures { result ≡ with_node self v }
+    {
+        if self.a.is_none() {
+            Question { a: Some(v), ..self }
+        } else {
+            Question { b: Some(v), ..self }
+        }
     }
-    if node_count(q) < nodes_of(command) {
-        return Ok(with_node(q, v));
-    }
-    Err(WordFault::TooMany)
-}
 
-// What is wrong with another word: it is no number where one is needed, or one too many.
-fn fault_of(command: Command, q: Question) -> WordFault
-    ensures { result ≡ fault_of command q }
-{
-    if q.threshold == Threshold::NumberNext || node_count(q) < nodes_of(command) {
-        WordFault::NoNumber
-    } else {
-        WordFault::TooMany
+    // What a number makes of a question.
+    fn take_number(self, command: Command, v: u64) -> Result<Question, WordFault>
+        ensures { result ≡ number_taken command self v }
+    {
+        if self.threshold == Threshold::NumberNext {
+            return Ok(Question {
+                threshold: Threshold::Given(v),
+                ..self
+            });
+        }
+        if self.node_count() < command.nodes() {
+            return Ok(self.with_node(v));
+        }
+        Err(WordFault::TooMany)
     }
-}
 
-// What `--threshold` makes of a question.
-fn take_option(command: Command, q: Question) -> Result<Question, WordFault>
-    ensures { result ≡ option_taken command q }
-{
-    if splits(command) && q.threshold == Threshold::Unnamed {
-        return Ok(Question {
-            threshold: Threshold::NumberNext,
-            ..q
-        });
+    // What is wrong with another word: it is no number where one is needed, or one too many.
+    fn fault(self, command: Command) -> WordFault
+        ensures { result ≡ fault_of command self }
+    {
+        if self.threshold == Threshold::NumberNext || self.node_count() < command.nodes() {
+            WordFault::NoNumber
+        } else {
+            WordFault::TooMany
+        }
     }
-    Err(fault_of(command, q))
-}
 
-// What a word after the command makes of a question.
-pub fn take_word(command: Command, q: Question, word: Word) -> Result<Question, WordFault>
-    ensures { result ≡ word_taken command q word }
-{
-    match word {
-        Word::Option => take_option(command, q),
-        Word::Number(v) => take_number(command, q, v),
-        Word::Other => Err(fault_of(command, q)),
+    // What `--threshold` makes of a question.
+    fn take_option(self, command: Command) -> Result<Question, WordFault>
+        ensures { result ≡ option_taken command self }
+    {
+        if command.splits() && self.threshold == Threshold::Unnamed {
+            return Ok(Question {
+                threshold: Threshold::NumberNext,
+                ..self
+            });
+        }
+        Err(self.fault(command))
     }
-}
 
-// Whether all is there that a command asks for.
-pub fn is_whole(command: Command, q: Question) -> bool
-    ensures { result ≡ is_whole command q }
-{
-    q.threshold != Threshold::NumberNext && node_count(q) == nodes_of(command)
+    // What a word after the command makes of a question.
+    pub fn take_word(self, command: Command, word: Word) -> Result<Question, WordFault>
+        ensures { result ≡ word_taken command self word }
+    {
+        match word {
+            Word::Option => self.take_option(command),
+            Word::Number(v) => self.take_number(command, v),
+            Word::Other => Err(self.fault(command)),
+        }
+    }
+
+    // Whether all is there that a command asks for.
+    pub fn is_whole(self, command: Command) -> bool
+        ensures { result ≡ is_whole command self }
+    {
+        self.threshold != Threshold::NumberNext && self.node_count() == command.nodes()
+    }
 }

@@ -2,8 +2,6 @@
 // asked and what is answered.
 #![tactic(auto)]
 
-ghost use Rattle.std.specs.Prelude.{◌≤◌, length};
-
 use desk_commands::Asked;
 use desk_usage::Fault;
 use desk_words::{Command, Question, Threshold, WordFault};
@@ -32,11 +30,10 @@ fn word_count(rt: &impl Env) -> usize {
     usize::MAX
 }
 
-// Puts word i at the front of a buffer and returns its length: 0 where it does not fit.
-fn read_word(rt: &impl Env, i: usize, word: &mut [u8]) -> usize
-    ensures { result ≤ length word.new }
-{
-    rt.arg(i, word).unwrap_or(0)
+// The word i, at the front of a buffer; none of it where it does not fit.
+fn read_word<'a>(rt: &impl Env, i: usize, word: &'a mut [u8; WORD]) -> &'a [u8] {
+    let k = rt.arg(i, word).unwrap_or(0);
+    &word[..k]
 }
 
 // What word i makes of a question.
@@ -47,19 +44,18 @@ fn take_word(
     i: usize,
 ) -> Result<Question, WordFault> {
     let mut word = [0u8; WORD];
-    let k = read_word(rt, i, &mut word);
-    let said = desk_words::word_of(&word[..k]);
-    desk_words::take_word(command, q, said)
+    let said = desk_words::word_of(read_word(rt, i, &mut word));
+    q.take_word(command, said)
 }
 
 // What the words after the command ask. There are `count` words, the program's name among them.
 fn understand(rt: &impl Env, command: Command, count: usize) -> Result<Question, Fault> {
-    let mut q = desk_words::nothing_yet();
+    let mut q = Question::default();
     for i in 2..count {
         let place = i as u64 - 1;
         q = take_word(rt, command, q, i).map_err(|fault| Fault::Word(place, fault))?;
     }
-    if !desk_words::is_whole(command, q) {
+    if !q.is_whole(command) {
         return Err(Fault::Missing);
     }
     Ok(q)
@@ -79,15 +75,13 @@ fn asked(command: Command, q: Question) -> Asked {
     }
 }
 
-// Reads the text, if the command needs one, and returns how many bytes it has. A read that fails ends it.
-fn read_text(rt: &impl Input, command: Command, text: &mut [u8]) -> usize
-    ensures { result ≤ length text.new }
-{
-    if !desk_words::reads_text(command) {
-        return 0;
+// The text, at the front of a buffer, if the command needs one. A read that fails ends it.
+fn read_text<'a>(rt: &impl Input, command: Command, text: &'a mut [u8; TEXT]) -> &'a [u8] {
+    if !command.reads_text() {
+        return &[];
     }
     let (Ok(length) | Err(length)) = base_input::read_front(&mut rt.reader(), text);
-    length
+    &text[..length]
 }
 
 // Reads the text, if the command needs one, and prints the answer.
@@ -99,8 +93,8 @@ fn answer_in(
     neighbours: &mut [u16; NEIGHBOURS],
     out: &mut [u8; OUT],
 ) -> io::Result<()> {
-    let k = read_text(rt, asked.command, text);
-    let r = desk_commands::say(asked, &text[..k], starts, neighbours, out);
+    let text = read_text(rt, asked.command, text);
+    let r = desk_commands::say(asked, text, starts, neighbours, out);
     rt.write_all(&out[..r])
 }
 
@@ -116,13 +110,13 @@ fn answer(rt: &(impl Input + Print), asked: Asked) -> io::Result<()> {
 // Prints what is wrong with the words behind a command.
 fn print_fault(rt: &impl Print, command: Command, wrong: Fault) -> io::Result<()> {
     let mut line = [0u8; 200];
-    let k = desk_usage::write_fault(&mut line, 0, wrong, command);
+    let k = desk_usage::say_fault(wrong, command, &mut line);
     rt.write_all(&line[..k])
 }
 
 fn print_no_command(rt: &impl Print) -> io::Result<()> {
     let mut line = [0u8; 170];
-    let k = desk_usage::write_no_command(&mut line, 0);
+    let k = desk_usage::say_no_command(&mut line);
     rt.write_all(&line[..k])
 }
 
@@ -132,8 +126,7 @@ fn first_word(rt: &impl Env, count: usize) -> Option<Command> {
         return Some(Command::Help);
     }
     let mut word = [0u8; WORD];
-    let k = read_word(rt, 1, &mut word);
-    desk_words::command_of(&word[..k])
+    desk_words::command_of(read_word(rt, 1, &mut word))
 }
 
 fn main(rt: HostRuntime) -> io::Result<()> {
