@@ -16,6 +16,8 @@ use Rattle.model.specs.Asking.{asking}
 use Rattle.model.specs.Walking.{AfterWalking, walking}
 use Rattle.model.proofs.Tests.{and_i, and_l, and_r}
 use Rattle.model.proofs.Lists.{of_up_to, keep_same, keep_below}
+use Rattle.text_writing.specs.declared.Writer.{Writer}
+use Rattle.text_writing.specs.Writes.{Writes}
 use Rattle.table_building.proofs.WholeTables.{AreTables}
 use Rattle.desk_answers.specs.Said.{asked_said, pair_said, walked_said, walk_said}
 
@@ -54,3 +56,8 @@ high_counted n s G h k i e =
 
 pub front_within : (k : ℕ) (l : List ℕ) → length (take k l) ≡ k → k ≤ length l
 front_within k l e = omega (arith, e, sym (length-append (take k l) (drop k l)) ∙ ap length (take-append-drop k l))
+
+-- ---- what one branch wrote is what was written
+
+pub writes_same : {old new new' : Writer} {t t' : List ℕ} → new' ≡ new → t' ≡ t → Writes old new t → Writes old new' t'
+writes_same e f w = rw (e, f) w

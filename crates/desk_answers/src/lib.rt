@@ -7,10 +7,12 @@ ghost use Rattle.model.specs.Basics.{none, up_to, keep};
 ghost use Rattle.model.specs.Hubs.{is_high};
 ghost use Rattle.base_lists.specs.Written.{Wrote};
 ghost use Rattle.survey_neighbours.specs.SurveyGraph.{graph};
+ghost use Rattle.text_writing.specs.Writes.{Writes};
 ghost use Rattle.desk_answers.specs.Said.{far_node, pair_said, walked_said, walk_said, test_said, hubs_said};
 
 use model::{Answer, NONE};
 use survey_neighbours::Survey;
+use text_writing::Writer;
 
 // The node that is refused: a, unless it is below n.
 #[tactic(auto, unfolding(crate::specs::Said::far_node))]
@@ -20,7 +22,6 @@ fn far_node(n: usize, a: usize, b: usize) -> usize
     if n <= a { a } else { b }
 }
 
-// kept: the three tables stay three lists, as the calls that fill and ask them take them.
 // Builds the tables of a survey for threshold s and says what they answer to nodes a and b, from the first byte on.
 pub fn say_pair(
     survey: &Survey<'_>,
@@ -40,23 +41,35 @@ pub fn say_pair(
     let n = survey.n;
     let mut hubs = [0u16; 1024];
     table_building::build_tables(survey, s, full, low, report, &mut hubs);
+    let mut writer = Writer { buf: out, at: 0 };
     match answer_pair::ask(n, full, low, report, a, b) {
-        Ok(x) => desk_sentences::write_pair(out, 0, a as u64, b as u64, x),
-        Err(_) => desk_refusals::write_node_refused(out, 0, far_node(n, a, b) as u64, n as u64),
+        Ok(x) => desk_sentences::write_pair(&mut writer, a as u64, b as u64, x),
+        Err(_) => desk_refusals::write_node_refused(
+            &mut writer,
+            far_node(n, a, b) as u64,
+            n as u64,
+        ),
     }
+    writer.at
 }
 
-// Says the answer to a pair, and the nodes of its walk.
-fn say_walked(n: usize, a: usize, b: usize, x: Answer, walk: &[u16; 2048], out: &mut [u8]) -> usize
-    requires room { 20000 ≤ length out.old }
+// Writes the answer to a pair, and the nodes of its walk.
+fn write_walked(
+    writer: &mut Writer<'_>,
+    n: usize,
+    a: usize,
+    b: usize,
+    x: Answer,
+    walk: &[u16; 2048],
+)
+    requires room { writer.old.at + 20000 ≤ length writer.old.buf.now }
     requires report_in_bounds { x.report ≢ none → x.report + 1 ≤ 2048 }
-    ensures { Wrote out.old out.new 0 result (walked_said n a b (answered x) walk.now) }
+    ensures { Writes writer.old writer.new (walked_said n a b (answered x) walk.now) }
 {
-    let i = desk_sentences::write_pair(out, 0, a as u64, b as u64, x);
-    if x.report == NONE {
-        return i;
+    desk_sentences::write_pair(writer, a as u64, b as u64, x);
+    if x.report != NONE {
+        desk_sentences::write_walk(writer, &walk[..x.report as usize + 1]);
     }
-    desk_sentences::write_walk(out, i, &walk[..x.report as usize + 1])
 }
 
 // Builds the tables of a survey, for the threshold s in force where t is given, and says the walk of nodes a and b.
@@ -85,10 +98,16 @@ pub fn say_walk(
     let mut hubs = [0u16; 1024];
     let mut walk = [0u16; 2048];
     table_building::build_tables(survey, s, full, low, report, &mut hubs);
+    let mut writer = Writer { buf: out, at: 0 };
     match walk_writing::write_walk(n, t, starts, neighbours, full, low, report, a, b, &mut walk) {
-        Ok(x) => say_walked(n, a, b, x, &walk, out),
-        Err(_) => desk_refusals::write_node_refused(out, 0, far_node(n, a, b) as u64, n as u64),
+        Ok(x) => write_walked(&mut writer, n, a, b, x, &walk),
+        Err(_) => desk_refusals::write_node_refused(
+            &mut writer,
+            far_node(n, a, b) as u64,
+            n as u64,
+        ),
     }
+    writer.at
 }
 
 // Tests a survey and says the verdict, from the first byte on.
@@ -96,10 +115,12 @@ pub fn say_test(n: usize, t: usize, starts: &[u32], neighbours: &[u16], out: &mu
     requires { 300 ≤ length out.old }
     ensures { Wrote out.old out.new 0 result (test_said n t starts.now neighbours.now) }
 {
+    let mut writer = Writer { buf: out, at: 0 };
     match answer_two_or_four::test(n, t, starts, neighbours) {
-        Ok(x) => desk_sentences::write_verdict(out, 0, x),
-        Err(_) => desk_refusals::write_threshold_refused(out, 0, t as u64),
+        Ok(x) => desk_sentences::write_verdict(&mut writer, x),
+        Err(_) => desk_refusals::write_threshold_refused(&mut writer, t as u64),
     }
+    writer.at
 }
 
 // How many nodes are high by threshold s.
@@ -118,7 +139,9 @@ pub fn say_hubs(survey: &Survey<'_>, s: usize, out: &mut [u8]) -> usize
 {
     let mut list = [0u16; 1024];
     let count = table_hubs::choose_hubs(survey, s, &mut list);
-    let i = desk_sentences::write_hubs(out, 0, &list[..count]);
     let high = high_count(survey, s);
-    desk_sentences::write_high(out, i, high as u64, survey.n as u64, s as u64)
+    let mut writer = Writer { buf: out, at: 0 };
+    desk_sentences::write_hubs(&mut writer, &list[..count]);
+    desk_sentences::write_high(&mut writer, high as u64, survey.n as u64, s as u64);
+    writer.at
 }
