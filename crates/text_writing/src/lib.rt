@@ -33,8 +33,8 @@ pub fn line_length(word: &[u8], numbers: &[u32]) -> usize
     total
 }
 
-// kept: the functions on a place and not the methods call each other: with each byte's place put back into the writer a listing takes twice as
-// long, since the compiler can't keep the writer's fields in registers
+// kept: functions on a place, which the methods call. Tried: methods that call each other, with which a listing takes twice as long
+
 // Writes a byte at a place, and returns the next place.
 fn write_byte(buf: &mut [u8], at: usize, b: u8) -> usize
     requires { at + 1 ≤ length buf.old }
@@ -146,7 +146,7 @@ impl Writer<'_> {
         self.at = write_digits(self.buf, self.at, x);
     }
 
-    // The same, soon for a number below 1,000.
+    // The same for a number of 32 bits, and sooner for one below 1,000.
     pub fn number(&mut self, x: u32)
         requires { HasRoom self.old (digits x) }
         ensures { Writes self.old self.new (digits x) }

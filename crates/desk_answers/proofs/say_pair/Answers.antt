@@ -13,7 +13,7 @@ returns c =
     let lent = c.requires.tables in
     let own = tables_whole _ _ _ _ _ _ _ c.build_tables.ensures lent.0 lent.1 lent.2 in
     let said : Writes _ c.match-ask.writer
-        (pair_said c.args.survey.now.n c.args.s (graph c.args.survey.now) c.args.a c.args.b) =
+    (pair_said c.args.survey.now.n c.args.s (graph c.args.survey.now) c.args.a c.args.b) =
     elim c.match-ask.branch [
       | in-Ok w ↦ writes_same w.writer-is (pair_is own _ _ w.in-Ok.ensures.result_value) w.write_pair.ensures.wrote
       | in-Err w ↦

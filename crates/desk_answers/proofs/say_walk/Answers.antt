@@ -23,7 +23,7 @@ returns c =
     let size = length-replicate {A = ℕ} 2048 0 in
     let survey = c.args.survey.now in
     let said : Writes _ c.match-write_walk.writer
-        (walk_said survey.n c.args.t c.args.s survey.starts.now survey.neighbours.now c.args.a c.args.b) =
+    (walk_said survey.n c.args.t c.args.s survey.starts.now survey.neighbours.now c.args.a c.args.b) =
     elim c.match-write_walk.branch [
       | in-Ok w ↦ writes_same w.writer-is (walk_is _ _ _ _ _ own _ _ size w.in-Ok.ensures.walk_after) w.write_walked.ensures
       | in-Err w ↦
