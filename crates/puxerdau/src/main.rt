@@ -85,6 +85,7 @@ fn read_text<'a>(rt: &impl Input, command: Command, text: &'a mut [u8; TEXT]) ->
 }
 
 // Reads the text, if the command needs one, and prints the answer.
+// kept: a function of its own, to which the arrays are lent whole, so that the check does not look at their entries
 fn answer_in(
     rt: &(impl Input + Print),
     asked: Asked,

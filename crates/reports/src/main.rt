@@ -12,6 +12,7 @@ fn list(rt: &impl Print, text: &[u8], lines: &mut [u8]) -> io::Result<()> {
 }
 
 // Reads a text and prints its listing.
+// kept: a function of its own, to which the arrays are lent whole, so that the check does not look at their entries
 fn list_in(
     rt: &(impl Input + Print),
     text: &mut [u8; 49177],

@@ -1,6 +1,6 @@
 -- The lines of a script, and what its letters read.
 -- Assumes nothing.
-use Rattle.std.specs.Prelude.{List, [], ◌∷◌, ℕ, eqb, get_or, drop}
+use Rattle.std.specs.Prelude.{◌≡◌, List, [], ◌∷◌, ℕ, eqb, get_or, drop, length}
 use Rattle.std.specs.Prelude.{Option as Found, Some, None}
 use Rattle.std.proofs.Math.Option.{Option, none as missing, some, map}
 use Rattle.std.specs.Prelude.{if◌then◌else◌}
@@ -21,6 +21,11 @@ line_at s at = if eqb (get_or s at 0) 0 then missing else lettered (get_or s at 
 abbrev pub command_line : List ℕ → Found Command → Option (ℕ × ℕ × ℕ × List ℕ)
 command_line s (Some c) = some (c.letter, c.x, c.y, drop c.next s)
 command_line s None = missing
+
+-- the command is the line that was found, or zeros and the end of the script where none was
+abbrev pub IsLine : List ℕ → Option (ℕ × ℕ × ℕ × List ℕ) → Command → Type 0
+IsLine s (some l) c = command_line s (Some c) ≡ some l
+IsLine s missing c = (c.letter ≡ 0) × (c.x ≡ 0) × (c.y ≡ 0) × (c.next ≡ length s)
 
 -- what the letter I reads is a file, and what another one does is a survey text
 abbrev pub read_by : ℕ → (text : List ℕ) (p q : ℕ) → AfterReading

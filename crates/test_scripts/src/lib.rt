@@ -5,7 +5,7 @@
 
 ghost use Rattle.std.specs.Prelude.{◌≡◌, ℕ, ◌%◌, min, length, take};
 ghost use Rattle.model.specs.Reading.{read_returned};
-ghost use Rattle.test_scripts.specs.Commands.{line_at, command_line, read_by};
+ghost use Rattle.test_scripts.specs.Commands.{line_at, command_line, IsLine, read_by};
 ghost use Rattle.test_scripts.specs.Sums.{SumsTo, replaced};
 
 use base_answer_codes::{hub_number, route_number, verdict_number};
@@ -40,14 +40,18 @@ pub fn read_command(script: &[u8], at: usize) -> Option<Command>
 }
 
 // The line after that of a command, which says more of it; zeros where there is none.
-pub fn line_after(script: &[u8], c: Command) -> Command {
-    let end = Command {
-        letter: 0,
-        x: 0,
-        y: 0,
-        next: script.len(),
-    };
-    read_command(script, c.next).unwrap_or(end)
+pub fn line_after(script: &[u8], c: Command) -> Command
+    ensures { IsLine script.now (line_at script.now c.next) result }
+{
+    match read_command(script, c.next) {
+        Some(line) => line,
+        None => Command {
+            letter: 0,
+            x: 0,
+            y: 0,
+            next: script.len(),
+        },
+    }
 }
 
 // A number, but no more than the limit.
