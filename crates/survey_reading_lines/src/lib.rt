@@ -40,12 +40,7 @@ pub fn insert_link(bits: &mut Matrix, a: usize, b: usize)
 }
 
 // The link line at a place, where the matrix has the links given before.
-pub fn link_at(
-    text: &[u8],
-    at: usize,
-    n: usize,
-    bits: &Matrix,
-) -> Result<Pair<usize>, Refusal>
+pub fn link_at(text: &[u8], at: usize, n: usize, bits: &Matrix) -> Result<Pair<usize>, Refusal>
     requires { n ≤ 1024 }
     ensures { line_answer text.now result ≡ link_in n (edges_in bits.now) (drop at text.now) }
 {
