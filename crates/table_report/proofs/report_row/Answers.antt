@@ -3,7 +3,7 @@ use Rattle.table_report.proofs.Reports.{row_none, HubInside, hub_inside, row_nex
 use Rattle.table_report.proofs.report_row.Goals as goal
 
 pub loop-hub-init : goal.loop-hub-init
-loop-hub-init c = row_none c.requires.tables.1 c.requires.by_index.1 c.copy_from_slice.ensures.after
+loop-hub-init c = row_none c.requires.tables.1 c.requires.by_index.1 c.copy_row.ensures
 
 pub bounds-full-first : goal.bounds-full-first
 bounds-full-first c =
