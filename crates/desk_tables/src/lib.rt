@@ -108,7 +108,9 @@ fn say_in<K: Said>(
     )
 }
 
-// The same by the threshold in force where t is given, with tables of its own: 6 MiB of the stack.
+// The same by the threshold in force where t is given, with tables of its own: 6 MiB of the stack. Not put into its caller, which would need
+// them for every command.
+#[inline(never)]
 pub fn say_nodes<K: Said>(
     survey: &Survey<'_>,
     t: usize,

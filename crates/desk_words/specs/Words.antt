@@ -1,6 +1,6 @@
 -- What a word says, the first one and those behind it, and what all of them ask (docs/COMMANDS.md).
 -- Assumes nothing.
-use Rattle.std.specs.Prelude.{Bool, true, false, not, ◌&&◌, List, [], ◌∷◌, ℕ, ◌+◌, eqb, ltb, Option, Some, None, Result, Ok, Err}
+use Rattle.std.specs.Prelude.{Bool, true, false, not, ◌&&◌, List, [], ◌∷◌, ℕ, eqb, ltb, Option, Some, None, Result, Ok, Err}
 use Rattle.model.specs.Basics.{same, bytes}
 use Rattle.std.specs.Prelude.{if◌then◌else◌}
 use Rattle.model.specs.Numbers.{is_number, value_of}
@@ -8,8 +8,6 @@ use Rattle.desk_words.specs.declared.Command.{Command}
 use Rattle.desk_words.specs.declared.Command.TheVariants.{Pair, Walk, Test, Hubs, Reports, Check, Write, Export, Import, Help}
 use Rattle.desk_words.specs.declared.Word.{Word}
 use Rattle.desk_words.specs.declared.Word.TheVariants as word
-use Rattle.desk_words.specs.declared.Threshold.{Threshold}
-use Rattle.desk_words.specs.declared.Threshold.TheVariants.{Unnamed, NumberNext, Given}
 use Rattle.desk_words.specs.declared.Question.{Question}
 use Rattle.desk_words.specs.declared.WordFault.{WordFault}
 use Rattle.desk_words.specs.declared.WordFault.TheVariants.{NoNumber, TooMany}
@@ -78,55 +76,37 @@ reads_text Help = false
 -- ---- words, from left to right: what each makes of the question so far, or what is wrong with it
 
 abbrev pub nothing_yet : Question
-nothing_yet = record { a = None; b = None; threshold = Unnamed }
-
--- 1 for a node, 0 for none
-abbrev pub one_of : Option ℕ → ℕ
-one_of None = 0
-one_of (Some v) = 1
-
-abbrev pub node_count : Question → ℕ
-node_count q = one_of q.a + one_of q.b
-
--- the option is named; and its number comes next
-abbrev pub is_named : Threshold → Bool
-is_named Unnamed = false
-is_named NumberNext = true
-is_named (Given t) = true
-
-abbrev pub is_next : Threshold → Bool
-is_next Unnamed = false
-is_next NumberNext = true
-is_next (Given t) = false
+nothing_yet = record { nodes = 0; a = 0; b = 0; threshold = 0; named = false; number_next = false }
 
 abbrev pub with_threshold : Question → ℕ → Question
-with_threshold q t = record { a = q.a; b = q.b; threshold = Given t }
+with_threshold q t = record { nodes = q.nodes; a = q.a; b = q.b; threshold = t; named = q.named; number_next = false }
 
 abbrev pub with_node : Question → ℕ → Question
 with_node q v =
-    if eqb (one_of q.a) 0 then record { a = Some v; b = q.b; threshold = q.threshold }
-    else record { a = q.a; b = Some v; threshold = q.threshold }
+    if eqb q.nodes 0
+    then record { nodes = 1; a = v; b = q.b; threshold = q.threshold; named = q.named; number_next = q.number_next }
+    else record { nodes = 2; a = q.a; b = v; threshold = q.threshold; named = q.named; number_next = q.number_next }
 
 abbrev pub with_option : Question → Question
-with_option q = record { a = q.a; b = q.b; threshold = NumberNext }
+with_option q = record { nodes = q.nodes; a = q.a; b = q.b; threshold = q.threshold; named = true; number_next = true }
 
 -- a number is the threshold where one comes next, then a node while the command lacks one
 abbrev pub number_taken : Command → Question → ℕ → Result Question WordFault
 number_taken c q v =
-    if is_next q.threshold then Ok (with_threshold q v)
-    else if ltb (node_count q) (nodes_of c) then Ok (with_node q v)
+    if q.number_next then Ok (with_threshold q v)
+    else if ltb q.nodes (nodes_of c) then Ok (with_node q v)
     else Err TooMany
 
 -- any other word is no number where one is needed, and else one too many
 abbrev pub fault_of : Command → Question → WordFault
-fault_of c q = if is_next q.threshold then NoNumber else if ltb (node_count q) (nodes_of c) then NoNumber else TooMany
+fault_of c q = if q.number_next then NoNumber else if ltb q.nodes (nodes_of c) then NoNumber else TooMany
 
 abbrev pub other_taken : Command → Question → Result Question WordFault
 other_taken c q = Err (fault_of c q)
 
 -- the option is taken once, by a command that splits nodes
 abbrev pub option_taken : Command → Question → Result Question WordFault
-option_taken c q = if splits_nodes c && not (is_named q.threshold) then Ok (with_option q) else other_taken c q
+option_taken c q = if splits_nodes c && not q.named then Ok (with_option q) else other_taken c q
 
 abbrev pub word_taken : Command → Question → Word → Result Question WordFault
 word_taken c q word.Option = option_taken c q
@@ -135,7 +115,7 @@ word_taken c q word.Other = other_taken c q
 
 -- all is there that the command asks for
 abbrev pub is_whole : Command → Question → Bool
-is_whole c q = not (is_next q.threshold) && eqb (node_count q) (nodes_of c)
+is_whole c q = not q.number_next && eqb q.nodes (nodes_of c)
 
 abbrev pub on_taken : (Question → Result Question WordFault) → Result Question WordFault → Result Question WordFault
 on_taken next (Ok q) = next q

@@ -4,7 +4,7 @@
 ghost use Rattle.std.specs.Prelude.{◌≡◌};
 ghost use Rattle.model.specs.Basics.{same};
 ghost use Rattle.desk_words.specs.Words.{command_of, word_of, nodes_of, splits_nodes, reads_text};
-ghost use Rattle.desk_words.specs.Words.{nothing_yet, node_count, with_node};
+ghost use Rattle.desk_words.specs.Words.{nothing_yet, with_node};
 ghost use Rattle.desk_words.specs.Words.{number_taken, fault_of, option_taken, word_taken, is_whole};
 
 #[derive(Clone, Copy, PartialEq, Eq)]
@@ -29,20 +29,17 @@ pub enum Word {
     Other,
 }
 
-// What the words up to one of them say of the threshold: nothing; that its number comes next; or the number.
-#[derive(Clone, Copy, PartialEq, Eq)]
-pub enum Threshold {
-    Unnamed,
-    NumberNext,
-    Given(u64),
-}
-
-// What the words up to one of them ask: nodes A and B, and the threshold.
+// What the words up to one of them ask: how many nodes, which, and the threshold, 0 where there is none; whether a threshold was named,
+// and whether its number comes next.
+// kept: counts and flags and no Options, since `take_word` and `is_whole`, which docs/GUARANTEES.md names, answer for all such values
 #[derive(Clone, Copy, PartialEq, Eq)]
 pub struct Question {
-    pub a: Option<u64>,
-    pub b: Option<u64>,
-    pub threshold: Threshold,
+    pub nodes: usize,
+    pub a: u64,
+    pub b: u64,
+    pub threshold: u64,
+    pub named: bool,
+    pub number_next: bool,
 }
 
 // What is wrong with a word: it is no number where one is needed, or one too many.
@@ -147,29 +144,33 @@ impl Default for Question {
 
     fn default() -> Question {
         Question {
-            a: None,
-            b: None,
-            threshold: Threshold::Unnamed,
+            nodes: 0,
+            a: 0,
+            b: 0,
+            threshold: 0,
+            named: false,
+            number_next: false,
         }
     }
 }
 
 impl Question {
-    // How many nodes a question has.
-    fn node_count(self) -> usize
-        ensures { result ≡ node_count self }
-    {
-        usize::from(self.a.is_some()) + usize::from(self.b.is_some())
-    }
-
     // A question with a node more: A, or B behind it.
     fn with_node(self, v: u64) -> Question
         ensures { result ≡ with_node self v }
     {
-        if self.a.is_none() {
-            Question { a: Some(v), ..self }
+        if self.nodes == 0 {
+            Question {
+                nodes: 1,
+                a: v,
+                ..self
+            }
         } else {
-            Question { b: Some(v), ..self }
+            Question {
+                nodes: 2,
+                b: v,
+                ..self
+            }
         }
     }
 
@@ -177,13 +178,14 @@ impl Question {
     fn take_number(self, command: Command, v: u64) -> Result<Question, WordFault>
         ensures { result ≡ number_taken command self v }
     {
-        if self.threshold == Threshold::NumberNext {
+        if self.number_next {
             return Ok(Question {
-                threshold: Threshold::Given(v),
+                threshold: v,
+                number_next: false,
                 ..self
             });
         }
-        if self.node_count() < command.nodes() {
+        if self.nodes < command.nodes() {
             return Ok(self.with_node(v));
         }
         Err(WordFault::TooMany)
@@ -193,7 +195,7 @@ impl Question {
     fn fault(self, command: Command) -> WordFault
         ensures { result ≡ fault_of command self }
     {
-        if self.threshold == Threshold::NumberNext || self.node_count() < command.nodes() {
+        if self.number_next || self.nodes < command.nodes() {
             WordFault::NoNumber
         } else {
             WordFault::TooMany
@@ -204,9 +206,10 @@ impl Question {
     fn take_option(self, command: Command) -> Result<Question, WordFault>
         ensures { result ≡ option_taken command self }
     {
-        if command.splits() && self.threshold == Threshold::Unnamed {
+        if command.splits() && !self.named {
             return Ok(Question {
-                threshold: Threshold::NumberNext,
+                named: true,
+                number_next: true,
                 ..self
             });
         }
@@ -228,6 +231,6 @@ impl Question {
     pub fn is_whole(self, command: Command) -> bool
         ensures { result ≡ is_whole command self }
     {
-        self.threshold != Threshold::NumberNext && self.node_count() == command.nodes()
+        !self.number_next && self.nodes == command.nodes()
     }
 }

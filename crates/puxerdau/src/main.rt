@@ -2,9 +2,11 @@
 // asked and what is answered.
 #![tactic(auto)]
 
+ghost use Rattle.std.specs.Prelude.{◌≡◌, ◌≤◌, length};
+
 use desk_commands::Asked;
 use desk_usage::Fault;
-use desk_words::{Command, Question, Threshold, WordFault};
+use desk_words::{Command, Question, WordFault};
 use std::env::{Env, FillError};
 use std::io;
 
@@ -31,7 +33,9 @@ fn word_count(rt: &impl Env) -> usize {
 }
 
 // The word i, at the front of a buffer; none of it where it does not fit.
-fn read_word<'a>(rt: &impl Env, i: usize, word: &'a mut [u8; WORD]) -> &'a [u8] {
+fn read_word<'a>(rt: &impl Env, i: usize, word: &'a mut [u8; WORD]) -> &'a [u8]
+    ensures { length result.now ≤ length word.old }
+{
     let k = rt.arg(i, word).unwrap_or(0);
     &word[..k]
 }
@@ -61,22 +65,22 @@ fn understand(rt: &impl Env, command: Command, count: usize) -> Result<Question,
     Ok(q)
 }
 
-// What is asked by words that are understood; without a threshold, or a node that a command does not ask for, 0.
-fn asked(command: Command, q: Question) -> Asked {
-    let t = match q.threshold {
-        Threshold::Given(t) => t,
-        Threshold::Unnamed | Threshold::NumberNext => 0,
-    };
+// What is asked by words that are understood.
+fn asked(command: Command, q: Question) -> Asked
+    ensures { result ≡ record { command = command; t = q.threshold; a = q.a; b = q.b } }
+{
     Asked {
         command,
-        t: t as usize,
-        a: q.a.unwrap_or(0) as usize,
-        b: q.b.unwrap_or(0) as usize,
+        t: q.threshold as usize,
+        a: q.a as usize,
+        b: q.b as usize,
     }
 }
 
 // The text, at the front of a buffer, if the command needs one. A read that fails ends it.
-fn read_text<'a>(rt: &impl Input, command: Command, text: &'a mut [u8; TEXT]) -> &'a [u8] {
+fn read_text<'a>(rt: &impl Input, command: Command, text: &'a mut [u8; TEXT]) -> &'a [u8]
+    ensures { length result.now ≤ length text.old }
+{
     if !command.reads_text() {
         return &[];
     }
