@@ -25,10 +25,10 @@ use Rattle.model.specs.Demand.{TestRight}
 use Rattle.model.specs.Hubs.{is_high, is_low, closed, hubs}
 use Rattle.model.specs.TwoOrFour.{sources, test_result}
 use Rattle.model.proofs.Demand.{testing_right}
-use Rattle.model.proofs.Lists.{of_up_to}
+use Rattle.model.proofs.Lists.{First, found, nothing, first_below, of_up_to}
 use Rattle.model.proofs.Tests.{lt_or, or_r}
 use Rattle.search_depths.specs.Depth.{greatest, depth_of}
-use Rattle.search_depths.proofs.Depths.{deepest, deepest_missed, deepest_found}
+use Rattle.search_depths.proofs.Depths.{deepest, deepest_first, deepest_missed, deepest_found}
 use Rattle.answer_two_or_four.specs.DepthVerdict.{of_depth, of_searches}
 use Rattle.answer_two_or_four.proofs.DepthVerdict.{verdict_is}
 
@@ -51,17 +51,25 @@ pub list_depth : (n : ℕ) (G : Graph) {list hs : List ℕ} {d : Option ℕ} →
 list_depth n G o q = q ∙ zero_depth _ ∙ ap (λ (l : List ℕ). depth_of (deepest n G l)) o
 
 -- those of a node, and then those of its neighbours
+pub closed_depth : (n : ℕ) (G : Graph) (v : ℕ) {own : List ℕ} {first d : ℕ} → own ≡ G v
+    → first ≡ greatest (map (fewest (linked n G) n v) (up_to n)) → d ≡ max first (greatest (rows_of n (fewest (linked n G) n) own))
+    → d ≡ greatest (rows_of n (fewest (linked n G) n) (closed G v))
+unfolding closed
+closed_depth n G v o e q =
+    omega (arith, ap (λ (l : List ℕ). greatest (rows_of n (fewest (linked n G) n) l)) o, deepest_first n G v (G v))
+
+-- where a depth that is none ends the search
 module _ (n : ℕ) (G : Graph) (v : ℕ) (size : n ≤ 1024) {first : Option ℕ}
     (e : first ≡ depth_of (greatest (map (fewest (linked n G) n v) (up_to n)))) where
   pub closed_missed : first ≡ None → None ≡ depth_of (greatest (rows_of n (fewest (linked n G) n) (closed G v)))
   unfolding closed
   closed_missed q = deepest_missed n G size v (G v) e q
 
-  pub closed_depth : {own : List ℕ} {x : ℕ} → own ≡ G v → first ≡ Some x
+  pub closed_found : {own : List ℕ} {x : ℕ} → own ≡ G v → first ≡ Some x
       → option_map (max x) (depth_of (greatest (rows_of n (fewest (linked n G) n) own)))
       ≡ depth_of (greatest (rows_of n (fewest (linked n G) n) (closed G v)))
   unfolding closed
-  closed_depth {own} {x} o q =
+  closed_found {own} {x} o q =
       ap (λ (l : List ℕ). option_map (max x) (depth_of (deepest n G l))) o
       ∙ ap (λ (k : ℕ). option_map (max k) (depth_of (deepest n G (G v)))) (omega arith)
       ∙ deepest_found n G size v (G v) e q 0
@@ -114,18 +122,35 @@ module _ (p : ℕ → Bool) (d : ℕ) where
 -- ---- the sources: the smallest low node and its neighbours, or the hubs
 
 module _ (n s : ℕ) (G : Graph) where
-  pub sources_hubs : find (is_low s G) (up_to n) ≡ None → of_searches n G (hubs n s G) ≡ test_result n s G
+  module _ {v : ℕ} (e : v ≡ first_of (is_low s G) none (up_to n)) where
+    pub sources_hubs : v ≡ none → of_searches n G (hubs n s G) ≡ test_result n s G
+    unfolding test_result sources
+    sources_hubs h = rw (← e, eq-eqb v none h)
+
+    pub sources_low : (v ≡ none → ⊥) → of_searches n G (closed G v) ≡ test_result n s G
+    unfolding test_result sources
+    sources_low h = rw (← e, ne_eqb v none h)
+
+    pub low_below : (v ≡ none → ⊥) → v < n
+    low_below h = at (rw e (first_below (is_low s G) none n))
+      where
+        at : First (is_low s G) none 0 n v → v < n
+        at (found lo hi t least) = omega arith
+        at (nothing q miss) = absurd (h q)
+
+  -- the same by what `find` gives
+  pub hubs_by_find : find (is_low s G) (up_to n) ≡ None → of_searches n G (hubs n s G) ≡ test_result n s G
   unfolding test_result sources
-  sources_hubs e = rw (first_missed (is_low s G) none (up_to n) e)
+  hubs_by_find e = rw (first_missed (is_low s G) none (up_to n) e)
 
   module _ {v : ℕ} (e : find (is_low s G) (up_to n) ≡ Some v) where
-    pub low_below : v < n
-    low_below = of_up_to n v (first_found (is_low s G) none (up_to n) e).1
+    pub below_by_find : v < n
+    below_by_find = of_up_to n v (first_found (is_low s G) none (up_to n) e).1
 
-    pub sources_low : n ≤ 1024 → of_searches n G (closed G v) ≡ test_result n s G
+    pub low_by_find : n ≤ 1024 → of_searches n G (closed G v) ≡ test_result n s G
     unfolding test_result sources
-    sources_low size =
-        let below : v < n = low_below in
+    low_by_find size =
+        let below : v < n = below_by_find in
         rw ((first_found (is_low s G) none (up_to n) e).0, ne_eqb v none (λ h. omega arith))
 
 -- an answer by the rules is right

@@ -12,18 +12,18 @@ use borrow.Author.Fill.{fill_more}
 use borrow.Author.Tests.{lt-ltb, le-ltb, eq-eqb}
 use lib.Bits.{bit_and}
 use lib.Count.{ones, count_trailing_zeros}
-use lib.Dec.{ltb}
+use lib.Dec.{T, ltb}
 use lib.ListN.{length, get_or, set, take, drop, length-set, length-append, replicate, get_or-eq_default}
 use lib.Pow.{pow_pos}
 use lib.Seq.{get_or-set_other, take-length}
-use Rattle.model.specs.Basics.{from, up_to, keep}
+use Rattle.model.specs.Basics.{from, up_to, keep, first_of}
 use Rattle.std.specs.Prelude.{if◌then◌else◌, cond, not, ◌==◌, Some, None}
 use Rattle.std.specs.List.{sum_by, find, position, position_or_len}
 use Rattle.std.proofs.lemmas.Bool.Decides.{nat_tests}
 use Rattle.std.proofs.lemmas.List.Quantifiers.{position-Some}
 use Rattle.std.proofs.lemmas.List.Sums.{fails_before_first, sum_by_more}
 use Rattle.model.proofs.Tests.{ltb_same, lt_or, eq_or}
-use Rattle.model.proofs.Lists.{keep_append, keep_length, length_up_to, up_to_add}
+use Rattle.model.proofs.Lists.{First, found, nothing, first_below, keep_append, keep_length, length_up_to, up_to_add}
 use Rattle.base_nodeset.specs.NodeSet.{Nodes, bit, member, empty_set, intersection, difference, members_from}
 use Rattle.base_nodeset.proofs.Bits.{bit-bit_and, bit_not, bit_zero, bit_suc, bit_of_zero, shifted}
 use Rattle.base_nodeset.proofs.Bits.{word_bit, empty_words, word_changed, word_kept, set_word}
@@ -104,6 +104,9 @@ pub record Removed (b a₀ a : List ℕ) (i : ℕ) : Type 0 where
   pub made : Made (difference (member a₀) (member b)) (length a₀) a i
   pub rest : (j : ℕ) → i ≤ j → get_or a j 0 ≡ get_or a₀ j 0
 
+pub removed_none : {b a₀ : List ℕ} → Removed b a₀ a₀ 0
+removed_none = record { made = made_none refl; rest = λ j h. refl }
+
 module _ {b a₀ a : List ℕ} {i : ℕ} (r : Removed b a₀ a i) where
   pub removed_more : i < length a → get_or b i 0 < 2 ^ 64 → Removed b a₀ (set a i (bit_and (get_or a i 0) ((2 ^ 64 - 1) - get_or b i 0))) (i + 1)
   unfolding member difference
@@ -168,6 +171,9 @@ module _ {ws : List ℕ} {i : ℕ} (c : Clear ws i) where
     low : Lowest 64 (64 * i) (get_or ws i 0)
     low = lowest _ _ _ (omega arith) l
 
+    pub clear_below : count_trailing_zeros 64 (get_or ws i 0) < 64
+    clear_below = low.below
+
     pub clear_first : find (member ws) (up_to (64 * length ws)) ≡ Some (64 * i + count_trailing_zeros 64 (get_or ws i 0))
     clear_first =
         let m = 64 * (i + 1) in
@@ -178,6 +184,16 @@ module _ {ws : List ℕ} {i : ℕ} (c : Clear ws i) where
         ∷ (members_from 64 (64 * i) (get_or ws i 0 - 2 ^ count_trailing_zeros 64 (get_or ws i 0)) ++ keep (member ws) (from m k)) =
         rw (e, keep_append, here, low.first) in
         find_some _ _ _ _ first
+
+-- where the smallest member is n or more, no number below n is one
+pub past_smallest : (n : ℕ) (ws : List ℕ) → n ≤ 64 * length ws → (r : ℕ)
+    → r ≡ first_of (member ws) (64 * length ws) (up_to (64 * length ws)) → n ≤ r → (x : ℕ) → x < n → T (member ws x) → ⊥
+past_smallest n ws long r e h x l t =
+    at (rw e (first_below (member ws) (64 * length ws) (64 * length ws)))
+  where
+    at : First (member ws) (64 * length ws) 0 (64 * length ws) r → ⊥
+    at (found lo hi s least) = least x (omega arith) (omega arith) t
+    at (nothing q miss) = miss x (omega arith) (omega arith) t
 
 -- a word that is not 0
 abbrev pub some_bit : ℕ → Bool

@@ -9,6 +9,8 @@ use native.Mathlib.Nat.{le_antisymm, le-pred_of_lt, mul-le-mul}
 use native.Mathlib.Omega.{arith}
 use lib.ListN.{length, get_or}
 use lib.Dec.{T, leb, ltb, eqb, leb→le, ltb→lt, eqb→eq}
+use mir.Syntax.{w64}
+use mir.Val.{Fits}
 use Rattle.model.specs.Threshold.{bit_length, threshold}
 use Rattle.model.proofs.Tests.{and_l, and_r, lt_or}
 use Rattle.model.proofs.Threshold.{threshold_is}
@@ -62,3 +64,6 @@ module _ (table : List ℕ) (passes : T (eqb (length table) 1024 && every rule_a
 
   pub table_holds : get_or table (n - 1) 0 ≡ threshold n
   table_holds = square_is n (get_or table (n - 1) 0) passed
+
+  pub table_fits : Fits w64 (get_or table (n - 1) 0)
+  table_fits = omega (arith, passed.small)

@@ -24,12 +24,22 @@ use Rattle.base_lists.specs.Written.{Wrote}
 use Rattle.base_lists.proofs.Written.{over_wrote}
 use Rattle.desk_refusals.specs.declared.Source.{Source}
 use Rattle.desk_refusals.specs.declared.Source.TheVariants.{Survey, Listing, File}
-use Rattle.desk_commands.specs.Commands.{most_nodes_of, text_read, read_as}
+use Rattle.desk_commands.specs.Commands.{most_nodes_of, most_links_of, text_read, read_as}
 
 -- a survey is read within its limits
 pub survey_read : (source : Source) (text : List ℕ) → (source ≡ Survey) ⊎ (source ≡ Listing) → read_as source text ≡ text_read source text
 unfolding read_as
 survey_read source text = ⊎_elim (λ e. rw e) (λ e. rw e)
+
+pub most_nodes_bound : (source : Source) → most_nodes_of source ≤ 1024
+most_nodes_bound Survey = omega arith
+most_nodes_bound Listing = omega arith
+most_nodes_bound File = omega arith
+
+pub most_links_bound : (source : Source) → most_links_of source ≤ 16384
+most_links_bound Survey = omega arith
+most_links_bound Listing = omega arith
+most_links_bound File = omega arith
 
 -- what is read is an accepted survey, within the limit on its nodes
 pub read_accepted : (source : Source) (text : List ℕ) (starts neighbours : List ℕ) (x : Size)

@@ -23,6 +23,9 @@ use Rattle.table_building.proofs.WholeTables.{AreTables}
 use Rattle.base_lists.specs.Written.{Wrote}
 use Rattle.base_lists.proofs.Written.{wrote_over}
 
+pub square_most : (n : ℕ) → n ≤ 128 → n * n ≤ 16384
+square_most n h = mul-le-mul h h
+
 -- ---- tables of exactly n x n entries
 
 module _ {n s : ℕ} {G : Graph} {count : ℕ} {full low report : List ℕ} (t : AreTables n s G count full low report) where

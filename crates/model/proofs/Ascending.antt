@@ -3,7 +3,7 @@
 use mathlib.Core.Path.{◌≡◌, refl, sym, ap, ◌∙◌, subst}
 use mathlib.Core.Logic.{◌⊎◌, inl, inr, ⊎_elim}
 use mathlib.Core.Bool.{Bool, true, false}
-use mathlib.Core.List.{List, [], ◌∷◌}
+use mathlib.Core.List.{List, [], ◌∷◌, ◌++◌}
 use Prim.Native.Nat.{ℕ, zero, suc, ◌+◌, ◌≤◌, ◌<◌, zero-le, suc-le-suc}
 use native.Mathlib.Nat.{lt_trans, le_of_suc-le-suc}
 use native.Mathlib.Omega.{arith}
@@ -13,7 +13,7 @@ use Rattle.model.specs.Basics.{from, up_to, has, keep}
 use Rattle.std.specs.Prelude.{if◌then◌else◌}
 use Rattle.model.specs.Survey.{ascending}
 use Rattle.model.proofs.Tests.{and_l, and_r, and_i, T_true, no_false, eq_or}
-use Rattle.model.proofs.Lists.{has_head, has_tail, none_in, of_cons, of_keep, of_from, keep_same, keep_none}
+use Rattle.model.proofs.Lists.{has_head, has_tail, has_later, none_in, of_cons, of_keep, of_from, keep_same, keep_none}
 
 pub ascending_tail : (x : ℕ) (xs : List ℕ) → T (ascending (x ∷ xs)) → T (ascending xs)
 unfolding ascending
@@ -133,3 +133,11 @@ standing (x ∷ l) v t h = go (of_cons _ _ _ h) (λ r. standing l _ (ascending_t
         let f : ltb x v ≡ false = no_false _ (λ s. let b = ltb→lt _ v s in omega arith) in
         rw (f, none) (suc-le-suc zero-le, sym e)
     go (inr r) rec = let k = rec r in rw (T_true (ltb x v) (lt→ltb x v (ascending_above x l t v r))) (suc-le-suc k.0, k.1)
+
+-- in an ascending list, the entries before x are less than x
+pub ascending_front : (k : List ℕ) (x : ℕ) (l : List ℕ) → T (ascending (k ++ x ∷ l)) → (y : ℕ) → T (has y k) → y < x
+ascending_front [] x l t y h = absurd (none_in _ h)
+ascending_front (z ∷ k) x l t y h = ⊎_elim
+    (λ e. rw e (ascending_above _ _ t _ (has_later _ k _ (has_head _ l))))
+    (ascending_front k x l (ascending_tail _ _ t) y)
+    (of_cons _ _ _ h)

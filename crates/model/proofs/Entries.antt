@@ -27,6 +27,11 @@ get_d_same zero i d = refl
 get_d_same (suc n) zero d = refl
 get_d_same (suc n) (suc i) d = get_d_same n _ _
 
+-- the i-th of the numbers below n is i
+pub get_d_up_to : (n i d : ℕ) → i < n → get_or (up_to n) i d ≡ i
+unfolding up_to
+get_d_up_to n i d h = get_d_numbers _ _ _ _ h ∙ zero-add _
+
 get_d_from : (g : ℕ → ℕ) (k m i d : ℕ) → i < m → get_or (map g (from k m)) i d ≡ g (k + i)
 unfolding from
 get_d_from g k zero i d h = absurd (not-suc-le-zero h)

@@ -9,7 +9,7 @@ use native.Mathlib.Nat.{le_step, le_refl, add-zero, add-suc, suc-add, zero-add}
 use native.Mathlib.Omega.{arith}
 use lib.Dec.{T, eqb, eqb→eq, eqb_refl}
 use lib.ListN.{length}
-use Rattle.model.specs.Basics.{from, up_to, has, any, all, keep, first_of, gather}
+use Rattle.model.specs.Basics.{from, up_to, has, any, all, keep, first_of, gather, same}
 use Rattle.std.specs.Prelude.{if◌then◌else◌}
 use Rattle.model.proofs.Tests.{and_l, and_r, and_i, or_l, or_r, or_e, eq_or}
 
@@ -381,6 +381,19 @@ of_append x (y ∷ k) l h = ⊎_elim
     (or_e (eqb x y) _ h)
 
 -- ---- two lists that are the same
+
+pub same_eq : (k l : List ℕ) → T (same k l) → k ≡ l
+unfolding same
+same_eq [] [] t = refl
+same_eq [] (y ∷ l) t = absurd t
+same_eq (x ∷ k) [] t = absurd t
+same_eq (x ∷ k) (y ∷ l) t =
+    ap₂ (λ (z : ℕ) (r : List ℕ). z ∷ r) (eqb→eq _ _ (and_l (eqb x y) _ t)) (same_eq k l (and_r (eqb x y) _ t))
+
+pub same_refl : (l : List ℕ) → T (same l l)
+unfolding same
+same_refl [] = tt
+same_refl (x ∷ l) = and_i (eqb x x) _ (eqb_refl x) (same_refl l)
 
 -- ---- gathering twice
 

@@ -1,7 +1,8 @@
 -- Laws of tests.
 -- Assumes nothing.
-use mathlib.Core.Path.{◌≡◌, refl, sym, subst, ◌∙◌}
+use mathlib.Core.Path.{◌≡◌, refl, sym, ap, subst, ◌∙◌}
 use mathlib.Core.Logic.{◌⊎◌, inl, inr, ⊎_elim}
+use mathlib.Core.Bool
 use mathlib.Core.Bool.{Bool, true, false, not, ◌&&◌, ◌||◌, or_assoc, or_comm}
 use Prim.Native.Nat.{ℕ, ◌+◌, ◌≤◌, ◌<◌}
 use native.Mathlib.Omega.{arith}
@@ -81,6 +82,10 @@ of_or_false false b e = (refl, e)
 pub or_turned : (a b c : Bool) → (a || (b || c)) ≡ ((b || a) || c)
 or_turned a b c = sym (or_assoc a b c) ∙ rw (or_comm a b)
 
+pub not_and : (a b : Bool) → not (a && b) ≡ (not a || not b)
+not_and true b = refl
+not_and false b = refl
+
 pub eq_T : (x y : ℕ) → x ≡ y → T (eqb x y)
 eq_T x y e = rw (← e) (eqb_refl x)
 
@@ -112,6 +117,9 @@ not_leb x y = ⊎_elim
     (λ h. rw (lt-leb y x h, lt-ltb x y h) refl)
     (λ h. rw (le-leb y x h, le-ltb x y h) refl)
     (lt_or x y)
+
+pub not_ltb : (x y : ℕ) → not (ltb x y) ≡ leb y x
+not_ltb x y = ap not (sym (not_leb x y)) ∙ Bool.not-not (leb y x)
 
 -- what holds of each value where the test picks it holds of the one picked
 pub picked : {A : Type 0} (P : A → Type 0) (t : Bool) (x y : A) → (t ≡ true → P x) → (t ≡ false → P y) → P (if t then x else y)

@@ -71,6 +71,18 @@ module _ (n base : ℕ) (p : ℕ → Bool) (G : Graph) (t₀ : List ℕ) where
     searched_idle idle h =
         filled_idle n p (is_source base p) G (source_allowed base p) t₀ g s.level _ _ t t' more s.known same idle (omega (arith, s.is))
 
+-- how the search begins in the table that it leaves
+pub begun_same : (n : ℕ) (s : ℕ → Bool) (R : Edges) (t t' : List ℕ) → BegunAll n s R t t' → BegunAll n s R t' t'
+begun_same n s R t t' b = record { reached = b.reached; rows = b.rows; rest = λ u c hu hc f. refl }
+
+-- and in the table that it found
+pub filled_begun : (n : ℕ) (p s : ℕ → Bool) (G : Graph) (R : Edges) (t t' t'' : List ℕ) → BegunAll n s R t t' → Filled n p s G t' t''
+    → Filled n p s G t t''
+filled_begun n p s G R t t' t'' b f v c hv hc = f v c hv hc ∙ ⊎_elim
+    (λ a. rw (T_true (s c) a) refl)
+    (λ a. rw (no_false (s c) a) (b.rest v c hv hc a))
+    (passes (s c))
+
 -- ---- all groups
 
 module _ (n : ℕ) (p : ℕ → Bool) (G : Graph) where

@@ -26,6 +26,14 @@ use Rattle.search_source_sets.proofs.Joining.{covers_none}
 use Rattle.search_many_sources.specs.Levels.{in_group, reached_by, reached_next, is_new, Step, Level}
 use Rattle.search_many_sources.proofs.Begins.{row_apart, group_is, is_group}
 
+-- ---- the rows of a node's neighbours, if it is allowed
+
+pub own_not : (a b c : Bool) → a ≡ false → c ≡ ((a && b) || c)
+own_not a b c e = rw e refl
+
+pub own_put : (p : ℕ → Bool) (l l' : List ℕ) (a c r : Bool) → a ≡ true → l ≡ l' → r ≡ (any p l || c) → r ≡ ((a && any p l') || c)
+own_put p l l' a c r e o h = h ∙ ap (λ (k : List ℕ). any p k || c) o ∙ sym (rw e refl)
+
 -- ---- a node's part
 
 module _ (n : ℕ) (p : ℕ → Bool) (G : Graph) (base d v : ℕ) (near far : List (List ℕ)) (s₂ s₃ : List ℕ) (found : ℕ)

@@ -3,8 +3,8 @@
 use mathlib.Core.Path.{◌≡◌, refl, sym, ap, ap₂, ◌∙◌, subst, subst₂}
 use mathlib.Core.Logic.{◌⊎◌, inl, inr}
 use mathlib.Core.Bool.{Bool, ◌&&◌}
-use mathlib.Core.List.{List}
-use Prim.Native.Nat.{ℕ, ◌+◌, ◌≤◌, ◌<◌}
+use mathlib.Core.List.{List, [], ◌∷◌}
+use Prim.Native.Nat.{ℕ, zero, suc, ◌+◌, ◌≤◌, ◌<◌}
 use native.Mathlib.Nat.{not-suc-le-zero, le_refl}
 use native.Mathlib.Omega.{arith}
 use lib.Dec.{T, eqb→eq}
@@ -26,6 +26,12 @@ use Rattle.search_one_source.proofs.Bfs.{away, at, dist, Queued, Invariant, Kept
 pub few_open : (row : List ℕ) → unreached row ≤ length row
 unfolding unreached
 few_open row = keep_length _ row
+
+-- the entry of an open node, written and then none again
+pub set_back : (row : List ℕ) (v d : ℕ) → get_or row v 0 ≡ none → row ≡ set (set row v d) v none
+set_back [] v d e = refl
+set_back (x ∷ row) zero d e = ap (λ (y : ℕ). y ∷ row) e
+set_back (x ∷ row) (suc v) d e = ap (λ (l : List ℕ). x ∷ l) (set_back row v d e)
 
 -- ---- the start: the source alone has got a distance
 

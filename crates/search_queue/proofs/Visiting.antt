@@ -69,6 +69,10 @@ module _ (d w : ℕ) (p : Progress) where
   visited_none : w < length p.row → unreached p.row ≡ 0 → visited d w p ≡ p
   visited_none h z = visited_both (λ (q : Progress). q ≡ p) (λ e. absurd (omega (arith, some_unreached p.row w h e))) refl
 
+pub at_most_one : (b : Bool) → (if b then 1 else 0) ≤ 1
+at_most_one true = le_refl 1
+at_most_one false = omega arith
+
 -- the code of a visit by a branch
 module _ (row list : List ℕ) (tail d w : ℕ) where
   pub visit_old : (get_or row w 0 ≡ none → ⊥) → progress row list tail ≡ visited d w (progress row list tail)
@@ -114,6 +118,10 @@ pub record Visiting (d : ℕ) (ws : List ℕ) (c : ℕ) (p₀ : Progress) (i : �
   pub count : p.tail + unreached p.row ≡ c
   pub rest : visited_all d (drop i ws) p ≡ visited_all d ws p₀
   pub below : (w : ℕ) → T (has w (drop i ws)) → w < length p.row
+
+pub visiting_start : {d : ℕ} {ws : List ℕ} {c : ℕ} {p : Progress} → p.tail + unreached p.row ≡ c
+    → ((w : ℕ) → T (has w ws) → w < length p.row) → Visiting d ws c p 0 p
+visiting_start e below = record { within = omega arith; same = refl; count = e; rest = refl; below = below }
 
 module _ {d : ℕ} {ws : List ℕ} {c : ℕ} {p₀ : Progress} {i : ℕ} {p : Progress} (v : Visiting d ws c p₀ i p) where
   module _ (h : i < length ws) where

@@ -102,6 +102,11 @@ module _ (new : List ℕ) (b d e : ℕ) (r p : List ℕ) (starts : 16 * b < e) (
       at (inr g) (inr k) = put_after (16 * b) e r p (omega arith) ends (size ∙ mid) j k ∙ other j (λ (q : j / 16 ≡ b).
           ⊎_elim (λ (u : e ≡ 16 * b + 16). omega arith) (λ (u : e ≡ length r). omega arith) all)
 
+-- a bit whose part would begin behind the row
+pub bit_behind : (new : List ℕ) (b d : ℕ) (r : List ℕ) → length r ≤ 16 * b → (j : ℕ) → j < length r
+    → get_or r j 0 ≡ (if eqb (j / 16) b && in_row new j then d else get_or r j 0)
+bit_behind new b d r l j h = rw (ne_eqb (j / 16) b (λ (q : j / 16 ≡ b). omega arith))
+
 -- ---- the whole row, bit by bit
 
 -- a set bit is among the members

@@ -8,7 +8,7 @@ use mathlib.Core.Option.{Option, none as missing, some}
 use Prim.Native.Nat.{ℕ, suc, ◌+◌, ◌-◌, ◌*◌, ◌≤◌, ◌<◌}
 use native.Mathlib.Omega.{arith}
 use borrow.Author.Tests.{eq-eqb, ne_eqb, le-leb, lt-leb}
-use lib.Dec.{ltb, leb}
+use lib.Dec.{ltb, leb, leb→le}
 use lib.ListN.{length, drop, replicate, length-append}
 use Rattle.model.specs.Answers.{Outcome, refused, answered, map_answer, number}
 use Rattle.model.specs.declared.Refusal.{Refusal}
@@ -18,7 +18,7 @@ use Rattle.model.specs.Lines.{two_line}
 use Rattle.model.specs.Survey.{outside}
 use Rattle.model.specs.Reading.{limits_of, named, on_links, read_on}
 use Rattle.model.specs.Dimacs.{uncommented, edge_word, head_of, edge_of, read_edges, once_after}
-use Rattle.model.proofs.Tests.{not_leb, lt_or}
+use Rattle.model.proofs.Tests.{true_T, and_l, and_r, not_leb, lt_or}
 use Rattle.model.proofs.Dimacs.{of_edge_taken}
 use Rattle.base_nodeset.specs.Matrix.{edges_in}
 use Rattle.survey_reading_lines.specs.LinesRead.{Holds, Told}
@@ -62,6 +62,13 @@ module _ (p q : ℕ) {o : Option (ℕ × ℕ × List ℕ)} where
 abbrev pub near : (n a b : ℕ) → Bool
 near n a b = (leb 1 a && leb a n) && (leb 1 b && leb b n)
 
+pub near_both : (n a b : ℕ) → near n a b ≡ true → (1 ≤ a) × (1 ≤ b)
+near_both n a b e =
+    let t = true_T (near n a b) e in
+    let first = and_l (leb 1 a && leb a n) (leb 1 b && leb b n) t in
+    let second = and_r (leb 1 a && leb a n) (leb 1 b && leb b n) t in
+    (leb→le 1 a (and_l (leb 1 a) (leb a n) first), leb→le 1 b (and_l (leb 1 b) (leb b n) second))
+
 -- how numbers are compared in a range
 le_is : (a b : ℕ) → is_le (nat_cmp a b) ≡ leb a b
 le_is a b = ⊎_elim less (λ h. ⊎_elim greater (λ k. same (omega arith)) (lt_or b a)) (lt_or a b)
@@ -80,9 +87,9 @@ module _ (r : RangeInclusive ℕ) (n : ℕ) (start : range_inclusive_start r ≡
   in_nodes : (x : ℕ) → range_inclusive_contains (λ x y. Some (nat_cmp x y)) r x ≡ (leb 1 x && leb x n)
   in_nodes x = rw (start, end, fresh) (ap₂ ◌&&◌ (le_is 1 x) (le_is x n))
 
-  pub near_both : (a b : ℕ) {x y : Bool} → x ≡ range_inclusive_contains (λ x y. Some (nat_cmp x y)) r a → y ≡ range_inclusive_contains (λ x y. Some (nat_cmp x y)) r b
+  pub near_tests : (a b : ℕ) {x y : Bool} → x ≡ range_inclusive_contains (λ x y. Some (nat_cmp x y)) r a → y ≡ range_inclusive_contains (λ x y. Some (nat_cmp x y)) r b
       → (x && y) ≡ near n a b
-  near_both a b e f = ap₂ ◌&&◌ (e ∙ in_nodes a) (f ∙ in_nodes b)
+  near_tests a b e f = ap₂ ◌&&◌ (e ∙ in_nodes a) (f ∙ in_nodes b)
 
 near_is : (n a b : ℕ) → (outside n a || outside n b) ≡ not (near n a b)
 near_is n a b =

@@ -8,7 +8,7 @@ use mathlib.Core.Option.{Option, none as missing, some}
 use Prim.Native.Nat.{ℕ, suc, ◌+◌, ◌-◌, ◌*◌, ◌≤◌, ◌<◌}
 use native.Mathlib.Omega.{arith}
 use borrow.Author.Tests.{lt-leb, le-leb, leb-false, eq-eqb, ne_eqb}
-use lib.Dec.{eqb, leb}
+use lib.Dec.{eqb, ltb, leb, ltb→lt}
 use lib.ListN.{length, drop, replicate, length-replicate, drop_of_length-le}
 use Rattle.model.specs.Answers.{Outcome, refused, answered, map_answer, number}
 use Rattle.model.specs.declared.Refusal.{Refusal}
@@ -17,7 +17,7 @@ use Rattle.std.specs.Prelude.{if◌then◌else◌}
 use Rattle.model.specs.Graph.{Edges}
 use Rattle.model.specs.SurveyText.{line}
 use Rattle.model.specs.Reading.{named, on_links, link_of, read_on, read_links}
-use Rattle.model.proofs.Tests.{or_turned, of_or_false}
+use Rattle.model.proofs.Tests.{true_T, and_l, and_r, or_turned, of_or_false}
 use Rattle.model.proofs.Loops.{drop_next}
 use Rattle.model.proofs.Links.{link_taken, of_link_taken}
 use Rattle.model.proofs.Outcomes.{never}
@@ -29,6 +29,11 @@ use Rattle.survey_reading_lines.specs.LinesRead.{Holds, link_in, Told}
 use Rattle.std.specs.Prelude.{Option as Found, None, Result, Ok, Err, IsErrAnd, ok_or}
 
 -- ---- one line
+
+pub both_below : {a b n : ℕ} → (ltb a n && ltb b n) ≡ true → (a < n) × (b < n)
+both_below {a} {b} {n} e =
+    let t = true_T (ltb a n && ltb b n) e in
+    (ltb→lt a n (and_l (ltb a n) (ltb b n) t), ltb→lt b n (and_r (ltb a n) (ltb b n) t))
 
 -- an error that `?` hands on
 pub handed_on : {A : Type 0} (r : Result A Refusal) {e : Refusal} → IsErrAnd r (λ x. x ≡ e) → r ≡ Err e

@@ -53,6 +53,12 @@ unfolding row_to up_to from keep
 row_none {x₀ = x₀} {at = at} room = record { room = room; within = omega arith; wrote = wrote_none _ at }
 
 module _ {ws : List ℕ} {v : ℕ} {x₀ x : List ℕ} {at pos w : ℕ} (r : Row ws v x₀ x at pos w) where
+  pub row_long : length x ≡ length x₀
+  unfolding row_to rows_in
+  row_long =
+      let k = kept_below (edges_in ws v) (64 * w) 1024 (omega (arith, r.within)) in
+      wrote_length (omega (arith, r.room)) r.wrote
+
   pub row_whole : 16 ≤ w → Wrote x₀ x at pos (rows_in ws v)
   unfolding row_to rows_in
   row_whole h = let e : 64 * w ≡ 1024 = omega (arith, r.within) in rw e at r.wrote
@@ -134,6 +140,10 @@ module _ {G : Graph} {n : ℕ} {s₀ x₀ s x : List ℕ} {pos v : ℕ} (l : Lis
 
   start_more : Wrote s₀ (set s v pos) 0 (v + 1) (starts_to G (v + 1))
   start_more = rw (starts_suc, ← place) (wrote_then start_room l.starts (wrote_one _ _ _ (omega (arith, start_here))))
+
+  pub neighbours_long : length x ≡ length x₀
+  unfolding neighbours_from
+  neighbours_long = wrote_length (omega (arith, gather_mono G v n l.within, l.neighbours_room)) l.neighbours
 
   -- the row of node v
   module _ (h : v < n) where

@@ -7,7 +7,7 @@ use native.Mathlib.Omega.{arith}
 use lib.Count.{count_trailing_zeros}
 use lib.ListN.{length, set}
 use Rattle.base_lists.specs.Written.{Wrote}
-use Rattle.base_lists.proofs.Written.{wrote_one, Left, left_all, left_fits, left_more, left_none}
+use Rattle.base_lists.proofs.Written.{wrote_one, Left, left_all, left_length, left_fits, left_more, left_none}
 use Rattle.base_nodeset.specs.NodeSet.{members_from}
 use Rattle.base_nodeset.proofs.Members.{bits_none, Lowest, lowest}
 
@@ -23,6 +23,9 @@ some_none room h = record { parts = left_all room; small = h }
 module _ {base word : ℕ} {x₀ x : List ℕ} {at pos left : ℕ} (s : Some base word x₀ x at pos left) where
   pub some_all : left ≡ 0 → Wrote x₀ x at pos (members_from 64 base word)
   some_all e = left_none (rw (e, bits_none) at s.parts)
+
+  pub some_long : length x ≡ length x₀
+  some_long = left_length s.parts
 
   -- the lowest bit that is left, and then the others
   module _ (p : left ≡ 0 → ⊥) where

@@ -44,13 +44,16 @@ unfolding lines_of
 lines_append line a k l = rw (keep_append, gather_append)
 
 module _ (line : Line) (a : ℕ) (l : List ℕ) (i : ℕ) where
+  pub line_next : i < length l → lines_of line a (drop i l) ≡ lines_of line a (get_or l i 0 ∷ []) ++ lines_of line a (drop (i + 1) l)
+  line_next h = ap (lines_of line a) (drop_next l i h) ∙ lines_append _ _ _ _
+
   -- the next node, b, is larger than a, or it is not
   module _ {b : ℕ} (h : i < length l) (e : b ≡ get_or l i 0) where
     next : lines_of line a (drop i l) ≡ lines_of line a (b ∷ []) ++ lines_of line a (drop (i + 1) l)
-    next = rw e (ap (lines_of line a) (drop_next l i h) ∙ lines_append _ _ _ _)
+    next = rw e (line_next h)
 
-    pub line_next : a < b → lines_of line a (drop i l) ≡ line a b ++ lines_of line a (drop (i + 1) l)
-    line_next k = rw (one_line line a b k) at next
+    pub line_added : a < b → lines_of line a (drop i l) ≡ line a b ++ lines_of line a (drop (i + 1) l)
+    line_added k = rw (one_line line a b k) at next
 
     pub line_passed : b ≤ a → lines_of line a (drop i l) ≡ lines_of line a (drop (i + 1) l)
     line_passed k = rw (no_line line a b k) at next
@@ -84,7 +87,7 @@ unfolding text_as up_to rows_from
 text_is first line n starts neighbours = simp sub-zero
 
 module _ (first line : Line) (n : ℕ) (starts neighbours : List ℕ) where
-  length_text : length (text_as first line n starts neighbours)
+  pub length_text : length (text_as first line n starts neighbours)
       ≡ length (head first n starts) + length (rows_from line n (neighbours_of starts neighbours) 0)
   length_text = ap length (text_is first line n starts neighbours) ∙ length-append (head first n starts) _
 
@@ -96,11 +99,19 @@ pub record RowCounted (line : Line) (a : ℕ) (row : List ℕ) (total i : ℕ) :
   pub few : total ≤ 24 * i
 
 module _ {line : Line} {a : ℕ} {row : List ℕ} {total i : ℕ} (c : RowCounted line a row total i) where
+  pub row_more : {r : ℕ} → i < length row → (r ≡ length (lines_of line a (get_or row i 0 ∷ []))) × (r ≤ 24)
+      → RowCounted line a row (total + r) (i + 1)
+  row_more h e = record {
+    within = omega arith;
+    sum = omega (arith, simp length-append at (ap length (line_next line a row i h)));
+    few = omega arith;
+  }
+
   module _ {b : ℕ} (h : i < length row) (e : b ≡ get_or row i 0) where
-    pub row_more : {r : ℕ} → a < b → (r ≡ length (line a b)) × (r ≤ 24) → RowCounted line a row (total + r) (i + 1)
-    row_more k w = record {
+    pub row_added : {r : ℕ} → a < b → (r ≡ length (line a b)) × (r ≤ 24) → RowCounted line a row (total + r) (i + 1)
+    row_added k w = record {
       within = omega arith;
-      sum = omega (arith, simp length-append at (ap length (line_next line a row i h e k)));
+      sum = omega (arith, simp length-append at (ap length (line_added line a row i h e k)));
       few = omega arith;
     }
 

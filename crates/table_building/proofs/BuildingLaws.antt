@@ -1,24 +1,26 @@
 -- The tables that building leaves, and its refusals.
 -- Assumes nothing.
-use mathlib.Core.Path.{◌≡◌, sym, ap, ap₂, ◌∙◌}
-use mathlib.Core.Bool.{false}
-use mathlib.Core.List.{List}
+use mathlib.Core.Path.{◌≡◌, refl, sym, ap, ap₂, ◌∙◌}
+use mathlib.Core.Bool.{Bool, true, false, not, ◌||◌}
+use mathlib.Core.List.{List, [], ◌∷◌}
 use Prim.Native.Nat.{ℕ, ◌*◌, ◌≤◌, ◌<◌}
-use lib.Dec.{T}
+use borrow.Author.Tests.{ltb-false}
+use lib.Dec.{T, ltb}
 use lib.ListN.{length, take}
 use Rattle.std.specs.Prelude.{Some, Ok}
-use Rattle.model.specs.Answers.{answered}
+use Rattle.model.specs.Answers.{answered, Refusals, ◌when◌, judged}
 use Rattle.model.specs.Basics.{has, over}
-use Rattle.model.specs.Survey.{Graph, neighbours_of, short_starts, Accepted}
-use Rattle.model.specs.Threshold.{in_force}
+use Rattle.model.specs.Survey.{Graph, neighbours_of, bad_size, short_starts, is_survey, Accepted}
+use Rattle.model.specs.Threshold.{in_force, bad_threshold}
 use Rattle.model.specs.Hubs.{hubs}
 use Rattle.model.specs.Tables.{short_tables, full_of, full_table, low_table, report_of, report_table, hub_list}
-use Rattle.model.specs.Building.{AfterBuilding, built, building, build_returned}
+use Rattle.model.specs.Building.{AfterBuilding, built, refuse_build, building, build_returned}
 use Rattle.model.specs.Demand.{BuildRight}
 use Rattle.model.proofs.Covering.{hubs_below}
 use Rattle.model.proofs.Demand.{building_answers, building_right}
 use Rattle.model.proofs.Entries.{of_long_tables}
-use Rattle.model.proofs.Outcomes.{promised}
+use Rattle.model.proofs.Outcomes.{promised, judged_either}
+use Rattle.model.proofs.Tests.{of_or_false}
 use Rattle.survey_neighbours.specs.declared.Survey.{Survey}
 use Rattle.survey_neighbours.specs.SurveyGraph.{graph}
 use Rattle.survey_acceptance.specs.Surveyed.{Surveyed}
@@ -66,6 +68,24 @@ pub kept : {n : ℕ} (t : ℕ) {starts neighbours : List ℕ} (full low report l
 kept {n} t {starts} {neighbours} full low report list e =
     promised (BuildRight n t starts neighbours) (building_right n t starts neighbours full low report list) e
 
+-- a list is too short; given are the lengths
+abbrev pub short : (n starts full low report list : ℕ) → Bool
+short n starts full low report list = short_starts n starts || short_tables n full low report || ltb list n
+
+pub build_short : (n t : ℕ) (starts neighbours full low report list : List ℕ) → bad_size n ≡ false → bad_threshold t ≡ false
+    → short n (length starts) (length full) (length low) (length report) (length list) ≡ true
+    → refuse_build full low report list 8 ≡ building n t starts neighbours full low report list
+unfolding building
+build_short n t starts neighbours full low report list size split h =
+    let refuse = refuse_build full low report list in
+    let A = short_starts n (length starts) in
+    let B = short_tables n (length full) (length low) (length report) in
+    let C = ltb (length list) n in
+    let rest : Refusals = (9 when not (is_survey n starts neighbours)) ∷ [] in
+    let done = built n (in_force n t) (neighbours_of starts neighbours) full low report list in
+    let first : judged refuse ((8 when A || B || C) ∷ rest) done ≡ refuse 8 = rw h refl in
+    rw (size, split) (sym (judged_either refuse 8 A B ((8 when C) ∷ rest) done ∙ judged_either refuse 8 (A || B) C rest done ∙ first))
+
 -- the lists have room for n nodes
 pub record Room (n : ℕ) (starts full low report list : List ℕ) : Type 0 where
   pub starts_long : short_starts n (length starts) ≡ false
@@ -73,6 +93,13 @@ pub record Room (n : ℕ) (starts full low report list : List ℕ) : Type 0 wher
   pub hubs_long : n ≤ length list
 
 module _ {n : ℕ} {starts full low report list : List ℕ} where
+  pub room_of : short n (length starts) (length full) (length low) (length report) (length list) ≡ false
+      → Room n starts full low report list
+  room_of e =
+      let tables = of_or_false _ _ e in
+      let lists = of_or_false _ _ tables.0 in
+      record { starts_long = lists.0; tables_long = lists.1; hubs_long = ltb-false _ _ tables.1 }
+
   pub rooms : Room n starts full low report list
       → (n * n ≤ length full) × (n * n ≤ length low) × (n * n ≤ length report) × (n ≤ length list)
   rooms room =

@@ -55,6 +55,10 @@ module _ {s : ℕ} {G : Graph} {ws : List ℕ} {v : ℕ} (h : HighBelow s G ws v
           rw (low, and-false (ltb x v), and-false (ltb x (v + 1)))
       at x (inr d) = rw (ltb_next x v d)
 
+  -- every node is below n
+  pub high_all : {n : ℕ} → v ≡ n → member ws ≡ (λ x. ltb x n && is_high s G x)
+  high_all e = rw e at h.says
+
 -- the nodes below n that are not high are the low ones
 pub low_set : (n s : ℕ) (G : Graph) {all high low : Nodes} → all ≡ (λ v. ltb v n) → high ≡ (λ v. ltb v n && is_high s G v)
     → low ≡ difference all high → low ≡ (λ v. ltb v n && is_low s G v)

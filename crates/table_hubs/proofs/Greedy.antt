@@ -16,17 +16,17 @@ use lib.ListN.{length, get_or, set, take, drop, replicate, length-replicate, len
 use lib.Seq.{take_at, get_or-set_same, get_or-set_other}
 use Rattle.base_lists.specs.Written.{Wrote}
 use Rattle.base_lists.proofs.Written.{wrote_one, wrote_then, wrote_over, wrote_part, Left, left_all, left_length, left_more, left_none}
-use Rattle.model.specs.Basics.{none, up_to, has, keep, over}
+use Rattle.model.specs.Basics.{none, up_to, has, keep, over, first_of}
 use Rattle.model.specs.Survey.{Graph}
 use Rattle.model.specs.Hubs.{is_high, closed, gain, best, greedy, hubs}
 use Rattle.model.specs.Tables.{hub_list}
 use Rattle.model.proofs.Covering.{best_is, best_of, best_gains, hubs_length}
-use Rattle.model.proofs.Lists.{has_head, of_keep, of_up_to, keep_split, keep_keep, keep_mono}
+use Rattle.model.proofs.Lists.{has_head, of_keep, of_up_to, keep_split, keep_keep, keep_mono, length_pos}
 use Rattle.model.proofs.Loops.{below_next}
 use Rattle.model.proofs.Tests.{eq_or, and_l, and_r, T_true}
 use Rattle.base_nodeset.specs.NodeSet.{Nodes, member, difference}
 use Rattle.table_hubs.specs.Bounds.{Bounded}
-use Rattle.table_hubs.proofs.Sets.{uncovered, gain_few, some_left, none_left, high_kept, covered_kept}
+use Rattle.table_hubs.proofs.Sets.{uncovered, gain_few, some_left, some_by_find, none_by_find, high_kept, covered_kept}
 
 -- ---- the best node
 
@@ -212,9 +212,12 @@ module _ {n s : ℕ} {G : Graph} {list₀ list us : List ℕ} {count : ℕ} (c :
   choosing_part = (omega (arith, counted), omega (arith, choosing_long, c.entries))
 
   -- where there is a smallest member, some node is uncovered
-  choosing_some : {r : Option ℕ} {b : Bool} → r ≡ find (member us) (up_to (64 * length us)) → b ≡ is_some r → b ≡ true
+  pub choosing_some : {r : ℕ} → r ≡ first_of (member us) (64 * length us) (up_to (64 * length us)) → r < n → 0 < length (uncovered n us)
+  choosing_some {r} e h = length_pos r W (some_left _ _ c.long c.size e h)
+
+  choosing_found : {r : Option ℕ} {b : Bool} → r ≡ find (member us) (up_to (64 * length us)) → b ≡ is_some r → b ≡ true
       → 0 < length (uncovered n us)
-  choosing_some e q t = some_left n us c.long c.size c.below e q t
+  choosing_found e q t = some_by_find n us c.long c.size c.below e q t
 
   -- then the best node is written
   module _ (some : 0 < length (uncovered n us)) where
@@ -248,7 +251,7 @@ module _ {n s : ℕ} {G : Graph} {list₀ list us : List ℕ} {count : ℕ} (c :
       {hub : ℕ} (h : hub ≡ best n G (uncovered n us)) where
     pub choosing_hub : ChosenHub n list count hub
     choosing_hub =
-        let some : 0 < length W = choosing_some e q t in
+        let some : 0 < length W = choosing_found e q t in
         record {
           below = omega (arith, h, (best_is n G W (omega (arith, (room some).0))).below);
           fewer = (room some).0;
@@ -259,14 +262,14 @@ module _ {n s : ℕ} {G : Graph} {list₀ list us : List ℕ} {count : ℕ} (c :
         → Choosing n s G list₀ (set list count hub) us' (count + 1)
     choosing_more {us'} l m =
         subst (λ (v : ℕ). Choosing n s G list₀ (set list count v) us' (count + 1)) (sym h)
-        (chosen (choosing_some e q t) us' l (m ∙ ap (λ (v : ℕ). difference (member us) (λ x. has x (closed G v))) h))
+        (chosen (choosing_found e q t) us' l (m ∙ ap (λ (v : ℕ). difference (member us) (λ x. has x (closed G v))) h))
 
   -- where it is not, the hubs are written, and none behind them
   module _ {r : Option ℕ} {b : Bool} (e : r ≡ find (member us) (up_to (64 * length us))) (q : b ≡ is_some r) (f : b ≡ false) where
     whole : Wrote list₀ list 0 count hs
     whole =
         let no_more : greedy n G c.turns W ≡ [] =
-        ap (greedy n G c.turns) (none_left n us c.long c.size c.below e q f) ∙ greedy_none n G c.turns in
+        ap (greedy n G c.turns) (none_by_find n us c.long c.size c.below e q f) ∙ greedy_none n G c.turns in
         left_none (subst (Left list₀ list 0 count hs) no_more c.written)
 
     pub choosing_all : {t : List ℕ} → t ≡ replicate (length (mid_of count (n - count) list)) none

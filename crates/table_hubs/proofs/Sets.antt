@@ -12,11 +12,12 @@ use Rattle.std.specs.List.{find}
 use Rattle.std.proofs.lemmas.List.{nil_from_length}
 use lib.Dec.{T, eqb, ltb}
 use lib.ListN.{length, get_or, drop, replicate, drop_of_length-le}
-use Rattle.model.specs.Basics.{up_to, has, keep}
+use Rattle.model.specs.Basics.{up_to, has, keep, first_of}
 use Rattle.model.specs.Survey.{Graph, IsGraph, Accepted, neighbours_of}
 use Rattle.model.specs.Hubs.{is_high, closed, gain}
 use Rattle.model.proofs.Tests.{and_r, or_turned}
-use Rattle.model.proofs.Lists.{of_cons, of_up_to, keep_same, keep_keep, keep_below, keep_length, length_up_to}
+use Rattle.model.proofs.Lists.{of_cons, has_keep, has_up_to, of_up_to, keep_same, keep_keep, keep_none, keep_below, keep_length, length_up_to}
+use Rattle.model.proofs.Lists.{First, found, nothing, first_below}
 use Rattle.model.proofs.Ascending.{get_d_has}
 use Rattle.model.proofs.Loops.{drop_next}
 use Rattle.base_nodeset.specs.NodeSet.{Nodes, member, empty_set, inserted, intersection, difference}
@@ -105,6 +106,26 @@ covered_newly near us e l = l ∙ rw e (fun_ext (λ x. at (us x) (near x)))
     at true false = refl
     at false b = refl
 
+-- where the smallest member is below n, some node is uncovered; where it is not, none is
+module _ (n : ℕ) (us : List ℕ) (long : length us ≡ 16) (size : n ≤ 1024)
+    {r : ℕ} (e : r ≡ first_of (member us) (64 * length us) (up_to (64 * length us))) where
+  smallest : First (member us) (64 * length us) 0 (64 * length us) r
+  smallest = rw e (first_below (member us) (64 * length us) (64 * length us))
+
+  pub some_left : r < n → T (has r (uncovered n us))
+  some_left h = at smallest
+    where
+      at : First (member us) (64 * length us) 0 (64 * length us) r → T (has r (uncovered n us))
+      at (found lo hi t least) = has_keep (member us) (up_to n) r (has_up_to n r h) t
+      at (nothing q miss) = absurd (omega arith)
+
+  pub none_left : n ≤ r → uncovered n us ≡ []
+  none_left h = keep_none _ _ (λ x m t. at smallest x (of_up_to _ _ m) t)
+    where
+      at : First (member us) (64 * length us) 0 (64 * length us) r → (x : ℕ) → x < n → T (member us x) → ⊥
+      at (found lo hi t least) x l s = least x (omega arith) (omega arith) s
+      at (nothing q miss) x l s = miss x (omega arith) (omega arith) s
+
 -- a test finds an element where it keeps one
 kept_some : (p : ℕ → Bool) (l : List ℕ) → is_some (find p l) ≡ ltb 0 (length (keep p l))
 unfolding keep
@@ -126,11 +147,11 @@ module _ (n : ℕ) (us : List ℕ) (long : length us ≡ 16) (size : n ≤ 1024)
       ∙ ap (λ (m : ℕ). ltb 0 (length (keep (member us) (up_to m)))) k
       ∙ ap (λ (l : List ℕ). ltb 0 (length l)) (keep_below (member us) n 1024 size below)
 
-  pub some_left : {b : Bool} → b ≡ is_some r → b ≡ true → 0 < length (uncovered n us)
-  some_left q t = ltb-true _ _ (sym some_test ∙ sym q ∙ t)
+  pub some_by_find : {b : Bool} → b ≡ is_some r → b ≡ true → 0 < length (uncovered n us)
+  some_by_find q t = ltb-true _ _ (sym some_test ∙ sym q ∙ t)
 
-  pub none_left : {b : Bool} → b ≡ is_some r → b ≡ false → uncovered n us ≡ []
-  none_left q f = nil_from_length _ (omega (arith, ltb-false _ _ (sym some_test ∙ sym q ∙ f)))
+  pub none_by_find : {b : Bool} → b ≡ is_some r → b ≡ false → uncovered n us ≡ []
+  none_by_find q f = nil_from_length _ (omega (arith, ltb-false _ _ (sym some_test ∙ sym q ∙ f)))
 
 -- at first the high nodes are uncovered
 pub high_kept : (n s : ℕ) (G : Graph) {p : Nodes} → p ≡ (λ x. ltb x n && is_high s G x)

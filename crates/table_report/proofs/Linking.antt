@@ -43,15 +43,14 @@ pub record Linking (own row₀ row : List ℕ) (i : ℕ) : Type 0 where
   pub whole : links_set (drop i own) row ≡ links_set own row₀
 
 module _ {own row₀ row : List ℕ} {i : ℕ} (r : Linking own row₀ row i) where
-  module _ (below : (x : ℕ) → T (has x own) → x < length row₀) (h : i < length own) where
-    pub linking_inside : get_or own i 0 < length row
-    linking_inside = omega (arith, r.same, below _ (get_d_has own i h))
+  pub linking_inside : ((x : ℕ) → T (has x own) → x < length row₀) → i < length own → get_or own i 0 < length row
+  linking_inside below h = omega (arith, r.same, below _ (get_d_has own i h))
 
-    pub linking_next : Linking own row₀ (set row (get_or own i 0) 1) (i + 1)
-    linking_next = record {
-      same = length-set row _ 1 ∙ r.same;
-      whole = links_first _ _ row linking_inside ∙ ap (λ (l : List ℕ). links_set l row) (sym (drop_next own i h)) ∙ r.whole;
-    }
+  pub linking_next : i < length own → get_or own i 0 < length row → Linking own row₀ (set row (get_or own i 0) 1) (i + 1)
+  linking_next h inside = record {
+    same = length-set row _ 1 ∙ r.same;
+    whole = links_first _ _ row inside ∙ ap (λ (l : List ℕ). links_set l row) (sym (drop_next own i h)) ∙ r.whole;
+  }
 
   pub linking_done : length own ≤ i → row ≡ links_set own row₀
   linking_done h = sym (links_none row) ∙ ap (λ (l : List ℕ). links_set l row) (sym (drop_of_length-le own h)) ∙ r.whole

@@ -12,6 +12,8 @@ use borrow.Rule.Slice.PartMut.{mid_of}
 use lib.Dec.{T, eqb}
 use lib.ListN.{length, get_or, take, drop, set, length-set}
 use lib.Seq.{take_at, get_or-take, get_or-drop, take-suc, take_all, get_or-set_same, get_or-set_other}
+use Rattle.base_lists.specs.Written.{Wrote}
+use Rattle.base_lists.proofs.Written.{wrote_over, over_whole}
 use Rattle.base_lists.proofs.TableRows.{part_length, row_within, is_row, row_same, table_same}
 use Rattle.model.specs.Basics.{none, up_to, has, over}
 use Rattle.std.specs.Prelude.{if◌then◌else◌}
@@ -67,13 +69,18 @@ pub record RowTo (n : ℕ) (full low hs : List ℕ) (a : ℕ) (row : List ℕ) (
   pub says : row ≡ map (least_to n full low hs a k) (up_to n)
 
 -- before the first hub it is Low's row, copied
-pub row_none : {n : ℕ} {full low hs : List ℕ} {a : ℕ} {row : List ℕ} → n * n ≤ length low → a < n
+pub row_copied : {n : ℕ} {full low hs : List ℕ} {a : ℕ} {row : List ℕ} → n * n ≤ length low → a < n
     → row ≡ mid_of (a * n) (a * n + n - a * n) low → RowTo n full low hs a row 0
-row_none {n} {low = low} {a = a} room h copied = record {
+row_copied {n} {low = low} {a = a} room h copied = record {
   within = omega arith;
   long = ap length copied ∙ part_length n a low h room;
   says = copied ∙ own_row n a low h room;
 }
+
+pub row_none : {n e : ℕ} {full low hs : List ℕ} {a : ℕ} {row₀ row : List ℕ} → n * n ≤ length low → a < n → length row₀ ≡ n
+    → Wrote row₀ row 0 e (mid_of (a * n) (a * n + n - a * n) low) → RowTo n full low hs a row 0
+row_none {n} {low = low} {a = a} room h long w =
+    row_copied room h ((wrote_over _ w).0 ∙ over_whole _ _ (long ∙ sym (part_length n a _ h room)))
 
 -- hub k, and the places of its row of Full and of its entry for a
 pub record HubInside (n : ℕ) (hs : List ℕ) (a k : ℕ) : Type 0 where
@@ -88,11 +95,11 @@ hub_inside {n} {hs} {a} {k} below h i =
 
 module _ {n : ℕ} {full low hs : List ℕ} {a : ℕ} {row : List ℕ} {k : ℕ} (r : RowTo n full low hs a row k) where
   -- hub k's row of Full improves it
-  pub row_next : {row' : List ℕ} → n * n ≤ length full → ((i : ℕ) → get_or low i 0 ≤ none) → k < length hs → HubInside n hs a k
+  pub row_next : {row' : List ℕ} → n * n ≤ length full → ((i : ℕ) → get_or low i 0 ≤ none) → k < length hs → get_or hs k 0 < n
       → row' ≡ relaxed (get_or full (get_or hs k 0 * n + a) 0) (mid_of (get_or hs k 0 * n) (get_or hs k 0 * n + n - get_or hs k 0 * n) full) row
       → RowTo n full low hs a row' (k + 1)
   unfolding via entry_at
-  row_next {row'} room small h inside e =
+  row_next {row'} room small h below e =
       let u = get_or hs k 0 in
       let to = least_to n full low hs a in
       let more : take (k + 1) hs ≡ take k hs ++ u ∷ [] = ap (λ (j : ℕ). take j hs) (add-one k) ∙ take-suc hs k 0 h in
@@ -103,7 +110,7 @@ module _ {n : ℕ} {full low hs : List ℕ} {a : ℕ} {row : List ℕ} {k : ℕ}
       ∙ sym (least_snoc (via n full a b) (entry_at n low a b) u (take k hs))
       ∙ ap (least (via n full a b) (entry_at n low a b)) (sym more) in
       let says : row' ≡ map (to (k + 1)) (up_to n) =
-      e ∙ ap₂ (relaxed (entry_at n full u a)) (own_row n u _ inside.hub_below room) r.says
+      e ∙ ap₂ (relaxed (entry_at n full u a)) (own_row n u _ below room) r.says
       ∙ relaxed_row _ (entry_at n full u) (to k) (up_to n)
       ∙ row_same n _ _ lesser in
       record { within = omega arith; long = ap length says ∙ length_row (to (k + 1)) n; says = says }

@@ -1,14 +1,14 @@
 -- The digits that a text begins with.
 -- Assumes nothing.
 use mathlib.Core.Path.{◌≡◌, refl, sym, ap, ◌∙◌}
-use mathlib.Core.Logic.{⊎_elim}
-use mathlib.Core.Bool.{true, false, not, ◌&&◌}
+use mathlib.Core.Logic.{◌⊎◌, inl, inr, ⊎_elim}
+use mathlib.Core.Bool.{true, false, not, ◌&&◌, and-false}
 use mathlib.Core.List.{List, [], ◌∷◌, ◌++◌}
 use Prim.Native.Nat.{ℕ, zero, suc, ◌+◌, ◌-◌, ◌*◌, ◌^◌, ◌≤◌, ◌<◌}
-use native.Mathlib.Nat.{pow-suc}
+use native.Mathlib.Nat.{pow-suc, pow-le-pow_right, zero-lt-suc, lt_of_lt_of_le}
 use native.Mathlib.Numerals.{add-one}
 use native.Mathlib.Omega.{arith}
-use borrow.Author.Tests.{leb-true}
+use borrow.Author.Tests.{leb-true, lt-leb}
 use lib.Dec.{T, leb, not_T}
 use lib.ListN.{length, get_or, take, drop, drop_of_length-le}
 use Rattle.model.specs.Basics.{all}
@@ -65,6 +65,10 @@ run_split (b ∷ t) =
     run_cases (λ r. b ∷ t ≡ r ++ drop (length r) (b ∷ t)) b t
     (λ d. ap (λ (x : List ℕ). b ∷ x) (run_split t)) (λ d. refl)
 
+pub run_rest : (t : List ℕ) → NoDigit (drop (length (run t)) t)
+run_rest [] = rw run_nil tt
+run_rest (b ∷ t) = run_cases (λ r. NoDigit (drop (length r) (b ∷ t))) b t (λ d. run_rest t) (λ d. d)
+
 -- the digits among the first bytes are the first of the digits
 pub run_take : (k : ℕ) (t : List ℕ) → run (take k t) ≡ take k (run t)
 run_take zero t = run_nil
@@ -76,6 +80,11 @@ run_take (suc k) (b ∷ t) =
     (passes (is_digit b))
 
 -- ---- by places: what a loop over some bytes asks
+
+not_digit : (b : ℕ) → (b < 48) ⊎ (57 < b) → T (not (is_digit b))
+unfolding is_digit
+not_digit b (inl h) = rw (lt-leb 48 b h) tt
+not_digit b (inr h) = rw (lt-leb b 57 h, and-false (leb 48 b)) tt
 
 digit_bounds : (b : ℕ) → is_digit b ≡ true → (48 ≤ b) × (b ≤ 57)
 unfolding is_digit
@@ -115,8 +124,15 @@ module _ {t : List ℕ} {v i : ℕ} (r : Read t v i) where
   unfolding value_from
   all_read e = (ap (value_from v) (sym e) ∙ r.says, omega (arith, r.counts, ap length e))
 
+  pub read_stop_lem : i < length t → (b < 48) ⊎ (57 < b) → (v ≡ value_of (run t)) × (i ≡ length (run t))
+  read_stop_lem h s = all_read (ap run (drop_next t i h) ∙ run_stop b (drop (i + 1) t) (not_digit b s))
+
   pub read_stop : i < length t → is_digit b ≡ false → (v ≡ value_of (run t)) × (i ≡ length (run t))
   read_stop h s = all_read (ap run (drop_next t i h) ∙ run_stop b (drop (i + 1) t) (true_T (not (is_digit b)) (ap not s)))
 
   pub read_end : length t ≤ i → (v ≡ value_of (run t)) × (length t ≡ length (run t))
   read_end h = let a = all_read (ap run (drop_of_length-le t h) ∙ run_nil) in (a.0, omega (arith, r.within, a.1))
+
+  -- ten digits fit 64 bits, and one more does too
+  pub read_small : i ≤ 10 → v < 10 ^ 10
+  read_small h = lt_of_lt_of_le r.small (pow-le-pow_right {n = 10} (zero-lt-suc 9) {i = i} {j = 10} h)

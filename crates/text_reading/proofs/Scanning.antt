@@ -13,7 +13,7 @@ use lib.Dec.{T, ltb, eqb, not_T, T_not, eqb→eq}
 use lib.ListN.{length, get_or, take, drop, length-take, length-drop, take-append-drop, drop_of_length-le}
 use Rattle.model.specs.Basics.{has}
 use Rattle.model.specs.Numbers.{is_number, value_of}
-use Rattle.model.proofs.Lists.{of_single, of_append, none_in}
+use Rattle.model.proofs.Lists.{of_single, of_append, none_in, has_later, has_head}
 use Rattle.model.proofs.Loops.{drop_next}
 use Rattle.model.proofs.Tests.{T_true, true_T, no_false, false_no, eq_T, lt_or}
 use Rattle.model.proofs.Numbers.{number_text, text_number}
@@ -169,9 +169,9 @@ module _ (s : List ℕ) (at : ℕ) {r : List ℕ} {m v k : ℕ} (rest : r ≡ sl
       rw (value ∙ ap value_of whole, long) (sym (of_number at t n))
 
 -- no digit stands past the text
-pub read_past : (s : List ℕ) (at : ℕ) → length s < at → None ≡ number_at s at
+pub read_past : (s : List ℕ) (at : ℕ) → length s ≤ at → None ≡ number_at s at
 unfolding number_at is_number
-read_past s at h = let past : drop at s ≡ [] = let l : length s ≤ at = omega arith in drop_of_length-le s l in rw (past, run_nil)
+read_past s at h = rw (drop_of_length-le s h, run_nil)
 
 -- ---- a word at a place
 
@@ -233,6 +233,14 @@ pub no_feed_left : {s : List ℕ} {at e : ℕ} → LineEnd s at e → length s �
 no_feed_left {s} l h f =
     l.free (subst (λ (r : List ℕ). T (has 10 r))
     (l.is_text ∙ ap (λ (r : List ℕ). l.line ++ r) (drop_of_length-le s h) ∙ append-nil l.line) f)
+
+-- the bytes have a line feed, or none
+module _ (s : List ℕ) {e : ℕ} (l : LineEnd s 0 e) where
+  pub feed_within : e < length s → has 10 s ≡ true
+  feed_within h = ap (has 10) (after_line l h) ∙ T_true _ (has_later 10 l.line (10 ∷ drop (e + 1) s) (has_head 10 (drop (e + 1) s)))
+
+  pub feed_missing : length s ≤ e → has 10 s ≡ false
+  feed_missing h = no_false (has 10 s) (no_feed_left l h)
 
 -- `contains` looks for a byte
 pub contained : (x : ℕ) (xs : List ℕ) → list_any (λ y. nat_eq y x) xs ≡ has x xs

@@ -170,6 +170,10 @@ shifted (suc zero) x y z v h = refl
 shifted (suc (suc zero)) x y z v h = refl
 shifted (suc (suc (suc k))) x y z v h = absurd (omega arith)
 
+pub none_yet : (x y z : ℕ) (o : Option (List ℕ × List ℕ)) → prepended (last_of 0 x y z) o ≡ o
+none_yet x y z missing = refl
+none_yet x y z (some l) = refl
+
 module _ (c count : ℕ) (few : count ≤ 3) (k x y z : ℕ) (t : List ℕ) where
   module _ (h : k < count) where
     left : count - k ≡ suc (count - (k + 1))

@@ -1,23 +1,25 @@
--- The hub of a route, and what writing a walk promises.
+-- The refusal of short lists, the hub of a route, and what writing a walk promises.
 -- Assumes nothing.
-use mathlib.Core.Path.{◌≡◌, sym, ◌∙◌, subst}
-use mathlib.Core.Bool.{false}
-use mathlib.Core.List.{List}
+use mathlib.Core.Path.{◌≡◌, refl, sym, ◌∙◌, subst}
+use mathlib.Core.Bool.{true, false, not, ◌||◌}
+use mathlib.Core.List.{List, [], ◌∷◌}
 use Prim.Native.Nat.{ℕ, ◌<◌}
 use native.Mathlib.Omega.{arith}
 use Rattle.model.specs.declared.Route.TheVariants.{Through}
 use Rattle.model.specs.declared.Answer.{Answer}
 use Rattle.model.specs.declared.Route.{Route}
-use Rattle.model.specs.Answers.{Outcome, answered}
-use Rattle.model.specs.Survey.{neighbours_of}
+use Rattle.model.specs.Answers.{Outcome, answered, Refusals, ◌when◌, judged}
+use Rattle.model.specs.Survey.{neighbours_of, bad_size, short_starts, is_survey}
+use Rattle.model.specs.Threshold.{in_force, bad_threshold}
 use Rattle.model.specs.Graph.{linked}
-use Rattle.model.specs.Tables.{entry_at}
+use Rattle.model.specs.Tables.{entry_at, short_tables}
 use Rattle.model.specs.Pair.{bad_pair, taken, attaining, pair_by, pair}
 use Rattle.model.specs.Walk.{walk_nodes}
-use Rattle.model.specs.Walking.{AfterWalking, walking}
+use Rattle.model.specs.Walking.{AfterWalking, refuse_walk, walk_of, walking}
 use Rattle.model.specs.Demand.{WalkSound, WalkRight}
 use borrow.Author.Tests.{leb-false}
 use lib.Dec.{leb}
+use lib.ListN.{length}
 use Rattle.model.proofs.Tests.{of_or_false}
 use Rattle.survey_neighbours.specs.declared.Survey.{Survey}
 use Rattle.survey_neighbours.specs.SurveyGraph.{graph}
@@ -27,8 +29,21 @@ use Rattle.walk_writing.specs.Ready.{Ready}
 use Rattle.walk_writing.specs.declared.Pair.{Pair}
 use Rattle.walk_writing.specs.Judged.{IsJudged}
 use Rattle.model.proofs.Demand.{walking_sound, walking_right}
-use Rattle.model.proofs.Outcomes.{never, promised}
+use Rattle.model.proofs.Outcomes.{never, promised, judged_either}
 use Rattle.model.proofs.Walks.{Chosen, to_itself, to_none, to_link, to_low, to_hub_lem, bad_itself, bad_hub, chosen, attains}
+
+-- `starts` or a table is too short
+pub walk_short : (n t : ℕ) (starts neighbours full low report : List ℕ) (a b w : ℕ) → bad_size n ≡ false → bad_threshold t ≡ false
+    → (short_starts n (length starts) || short_tables n (length full) (length low) (length report)) ≡ true
+    → walking n t starts neighbours full low report a b w ≡ refuse_walk w 8
+unfolding walking
+walk_short n t starts neighbours full low report a b w size split h =
+    let A = short_starts n (length starts) in
+    let B = short_tables n (length full) (length low) (length report) in
+    let rest : Refusals = (9 when not (is_survey n starts neighbours)) ∷ (10 when bad_pair n a b) ∷ [] in
+    let done = walk_of w n (in_force n t) (neighbours_of starts neighbours) full low a b (pair n full low report a b) in
+    let first : judged (refuse_walk w) ((8 when A || B) ∷ rest) done ≡ refuse_walk w 8 = rw h refl in
+    rw (size, split) (judged_either (refuse_walk w) 8 A B rest done ∙ first)
 
 -- the hub of an answer's route is a node
 pub hub_below : (n : ℕ) (full low report : List ℕ) (a b : ℕ) {x : Answer} {h : ℕ}

@@ -1,10 +1,10 @@
-use Rattle.survey_writing.proofs.LineLaws.{row_more, row_same, row_done}
+use Rattle.survey_writing.proofs.LineLaws.{row_added, row_same, row_done}
 use Rattle.survey_writing.proofs.row_length.Goals.{then-a-b, else-a-b}
 use Rattle.survey_writing.proofs.row_length.Goals as goal
 
 pub loop-b-preserved : goal.loop-b-preserved
 loop-b-preserved g c = elim c.if-a-b.branch [
-  | then-a-b w ↦ rw (w.total-is) (row_more c.loop-b.invariant c.loop-b-test.true c.from-b.ensures w.if-a-b.true w.link_length-total.ensures)
+  | then-a-b w ↦ rw (w.total-is) (row_added c.loop-b.invariant c.loop-b-test.true c.from-b.ensures w.if-a-b.true w.link_length-total.ensures)
   | else-a-b w ↦ rw (w.total-is) (row_same c.loop-b.invariant c.loop-b-test.true c.from-b.ensures w.if-a-b.false)
 ]
 

@@ -6,7 +6,7 @@ use Rattle.text_reading.proofs.parse_number.Goals as goal
 use Rattle.text_reading.proofs.parse_number.Goals.{else-digits-gt1-via-then-digits-gt1+else-has_byte, else-digits-gt1-via-else-digits-gt1}
 
 pub returns-in_err-rest : goal.returns-in_err-rest
-returns-in_err-rest c = c.from_residual.ensures ∙ read_past _ _ (⊎_elim (λ l. l) (λ l. absurd (omega arith)) c.in_err-rest.ensures.lookup.0)
+returns-in_err-rest c = c.from_residual.ensures ∙ read_past _ _ (⊎_elim (λ l. omega arith) (λ l. absurd (omega arith)) c.in_err-rest.ensures.lookup.0)
 
 pub returns-then-digits-eq0 : goal.returns-then-digits-eq0
 returns-then-digits-eq0 c = read_empty _ _ c.in_ok-rest.ensures.lookup.0.2 c.min.ensures c.leading_digits-digits.ensures c.if-digits-eq0.true
