@@ -133,9 +133,7 @@ impl<'a> Lists<'a> {
         let low = &mut *self.low;
         let report = &mut *self.report;
         let hubs = &mut *self.hubs;
-        run_build(
-            rt, &numbers, starts, neighbours, full, low, report, hubs,
-        )
+        run_build(rt, &numbers, starts, neighbours, full, low, report, hubs)
     }
 
     pub fn print(&self, rt: &impl Print, c: Command) -> io::Result<()> {
@@ -162,9 +160,7 @@ impl<'a> Lists<'a> {
         let low = &mut *self.low;
         let report = &mut *self.report;
         let walk = &mut *self.walk;
-        run_walk(
-            rt, c, &numbers, starts, neighbours, full, low, report, walk,
-        )
+        run_walk(rt, c, &numbers, starts, neighbours, full, low, report, walk)
     }
 
     pub fn test(&self, rt: &impl Print) -> io::Result<()> {
